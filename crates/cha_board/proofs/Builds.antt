@@ -1,0 +1,89 @@
+-- What is built is valid.
+use Rattle.std.proofs.Common.{◌≡◌, ℕ, ◌<◌, Bool, true, false, not, ◌&&◌, ◌||◌, if◌then◌else◌, List, length, Option, Some, None, IsTrue, refl, ap}
+use Rattle.cha_board.specs.declared.men.Color.{Color}
+use Rattle.cha_board.specs.declared.men.Color.TheVariants.{White, Black}
+use Rattle.cha_board.specs.declared.men.Man.{Man}
+use Rattle.cha_board.specs.declared.position.Rights.{Rights}
+use Rattle.cha_board.specs.declared.build.BuildFault.TheVariants.{Kings, PawnRank, OpponentInCheck}
+use Rattle.cha_board.specs.Men.{other_color}
+use Rattle.cha_board.specs.Board.{IsValid, has_one_king, has_pawn_at_end, is_pawn_at_end, in_check, are_at_home, rights_fit, target_fits, target_is_good}
+use Rattle.cha_board.specs.Build.{build_fault, kept_rights, kept_target}
+use Rattle.cha_board.proofs.Scans.{any_square_at, no_square}
+
+pub pawn_at : (men : List (Option Man)) (s : ℕ) → s < 64 → is_pawn_at_end men s ≡ true → has_pawn_at_end men ≡ true
+unfolding has_pawn_at_end
+pawn_at men s small h = any_square_at (λ s. is_pawn_at_end men s) s small h
+
+pub pawn_nowhere : (men : List (Option Man)) → ((s : ℕ) → s < 64 → is_pawn_at_end men s ≡ false) → has_pawn_at_end men ≡ false
+unfolding has_pawn_at_end
+pawn_nowhere men none = no_square (λ s. is_pawn_at_end men s) none
+
+-- men and a side that break no rule
+record IsSound (men : List (Option Man)) (side : Color) : Type 0 where
+  white : has_one_king men White ≡ true
+  black : has_one_king men Black ≡ true
+  pawns : has_pawn_at_end men ≡ false
+  opponent : in_check men (other_color side) ≡ false
+
+sound_tests : (w b p o : Bool) → (if not (w && b) then Some Kings else (if p then Some PawnRank else (if o then Some OpponentInCheck else None))) ≡ None
+    → (w ≡ true) × (b ≡ true) × (p ≡ false) × (o ≡ false)
+sound_tests true true false false h = (refl, refl, refl, refl)
+sound_tests true true false true h = cc
+sound_tests true true true o h = cc
+sound_tests true false p o h = cc
+sound_tests false b p o h = cc
+
+sound : (men : List (Option Man)) (side : Color) → build_fault men side ≡ None → IsSound men side
+unfolding build_fault
+sound men side h =
+    let t = sound_tests (has_one_king men White) (has_one_king men Black) (has_pawn_at_end men) (in_check men (other_color side)) h in
+    record { white = t.0; black = t.1; pawns = t.2; opponent = t.3 }
+
+kept_fits : (a b h k : Bool) → ((not (a && h) || h) && (not (b && k) || k)) ≡ true
+kept_fits true true true true = refl
+kept_fits true true true false = refl
+kept_fits true true false true = refl
+kept_fits true true false false = refl
+kept_fits true false true true = refl
+kept_fits true false true false = refl
+kept_fits true false false true = refl
+kept_fits true false false false = refl
+kept_fits false true true true = refl
+kept_fits false true true false = refl
+kept_fits false true false true = refl
+kept_fits false true false false = refl
+kept_fits false false true true = refl
+kept_fits false false true false = refl
+kept_fits false false false true = refl
+kept_fits false false false false = refl
+
+rights_kept_fit : (men : List (Option Man)) (r : Rights) (c : Color) → rights_fit men (kept_rights men r) c ≡ true
+unfolding rights_fit kept_rights
+rights_kept_fit men r White = kept_fits r.white_king r.white_queen (are_at_home men White 7) (are_at_home men White 0)
+rights_kept_fit men r Black = kept_fits r.black_king r.black_queen (are_at_home men Black 63) (are_at_home men Black 56)
+
+kept_if : (men : List (Option Man)) (side : Color) (s : ℕ) (v : Bool) → target_fits men side s ≡ v → target_is_good men side (if v then Some s else None) ≡ true
+kept_if men side s true e = e
+kept_if men side s false e = refl
+
+target_kept_fits : (men : List (Option Man)) (side : Color) (target : Option ℕ) → target_is_good men side (kept_target men side target) ≡ true
+unfolding kept_target
+target_kept_fits men side None = refl
+target_kept_fits men side (Some s) = kept_if men side s (target_fits men side s) refl
+
+one_king_each : (men : List (Option Man)) (side c : Color) → IsSound men side → IsTrue (has_one_king men c)
+one_king_each men side White s = s.white
+one_king_each men side Black s = s.black
+
+pub built_is_valid : (men : List (Option Man)) (side : Color) (rights : Rights) (target : Option ℕ) → length men ≡ 64 → build_fault men side ≡ None
+    → IsValid (record { men = men; side = side; rights = kept_rights men rights; target = kept_target men side target })
+built_is_valid men side rights target size none =
+    let s = sound men side none in
+    record {
+      size = size;
+      kings = λ c. one_king_each men side c s;
+      pawns = ap not s.pawns;
+      opponent = ap not s.opponent;
+      rights = λ c. rights_kept_fit men rights c;
+      target = target_kept_fits men side target;
+    }

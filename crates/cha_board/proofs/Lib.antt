@@ -1,0 +1,4 @@
+pub mod Scans
+pub mod Sightings
+pub mod Kings
+pub mod Builds

@@ -1,0 +1,4 @@
+pub mod Men
+pub mod Squares
+pub mod Board
+pub mod Build

@@ -1,0 +1,5 @@
+pub mod Step
+pub mod Moves
+pub mod Ends
+pub mod Standings
+pub mod Texts

@@ -1,0 +1,10 @@
+//! The moves of chess: which are legal, the position after each, and how a position stands (Laws of Chess, Articles 3 and 5).
+//!
+//! `step` has the move, `ends` how a position stands.
+#![tactic(auto)]
+
+mod ends;
+mod step;
+
+pub use ends::Standing;
+pub use step::Move;

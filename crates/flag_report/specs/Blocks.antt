@@ -1,0 +1,76 @@
+-- The texts that are printed for positions (this project).
+use Rattle.std.specs.Prelude.{ℕ, Bool, ◌&&◌, ◌||◌, if◌then◌else◌, List, [], ◌∷◌, ◌++◌, length, codes, decimal}
+use Rattle.cha_board.specs.Board.{Board}
+use Rattle.cha_fen.specs.declared.faults.FenFault.{FenFault}
+use Rattle.cha_fen.specs.declared.faults.FenFault.TheVariants.{Shape, Kings, PawnRank, OpponentInCheck}
+use Rattle.cha_fen.specs.Written.{fen_text}
+use Rattle.cha_moves.specs.Step.{Move}
+use Rattle.cha_moves.specs.Texts.{move_bytes}
+use Rattle.cha_moves.specs.declared.ends.Standing.{Standing}
+use Rattle.cha_moves.specs.declared.ends.Standing.TheVariants.{Mate, Stalemate, Running}
+use Rattle.cha_moves.specs.Standings.{standing_of}
+use Rattle.flag_report.specs.declared.found.Verdict.{Verdict}
+use Rattle.flag_report.specs.declared.found.Verdict.TheVariants.{Winnable, Unwinnable, Undecided, Skipped}
+use Rattle.flag_report.specs.Verdicts.{is_winnable, is_unwinnable}
+
+-- a line
+abbrev pub line : List ℕ → List ℕ
+line text = text ++ 10 ∷ []
+
+-- the texts of moves, each behind a space
+unfoldable pub moves_text : List Move → List ℕ
+moves_text [] = []
+moves_text (m ∷ ms) = 32 ∷ move_bytes m ++ moves_text ms
+
+-- the text of a line of moves that mates
+unfoldable pub winnable_text : List Move → List ℕ
+winnable_text [] = codes "winnable in 0"
+winnable_text (m ∷ ms) = codes "winnable in " ++ decimal (length (m ∷ ms)) ++ codes ":" ++ moves_text (m ∷ ms)
+
+-- the text of a verdict
+unfoldable pub verdict_text : Verdict → List ℕ
+verdict_text (Winnable moves) = winnable_text moves
+verdict_text Unwinnable = codes "unwinnable"
+verdict_text (Undecided depth) = codes "undecided, depth " ++ decimal depth
+verdict_text Skipped = codes "skipped"
+
+-- neither side can mate
+abbrev pub are_dead : Verdict → Verdict → Bool
+are_dead white black = is_unwinnable white && is_unwinnable black
+
+-- the state of a position that is not at its end
+unfoldable pub open_status_text : Verdict → Verdict → List ℕ
+open_status_text white black =
+    if are_dead white black then codes "dead"
+    else (if is_winnable white || is_winnable black then codes "live" else codes "unclear")
+
+-- the state of a position: the first that fits of checkmate, stalemate, dead, live and unclear
+unfoldable pub status_text : Standing → Verdict → Verdict → List ℕ
+status_text (Mate winner) white black = codes "checkmate"
+status_text Stalemate white black = codes "stalemate"
+status_text Running white black = open_status_text white black
+
+-- the four lines on a position that positions and games share
+unfoldable pub findings_text : Board → Verdict → Verdict → List ℕ
+findings_text q white black =
+    line (codes "fen: " ++ fen_text q) ++ line (codes "white: " ++ verdict_text white) ++ line (codes "black: " ++ verdict_text black)
+    ++ line (codes "status: " ++ status_text (standing_of q) white black)
+
+-- the first line of the block of a position
+unfoldable pub position_heading : ℕ → List ℕ
+position_heading number = line (codes "position " ++ decimal number)
+
+-- the block of a position
+unfoldable pub position_text : ℕ → Board → Verdict → Verdict → List ℕ
+position_text number q white black = position_heading number ++ findings_text q white black
+
+-- the name of a fault of FEN
+unfoldable pub fault_text : FenFault → List ℕ
+fault_text Shape = codes "shape"
+fault_text Kings = codes "kings"
+fault_text PawnRank = codes "pawn rank"
+fault_text OpponentInCheck = codes "opponent in check"
+
+-- the block of a line that is no position
+unfoldable pub refused_text : ℕ → FenFault → List ℕ
+refused_text number fault = position_heading number ++ line (codes "refused: " ++ fault_text fault)

@@ -1,0 +1,24 @@
+-- Kinds of verdicts.
+use Rattle.std.specs.Prelude.{Bool, true, false}
+use Rattle.flag_report.specs.declared.found.Verdict.{Verdict}
+use Rattle.flag_report.specs.declared.found.Verdict.TheVariants.{Winnable, Unwinnable, Undecided, Skipped}
+
+-- the side can mate
+abbrev pub is_winnable : Verdict → Bool
+is_winnable (Winnable moves) = true
+is_winnable _ = false
+
+-- the side cannot mate
+abbrev pub is_unwinnable : Verdict → Bool
+is_unwinnable Unwinnable = true
+is_unwinnable _ = false
+
+-- nothing was shown about the side
+abbrev pub is_undecided : Verdict → Bool
+is_undecided (Undecided depth) = true
+is_undecided _ = false
+
+-- the side was not examined
+abbrev pub is_skipped : Verdict → Bool
+is_skipped Skipped = true
+is_skipped _ = false

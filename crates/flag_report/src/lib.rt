@@ -1,0 +1,16 @@
+//! What the program prints: verdicts, blocks and summaries.
+//!
+//! `found` has what is found about a side, `status` in what state a position is, `pieces` what all blocks share,
+//! `positions` the blocks of positions, `totals` the last line.
+#![tactic(auto)]
+
+mod pieces;
+mod positions;
+mod status;
+mod totals;
+mod found;
+
+pub use positions::{position_block, refused_block};
+pub use status::is_dead;
+pub use totals::{Summary, position_summary};
+pub use found::{Verdict, is_undecided};

@@ -1,0 +1,5 @@
+pub mod Faults
+pub mod Gathering
+pub mod KeptState
+pub mod Reading
+pub mod Writing

@@ -1,0 +1,18 @@
+//! The outside: where bytes come from and where they go.
+//!
+//! `reading` and `writing` have the two traits, the `*_source` and `*_sink` modules what stands for them in memory,
+//! `std_reader` and `std_writer` the adapters to std's readers and writers, and `gathering` the reader of a whole input.
+#![tactic(auto)]
+
+mod bytes_source;
+mod filling;
+mod gathering;
+mod kept_sink;
+mod reading;
+mod writing;
+
+pub use bytes_source::Bytes;
+pub use gathering::{MOST_BYTES, ReadEnd, read_all};
+pub use kept_sink::Kept;
+pub use reading::{Got, Source};
+pub use writing::{Sink, Wrote};

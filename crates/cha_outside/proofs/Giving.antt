@@ -13,4 +13,4 @@ pub gives_front : (left rest into : List ℕ) (n : ℕ) (got : Got) → got ≡ 
     → Gives (Some left) (Some rest) got into
 gives_front left rest into n got is none same after =
     subst (λ r. Gives (Some left) (Some rest) r into) (sym is)
-        (given_front left rest into n none (sym (take-append-drop n left) ∙ ap (λ xs. xs ++ drop n left) (sym same) ∙ ap (λ xs. take n into ++ xs) (sym after)))
+    (given_front left rest into n none (sym (take-append-drop n left) ∙ ap (λ xs. xs ++ drop n left) (sym same) ∙ ap (λ xs. take n into ++ xs) (sym after)))

@@ -1,3 +1,4 @@
+pub mod Adapters
 pub mod Faults
 pub mod Gathering
 pub mod KeptState

@@ -9,10 +9,14 @@ mod filling;
 mod gathering;
 mod kept_sink;
 mod reading;
+mod std_reader;
+mod std_writer;
 mod writing;
 
 pub use bytes_source::Bytes;
 pub use gathering::{MOST_BYTES, ReadEnd, read_all};
 pub use kept_sink::Kept;
 pub use reading::{Got, Source};
+pub use std_reader::ReadFrom;
+pub use std_writer::WriteTo;
 pub use writing::{Sink, Wrote};

@@ -7,4 +7,4 @@ use Rattle.cha_outside.proofs.bytes_source.BytesSource.read.Goals as goal
 pub returns-clause-bytes : goal.returns-clause-bytes
 returns-clause-bytes c =
     gives_front _ _ _ c.copy_front-n.result _ c.got.ensures (λ e. grind (arith, common_steps)) (grind (arith, common_steps))
-        (sym (drop-drop c.copy_front-n.result c.self.inside.at c.self.inside.bytes.items) ∙ ap (λ xs. drop c.copy_front-n.result xs) c.self.view_is)
+    (sym (drop-drop c.copy_front-n.result c.self.inside.at c.self.inside.bytes.items) ∙ ap (λ xs. drop c.copy_front-n.result xs) c.self.view_is)

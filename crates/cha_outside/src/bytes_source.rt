@@ -1,6 +1,6 @@
 //! A list of bytes as a source.
 
-ghost use Rattle.std.specs.Prelude.{◌≡◌, ◌<◌, length, min};
+ghost use Rattle.std.specs.Prelude.{◌≡◌, ◌<◌, length, min, drop};
 ghost use Rattle.std.specs.declared.option.Option.TheVariants.{Some};
 ghost use Rattle.cha_outside.specs.Reading.{GivesWithin, Gives, ReadCause, given};
 
@@ -47,8 +47,9 @@ impl Source for Bytes {
         ensures bytes { Gives (Some self.old) (Some self.new) result into.new }
         ensures cause { ReadCause 0 0 result }
         ensures exact { result ≡ given (min (length into.old) (length self.old)) }
+        ensures after { self.new ≡ drop (length into.old) self.old }
     {
-        let n = copy_front(&self.bytes[self.at..], into);
+        let n = copy_front(&self.bytes[self.at..], into, usize::MAX);
         self.at += n;
         got(n)
     }

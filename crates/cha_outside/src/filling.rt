@@ -6,12 +6,12 @@ ghost use Rattle.cha_outside.specs.Reading.{given};
 
 use crate::reading::Got;
 
-/// Copies as many bytes as both have, and answers how many.
-pub(crate) fn copy_front(from: &[u8], into: &mut [u8]) -> usize
-    ensures count { result ≡ min (length into.old) (length from.now) }
+/// Copies as many bytes as both have, and no more than `most`. It answers how many.
+pub(crate) fn copy_front(from: &[u8], into: &mut [u8], most: usize) -> usize
+    ensures count { result ≡ min most (min (length into.old) (length from.now)) }
     ensures copied { take result into.new ≡ take result from.now }
 {
-    let n = into.len().min(from.len());
+    let n = most.min(into.len().min(from.len()));
     into[..n].copy_from_slice(&from[..n]);
     n
 }

@@ -1,6 +1,6 @@
 //! A whole input in one list.
 
-ghost use Rattle.std.specs.Prelude.{◌≡◌, ◌+◌, ◌<◌, ◌≤◌, ℕ, List, length, IfOk, vec_len};
+ghost use Rattle.std.specs.Prelude.{◌≡◌, ◌+◌, ◌<◌, ◌≤◌, ℕ, List, length, IfOk, IsErr, ◌≢◌, vec_len};
 ghost use Rattle.std.specs.Io.KnownBytes.{Consumes, IsAtEnd};
 ghost use Rattle.cha_outside.specs.Faults.{Rose};
 ghost use Rattle.cha_outside.specs.Gathering.{Took};
@@ -31,6 +31,9 @@ pub fn read_all<S: Source>(alloc: Global, source: &mut S, limit: usize) -> Resul
     ensures too_long { result ≡ Err ReadEnd.TooLong → Took (S.left source.old) (S.left source.new) (λ taken. (limit < length taken) × (length taken ≤ limit + 4096)) }
     ensures no_memory { result ≡ Err ReadEnd.NoMemory → Took (S.left source.old) (S.left source.new) (λ taken. length taken ≤ limit + 4096) }
     ensures cause { result ≡ Err ReadEnd.ReadFault → Rose (S.faults source.old) (S.faults source.new) }
+    ensures whole { (bytes : List ℕ) → S.left source.old ≡ Some bytes → IfOk result (λ v. v.items ≡ bytes) }
+    ensures over_limit { (bytes : List ℕ) → S.left source.old ≡ Some bytes → limit < length bytes → IsErr result }
+    ensures within_limit { (bytes : List ℕ) → S.left source.old ≡ Some bytes → length bytes ≤ limit → result ≢ Err ReadEnd.TooLong }
     ensures later { S.faults source.old ≤ S.faults source.new }
 {
     let mut taken = Vec::new(alloc);

@@ -1,0 +1,42 @@
+//! std's readers as sources.
+
+ghost use Rattle.std.specs.Prelude.{◌≡◌, ◌<◌, length};
+ghost use Rattle.cha_outside.specs.Adapters.{reader_of, read_faults};
+
+use crate::reading::{Got, Source};
+use std::io::Read;
+
+/// A source over a reader of std. Each error of the reader is a fault; what is left is told where the reader tells it,
+/// as it does not for a file or a terminal.
+#[derive(Drop)]
+pub struct ReadFrom<R> {
+    reader: R,
+    faults: u64,
+}
+
+impl<R: Read> ReadFrom<R> {
+    /// A source over this reader, with no fault so far.
+    pub fn new(reader: R) -> ReadFrom<R>
+        ensures reader { reader_of result ≡ reader }
+        ensures faults { read_faults result ≡ 0 }
+    {
+        ReadFrom { reader, faults: 0 }
+    }
+}
+
+impl<R: Read> Source for ReadFrom<R> {
+    ghost left = { λ s. R.remaining (reader_of s) };
+
+    ghost faults = { λ s. read_faults s };
+
+    fn read(&mut self, into: &mut [u8]) -> Got {
+        match self.reader.read(into) {
+            Ok(0) => Got::End,
+            Ok(n) => Got::Bytes(n),
+            Err(_) => {
+                self.faults = self.faults.saturating_add(1);
+                Got::Failed
+            }
+        }
+    }
+}

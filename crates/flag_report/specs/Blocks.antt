@@ -1,5 +1,5 @@
 -- The texts that are printed for positions (this project).
-use Rattle.std.specs.Prelude.{ℕ, Bool, ◌&&◌, ◌||◌, if◌then◌else◌, List, [], ◌∷◌, ◌++◌, length, codes, decimal}
+use Rattle.std.specs.Prelude.{ℕ, Bool, false, ◌&&◌, ◌||◌, if◌then◌else◌, List, [], ◌∷◌, ◌++◌, length, codes, decimal}
 use Rattle.cha_board.specs.Board.{Board}
 use Rattle.cha_fen.specs.declared.faults.FenFault.{FenFault}
 use Rattle.cha_fen.specs.declared.faults.FenFault.TheVariants.{Shape, Kings, PawnRank, OpponentInCheck}
@@ -8,7 +8,7 @@ use Rattle.cha_moves.specs.Step.{Move}
 use Rattle.cha_moves.specs.Texts.{move_bytes}
 use Rattle.cha_moves.specs.declared.ends.Standing.{Standing}
 use Rattle.cha_moves.specs.declared.ends.Standing.TheVariants.{Mate, Stalemate, Running}
-use Rattle.cha_moves.specs.Standings.{standing_of}
+use Rattle.flag_report.specs.Ends.{standing_of}
 use Rattle.flag_report.specs.declared.found.Verdict.{Verdict}
 use Rattle.flag_report.specs.declared.found.Verdict.TheVariants.{Winnable, Unwinnable, Undecided, Skipped}
 use Rattle.flag_report.specs.Verdicts.{is_winnable, is_unwinnable}
@@ -49,6 +49,15 @@ unfoldable pub status_text : Standing → Verdict → Verdict → List ℕ
 status_text (Mate winner) white black = codes "checkmate"
 status_text Stalemate white black = codes "stalemate"
 status_text Running white black = open_status_text white black
+
+-- the state of a position is `dead`
+abbrev pub is_dead_standing : Standing → Verdict → Verdict → Bool
+is_dead_standing (Mate winner) white black = false
+is_dead_standing Stalemate white black = false
+is_dead_standing Running white black = are_dead white black
+
+unfoldable pub has_dead_status : Board → Verdict → Verdict → Bool
+has_dead_status q white black = is_dead_standing (standing_of q) white black
 
 -- the four lines on a position that positions and games share
 unfoldable pub findings_text : Board → Verdict → Verdict → List ℕ

@@ -1,3 +1,4 @@
+pub mod Ends
 pub mod Verdicts
 pub mod Blocks
 pub mod Totals

@@ -11,6 +11,6 @@ mod totals;
 mod found;
 
 pub use positions::{position_block, refused_block};
-pub use status::is_dead;
+pub use status::{has_dead_state, is_dead};
 pub use totals::{Summary, position_summary};
-pub use found::{Verdict, is_undecided};
+pub use found::{Verdict, is_undecided, is_unwinnable, is_winnable};

@@ -1,15 +1,14 @@
 //! The texts that the blocks of positions and of games share.
 
-ghost use Rattle.std.specs.Prelude.{◌≡◌, ◌++◌, OnOk, decimal, codes};
-ghost use Rattle.flag_report.specs.Blocks.{moves_text, winnable_text, verdict_text, open_status_text, status_text, findings_text, fault_text, line};
-ghost use Rattle.cha_moves.specs.Standings.{standing_of};
+ghost use Rattle.std.specs.Prelude.{◌≡◌, ◌++◌, OnOk, decimal};
+ghost use Rattle.flag_report.specs.Blocks.{moves_text, winnable_text, verdict_text, findings_text, fault_text};
 
-use crate::found::{Verdict, is_winnable};
-use crate::status::is_dead;
+use crate::found::Verdict;
+use crate::status::{put_status, standing};
 use cha_board::Position;
-use cha_fen::FenFault;
+use cha_fen::{FenFault, write};
 use cha_list::{NoMemory, Text};
-use cha_moves::{Move, Moves, Standing, move_text, state};
+use cha_moves::{Move, move_text};
 use std::alloc::Global;
 
 /// Appends a number in decimal digits.
@@ -59,5 +58,40 @@ fn put_verdict(alloc: Global, verdict: &Verdict, text: &mut Text) -> Result<(), 
             put_number(alloc, u64::from(*depth), text)
         }
         Verdict::Skipped => text.append(b"skipped"),
+    }
+}
+
+/// Appends the four lines on a position that the blocks of positions and of games share.
+#[tactic(auto, unfolding(crate::specs::Blocks::findings_text))]
+pub fn put_findings(
+    alloc: Global,
+    position: &Position,
+    white: &Verdict,
+    black: &Verdict,
+    text: &mut Text,
+) -> Result<(), NoMemory>
+    ensures { OnOk result (text.new ≡ text.old ++ findings_text position.now white.now black.now) }
+{
+    text.append(b"fen: ")?;
+    text.append(write(alloc, position)?.items())?;
+    text.append(b"\nwhite: ")?;
+    put_verdict(alloc, white, text)?;
+    text.append(b"\nblack: ")?;
+    put_verdict(alloc, black, text)?;
+    text.append(b"\nstatus: ")?;
+    put_status(standing(position), white, black, text)?;
+    text.append(b"\n")
+}
+
+/// Appends the name of a fault of FEN.
+#[tactic(auto, unfolding(crate::specs::Blocks::fault_text))]
+pub fn put_fault(fault: FenFault, text: &mut Text) -> Result<(), NoMemory>
+    ensures { OnOk result (text.new ≡ text.old ++ fault_text fault) }
+{
+    match fault {
+        FenFault::Shape => text.append(b"shape"),
+        FenFault::Kings => text.append(b"kings"),
+        FenFault::PawnRank => text.append(b"pawn rank"),
+        FenFault::OpponentInCheck => text.append(b"opponent in check"),
     }
 }

@@ -1,0 +1,5 @@
+pub mod Words
+pub mod Lines
+pub mod Outcomes
+pub mod Report
+pub mod Runs

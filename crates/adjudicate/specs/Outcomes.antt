@@ -1,0 +1,111 @@
+-- The items of an input, and what is found about each.
+use Rattle.std.specs.Prelude.{◌≡◌, ℕ, ◌+◌, Bool, true, false, not, ◌||◌, if◌then◌else◌, List, [], ◌∷◌, ◌++◌, length, map, filter, Option, Some, None, Result, Ok, Err, nat_lt, count_by, ⊤}
+use Rattle.std.specs.List.{list_all}
+use Rattle.cha_list.specs.declared.classes.Class.TheVariants.{Blank}
+use Rattle.cha_list.specs.Bytes.{in_class}
+use Rattle.cha_board.specs.declared.men.Color.TheVariants.{White}
+use Rattle.cha_board.specs.Board.{Board}
+use Rattle.cha_fen.specs.declared.faults.FenFault.{FenFault}
+use Rattle.cha_fen.specs.declared.faults.FenFault.TheVariants.{Shape}
+use Rattle.cha_fen.specs.Fen.{fen}
+use Rattle.flag_report.specs.declared.totals.Summary.{Summary}
+use Rattle.flag_report.specs.Verdicts.{is_undecided}
+use Rattle.flag_report.specs.Blocks.{are_dead, has_dead_status, position_text, refused_text}
+use Rattle.flag_report.specs.Totals.{position_summary_text}
+use Rattle.cha_decide.specs.declared.decided.Decision.{Decision}
+use Rattle.cha_decide.specs.Sound.{IsSound}
+use Rattle.adjudicate.specs.declared.orders.Order.{Order}
+use Rattle.adjudicate.specs.declared.orders.Order.TheVariants.{JudgePositions}
+use Rattle.adjudicate.specs.Lines.{lines}
+
+-- an item of an input: a line that is a position, or a line that is none
+pub data Item : Type 0 where
+  PositionLine : Board → Item
+  RefusedLine : FenFault → Item
+
+-- the most bytes that a line may have
+abbrev pub most_line_bytes : ℕ
+most_line_bytes = 4096
+
+abbrev pub line_read : Result Board FenFault → Item
+line_read (Ok q) = PositionLine q
+line_read (Err fault) = RefusedLine fault
+
+-- the item of a line that is not blank
+unfoldable pub line_item : List ℕ → Item
+line_item text = if nat_lt most_line_bytes (length text) then RefusedLine Shape else line_read (fen text)
+
+-- a line counts where it has a byte other than a space and a tab
+unfoldable pub counts : List ℕ → Bool
+counts text = not (list_all (in_class Blank) text)
+
+-- the items of an input, in order
+unfoldable pub items_of : Order → List ℕ → List Item
+items_of JudgePositions bytes = map line_item (filter counts (lines bytes))
+
+-- an item, and the verdicts on its position if it has one
+pub record Outcome : Type 0 where
+  pub item : Item
+  pub decision : Option Decision
+
+-- The verdicts are true of the item's position, and there are none where it has no position.
+abbrev pub IsSoundFor : Item → Option Decision → Type 0
+IsSoundFor (PositionLine q) (Some d) = IsSound q White d
+IsSoundFor (PositionLine q) None = ⊥
+IsSoundFor (RefusedLine fault) (Some d) = ⊥
+IsSoundFor (RefusedLine fault) None = ⊤
+
+abbrev pub IsSoundOutcome : Outcome → Type 0
+IsSoundOutcome o = IsSoundFor o.item o.decision
+
+-- each outcome is sound
+abbrev pub AllSound : List Outcome → Type 0
+AllSound [] = ⊤
+AllSound (o ∷ os) = IsSoundOutcome o × AllSound os
+
+-- the block of an item under a number
+unfoldable pub block_of : ℕ → Item → Option Decision → List ℕ
+block_of number (PositionLine q) (Some d) = position_text number q d.white d.black
+block_of number (PositionLine q) None = []
+block_of number (RefusedLine fault) d = refused_text number fault
+
+abbrev pub block : ℕ → Outcome → List ℕ
+block number o = block_of number o.item o.decision
+
+-- the blocks of outcomes, numbered from here on
+unfoldable pub blocks : ℕ → List Outcome → List ℕ
+blocks number [] = []
+blocks number (o ∷ os) = block number o ++ blocks (number + 1) os
+
+-- an item that is unreadable or refused
+unfoldable pub is_bad : Outcome → Bool
+is_bad o = is_bad_item o.item
+  where
+    abbrev is_bad_item : Item → Bool
+    is_bad_item (PositionLine q) = false
+    is_bad_item (RefusedLine fault) = true
+
+-- a position whose state is dead
+unfoldable pub is_third : Outcome → Bool
+is_third o = third_of o.item o.decision
+  where
+    abbrev third_of : Item → Option Decision → Bool
+    third_of (PositionLine q) (Some d) = has_dead_status q d.white d.black
+    third_of (PositionLine q) None = false
+    third_of (RefusedLine fault) d = false
+
+-- an item with a side of which nothing was shown
+unfoldable pub is_open : Outcome → Bool
+is_open o = open_of o.decision
+  where
+    abbrev open_of : Option Decision → Bool
+    open_of None = false
+    open_of (Some d) = is_undecided d.white || is_undecided d.black
+
+-- what is counted over outcomes
+abbrev pub summary_of : List Outcome → Summary
+summary_of os = record { items = length os; bad = count_by is_bad os; third = count_by is_third os; undecided = count_by is_open os }
+
+-- the last line
+abbrev pub summary_text : Order → Summary → List ℕ
+summary_text JudgePositions s = position_summary_text s

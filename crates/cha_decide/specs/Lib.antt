@@ -1,0 +1,2 @@
+pub mod MateLines
+pub mod Sound

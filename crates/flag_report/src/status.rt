@@ -1,0 +1,67 @@
+//! In what state a position is.
+
+ghost use Rattle.std.specs.Prelude.{◌≡◌, ◌++◌, OnOk};
+ghost use Rattle.flag_report.specs.Blocks.{are_dead, open_status_text, has_dead_status, status_text};
+ghost use Rattle.flag_report.specs.Ends.{standing_of};
+
+use crate::found::{Verdict, is_unwinnable, is_winnable};
+use cha_board::Position;
+use cha_list::{NoMemory, Text};
+use cha_moves::{Standing, state};
+
+/// How a position stands, as a value that its legal moves and its check determine.
+pub fn standing(position: &Position) -> Standing
+    ensures { result ≡ standing_of position.now }
+{
+    state(position)
+}
+
+/// Whether neither side can mate.
+pub fn is_dead(white: &Verdict, black: &Verdict) -> bool
+    ensures { result ≡ are_dead white.now black.now }
+{
+    is_unwinnable(white) && is_unwinnable(black)
+}
+
+/// Whether the state of a position is `dead`: the game goes on, and neither side can mate.
+#[tactic(auto, unfolding(crate::specs::Blocks::has_dead_status))]
+pub fn has_dead_state(position: &Position, white: &Verdict, black: &Verdict) -> bool
+    ensures { result ≡ has_dead_status position.now white.now black.now }
+{
+    match standing(position) {
+        Standing::Mate(_) => false,
+        Standing::Stalemate => false,
+        Standing::Running => is_dead(white, black),
+    }
+}
+
+/// Appends the state of a position in which the game goes on.
+#[tactic(auto, unfolding(crate::specs::Blocks::open_status_text))]
+fn put_open_status(white: &Verdict, black: &Verdict, text: &mut Text) -> Result<(), NoMemory>
+    ensures { OnOk result (text.new ≡ text.old ++ open_status_text white.now black.now) }
+{
+    if is_dead(white, black) {
+        return text.append(b"dead");
+    }
+    if is_winnable(white) || is_winnable(black) {
+        return text.append(b"live");
+    }
+    text.append(b"unclear")
+}
+
+/// Appends the state of a position.
+#[tactic(auto, unfolding(crate::specs::Blocks::status_text))]
+pub fn put_status(
+    standing: Standing,
+    white: &Verdict,
+    black: &Verdict,
+    text: &mut Text,
+) -> Result<(), NoMemory>
+    ensures { OnOk result (text.new ≡ text.old ++ status_text standing white.now black.now) }
+{
+    match standing {
+        Standing::Mate(_) => text.append(b"checkmate"),
+        Standing::Stalemate => text.append(b"stalemate"),
+        Standing::Running => put_open_status(white, black, text),
+    }
+}

@@ -1,5 +1,7 @@
+pub mod Statuses
 pub mod Words
 pub mod Lines
 pub mod Outcomes
 pub mod Report
 pub mod Runs
+pub mod Steps

@@ -16,3 +16,9 @@ lines [] = []
 lines (b ∷ bs) =
     if (b == 13) && begins_with_line_feed bs then lines bs
     else (if b == 10 then [] ∷ lines bs else onto_first b (lines bs))
+
+-- a line without one carriage return at its end
+unfoldable pub without_return : List ℕ → List ℕ
+without_return [] = []
+without_return (b ∷ []) = if b == 13 then [] else b ∷ []
+without_return (b ∷ c ∷ bs) = b ∷ without_return (c ∷ bs)

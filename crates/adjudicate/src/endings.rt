@@ -1,0 +1,37 @@
+//! How a run ends.
+
+ghost use Rattle.std.specs.Prelude.{◌≡◌};
+ghost use Rattle.adjudicate.specs.Statuses.{number_of};
+
+/// How a run ended.
+#[derive(Clone, Copy, Debug, PartialEq, Eq)]
+pub enum Status {
+    /// The input was read to its end, and all output was written.
+    Done,
+    /// The words are not in the language. Nothing was read or written.
+    Usage,
+    /// The source failed.
+    ReadFault,
+    /// The sink failed.
+    WriteFault,
+    /// The source gave more than 268,435,456 bytes.
+    TooLong,
+    /// The allocator refused memory.
+    NoMemory,
+}
+
+impl Status {
+    /// The exit status of the program.
+    pub fn number(self) -> u8
+        ensures { result ≡ number_of self }
+    {
+        match self {
+            Status::Done => 0,
+            Status::Usage => 1,
+            Status::ReadFault => 2,
+            Status::WriteFault => 3,
+            Status::TooLong => 4,
+            Status::NoMemory => 5,
+        }
+    }
+}

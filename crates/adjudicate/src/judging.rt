@@ -1,0 +1,84 @@
+//! What is found about one item of the input.
+
+ghost use Rattle.std.specs.Prelude.{◌≡◌, IfOk};
+ghost use Rattle.adjudicate.specs.Outcomes.{line_item};
+ghost use Rattle.adjudicate.specs.Outcomes.Item.{PositionLine, RefusedLine};
+ghost use Rattle.adjudicate.specs.Steps.{Judges, HasRoom, counted_as};
+
+use cha_board::{Color, Position};
+use cha_decide::decide;
+use cha_fen::{FenFault, read};
+use cha_list::{NoMemory, Text};
+use flag_report::{
+    Summary, has_dead_state, is_undecided, position_block, refused_block,
+};
+use std::alloc::Global;
+
+/// The block of an item, and what it adds to the last line.
+#[derive(Drop)]
+pub struct Judged {
+    pub block: Text,
+    pub totals: Summary,
+}
+
+/// The most bytes that a line may have.
+const MOST_LINE_BYTES: usize = 4096;
+
+/// Judges a line that is not blank.
+pub fn judge_line(alloc: Global, line: &[u8], totals: &Summary) -> Result<Judged, NoMemory>
+    requires { HasRoom totals.now }
+    ensures { IfOk result (Judges (line_item line.now) totals.now) }
+{
+    if line.len() > MOST_LINE_BYTES {
+        return refuse(alloc, FenFault::Shape, totals);
+    }
+    match read(line) {
+        Ok(position) => judge_position(alloc, &position, totals),
+        Err(fault) => refuse(alloc, fault, totals),
+    }
+}
+
+/// Judges a position.
+fn judge_position(
+    alloc: Global,
+    position: &Position,
+    totals: &Summary,
+) -> Result<Judged, NoMemory>
+    requires { HasRoom totals.now }
+    ensures { IfOk result (Judges (PositionLine position.now) totals.now) }
+{
+    let decision = decide(alloc, position, Color::White)?;
+    let white = &decision.white;
+    let black = &decision.black;
+    let block = position_block(alloc, totals.items + 1, position, white, black)?;
+    let dead = has_dead_state(position, white, black);
+    let open = is_undecided(white) || is_undecided(black);
+    Ok(Judged {
+        block,
+        totals: with_one(totals, false, dead, open),
+    })
+}
+
+/// Refuses a line that is no position.
+fn refuse(alloc: Global, fault: FenFault, totals: &Summary) -> Result<Judged, NoMemory>
+    requires { HasRoom totals.now }
+    ensures { IfOk result (Judges (RefusedLine fault) totals.now) }
+{
+    Ok(Judged {
+        block: refused_block(alloc, totals.items + 1, fault)?,
+        totals: with_one(totals, true, false, false),
+    })
+}
+
+/// The totals with one more item, which is bad, counted third or open.
+fn with_one(totals: &Summary, bad: bool, third: bool, open: bool) -> Summary
+    requires { HasRoom totals.now }
+    ensures { result ≡ counted_as totals.now bad third open }
+{
+    Summary {
+        items: totals.items + 1,
+        bad: totals.bad + u64::from(bad),
+        third: totals.third + u64::from(third),
+        undecided: totals.undecided + u64::from(open),
+    }
+}

@@ -1,0 +1,77 @@
+//! The one call that the program makes.
+
+ghost use Rattle.std.specs.Prelude.{◌≡◌, ◌≤◌, ◌<◌, ◌↔◌, ◌⊎◌, ℕ, List, length, IsSome, IsNone, Some};
+ghost use Rattle.std.specs.Io.KnownBytes.{Consumes};
+ghost use Rattle.cha_outside.specs.Faults.{Rose};
+ghost use Rattle.cha_outside.specs.Gathering.{Took};
+ghost use Rattle.adjudicate.specs.Words.{order};
+ghost use Rattle.adjudicate.specs.Runs.{Reports, Begins, BeginsWhole};
+ghost use Rattle.adjudicate.specs.declared.orders.Order.{Order as Orders};
+
+use crate::endings::Status;
+use crate::gates::Gate;
+use crate::orders::{Order, ordered};
+use crate::positions::judge_positions;
+use crate::writing::Reported;
+use cha_outside::{MOST_BYTES, ReadEnd, Sink, Source, read_all};
+use std::alloc::Global;
+use std::process::{Threads, Wait};
+
+/// Does what the words order: reads the source to its end, and writes the report of what it gave to the sink. The words
+/// leave out the program's name.
+///
+/// Where a source or a sink tells nothing of its bytes, as a file or a terminal, the clauses on bytes say nothing of them,
+/// and those on causes remain.
+pub fn run<R: Threads + Wait + Sync, S: Source, K: Sink, G: Gate + Sync>(
+    _rt: &R,
+    alloc: Global,
+    words: &[String],
+    source: &mut S,
+    sink: &mut K,
+    _gate: &G,
+) -> Status
+    // The whole input was read, and its report was written.
+    ensures done { result ≡ Status.Done → (o : Orders) → order words.now ≡ Some o → Reports o (S.left source.old) (S.left source.new) (K.written sink.old) (K.written sink.new) }
+
+    // The words are not in the language, and nothing was read or written.
+    ensures usage { (result ≡ Status.Usage) ↔ IsNone (order words.now) }
+    ensures untouched { result ≡ Status.Usage → (source.new ≡ source.old) × (sink.new ≡ sink.old) }
+
+    // The source failed; whole blocks were written.
+    ensures read_fault { result ≡ Status.ReadFault → Rose (S.faults source.old) (S.faults source.new) }
+    ensures read_begun { result ≡ Status.ReadFault → (o : Orders) → order words.now ≡ Some o → BeginsWhole o (S.left source.old) (S.left source.new) (K.written sink.old) (K.written sink.new) }
+
+    // The sink failed; what it took is the front of a report.
+    ensures write_fault { result ≡ Status.WriteFault → Rose (K.faults sink.old) (K.faults sink.new) }
+    ensures write_begun { result ≡ Status.WriteFault → (o : Orders) → order words.now ≡ Some o → Begins o (S.left source.old) (S.left source.new) (K.written sink.old) (K.written sink.new) }
+
+    // The source gave too many bytes; whole blocks were written.
+    ensures too_long { result ≡ Status.TooLong → Took (S.left source.old) (S.left source.new) (λ taken. MOST_BYTES < length taken) }
+    ensures too_long_told { (bytes : List ℕ) → S.left source.old ≡ Some bytes → MOST_BYTES < length bytes → IsSome (order words.now) → (result ≡ Status.TooLong) ⊎ ((result ≡ Status.ReadFault) ⊎ (result ≡ Status.NoMemory)) }
+    ensures too_long_begun { result ≡ Status.TooLong → (o : Orders) → order words.now ≡ Some o → BeginsWhole o (S.left source.old) (S.left source.new) (K.written sink.old) (K.written sink.new) }
+
+    // Want of memory; whole blocks were written.
+    ensures memory_begun { result ≡ Status.NoMemory → (o : Orders) → order words.now ≡ Some o → BeginsWhole o (S.left source.old) (S.left source.new) (K.written sink.old) (K.written sink.new) }
+
+    // Counts of faults never fall.
+    ensures source_later { S.faults source.old ≤ S.faults source.new }
+    ensures sink_later { K.faults sink.old ≤ K.faults sink.new }
+{
+    let Some(order) = ordered(words) else {
+        return Status::Usage;
+    };
+    let bytes = match read_all(alloc, source, MOST_BYTES) {
+        Ok(bytes) => bytes,
+        Err(ReadEnd::ReadFault) => return Status::ReadFault,
+        Err(ReadEnd::TooLong) => return Status::TooLong,
+        Err(ReadEnd::NoMemory) => return Status::NoMemory,
+    };
+    let reported = match order {
+        Order::JudgePositions => judge_positions(alloc, bytes.as_slice(), sink),
+    };
+    match reported {
+        Reported::Whole => Status::Done,
+        Reported::SinkFailed => Status::WriteFault,
+        Reported::NoMemory => Status::NoMemory,
+    }
+}

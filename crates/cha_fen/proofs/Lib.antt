@@ -1,0 +1,5 @@
+pub mod Splitting
+pub mod Addings
+pub mod Writing
+pub mod RoundTrip
+pub mod WrittenRead

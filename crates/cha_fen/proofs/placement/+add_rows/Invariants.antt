@@ -1,0 +1,4 @@
+use Rattle.cha_fen.proofs.placement.+add_rows.Given as goal
+
+abbrev pub decreases-add_rows : goal.decreases-add_rows
+decreases-add_rows l = l.count

@@ -1,0 +1,5 @@
+pub mod Fields
+pub mod Placement
+pub mod Fen
+pub mod Adding
+pub mod Written

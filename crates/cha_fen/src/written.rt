@@ -1,0 +1,145 @@
+//! The text of a position.
+
+ghost use Rattle.std.specs.Prelude.{◌≡◌, ◌≤◌, ◌++◌, Ok, length, IfOk, OnOk};
+ghost use Rattle.cha_board.specs.Board.{Board, IsValid};
+ghost use Rattle.cha_fen.specs.Fen.{fen};
+ghost use Rattle.cha_fen.specs.Written.{letter_of, run_text, row_text_after, ranks_text, side_text, letter_if, rights_text, target_text, fen_text};
+
+use cha_board::{Color, Kind, Man, Position, Rights, Square};
+use cha_list::{NoMemory, Text};
+use std::alloc::Global;
+
+/// The letter of a man.
+#[tactic(auto, unfolding(crate::specs::Written::letter_of))]
+fn letter(man: Man) -> u8
+    ensures { result ≡ letter_of man }
+{
+    let upper = match man.kind {
+        Kind::Pawn => b'P',
+        Kind::Knight => b'N',
+        Kind::Bishop => b'B',
+        Kind::Rook => b'R',
+        Kind::Queen => b'Q',
+        Kind::King => b'K',
+    };
+    match man.color {
+        Color::White => upper,
+        Color::Black => upper + 32,
+    }
+}
+
+/// Writes the digit of a run of empty squares.
+fn put_run(count: u8, text: &mut Text) -> Result<(), NoMemory>
+    requires { count ≤ 8 }
+    ensures { OnOk result (text.new ≡ text.old ++ run_text count) }
+{
+    if count != 0 {
+        text.push(count + b'0')?;
+    }
+    Ok(())
+}
+
+/// Writes a row.
+#[tactic(auto, unfolding(crate::specs::Written::row_text_after))]
+fn put_row(men: &[Option<Man>], text: &mut Text) -> Result<(), NoMemory>
+    requires { length men.now ≤ 8 }
+    ensures { OnOk result (text.new ≡ text.old ++ row_text_after 0 men.now) }
+{
+    let mut empty = 0u8;
+    for man in men {
+        match man {
+            None => empty += 1,
+            Some(man) => {
+                put_run(empty, text)?;
+                text.push(letter(*man))?;
+                empty = 0;
+            }
+        }
+    }
+    put_run(empty, text)
+}
+
+/// Writes the ranks, the highest first.
+fn put_ranks(men: &[Option<Man>; 64], text: &mut Text) -> Result<(), NoMemory>
+    ensures { OnOk result (text.new ≡ text.old ++ ranks_text 8 men.now) }
+{
+    let mut rank = 8;
+    while rank > 0 {
+        rank -= 1;
+        put_row(&men[8 * rank..8 * rank + 8], text)?;
+        if rank > 0 {
+            text.push(b'/')?;
+        }
+    }
+    Ok(())
+}
+
+/// Writes the side to move.
+fn put_side(side: Color, text: &mut Text) -> Result<(), NoMemory>
+    ensures { OnOk result (text.new ≡ text.old ++ side_text side) }
+{
+    match side {
+        Color::White => text.push(b'w')?,
+        Color::Black => text.push(b'b')?,
+    }
+    Ok(())
+}
+
+/// Writes a letter where it is wanted.
+fn put_if(wanted: bool, letter: u8, text: &mut Text) -> Result<(), NoMemory>
+    ensures { OnOk result (text.new ≡ text.old ++ letter_if wanted letter) }
+{
+    if wanted {
+        text.push(letter)?;
+    }
+    Ok(())
+}
+
+/// Writes the rights.
+#[tactic(auto, unfolding(crate::specs::Written::rights_text))]
+fn put_rights(rights: Rights, text: &mut Text) -> Result<(), NoMemory>
+    ensures { OnOk result (text.new ≡ text.old ++ rights_text rights) }
+{
+    if !(rights.white_king || rights.white_queen || rights.black_king || rights.black_queen) {
+        text.push(b'-')?;
+        return Ok(());
+    }
+    put_if(rights.white_king, b'K', text)?;
+    put_if(rights.white_queen, b'Q', text)?;
+    put_if(rights.black_king, b'k', text)?;
+    put_if(rights.black_queen, b'q', text)
+}
+
+/// Writes the target.
+#[tactic(auto, unfolding(crate::specs::Written::target_text))]
+fn put_target(target: Option<Square>, text: &mut Text) -> Result<(), NoMemory>
+    ensures { OnOk result (text.new ≡ text.old ++ target_text target) }
+{
+    match target {
+        None => text.push(b'-')?,
+        Some(at) => {
+            text.push(at.file() + b'a')?;
+            text.push(at.rank() + b'1')?;
+        }
+    }
+    Ok(())
+}
+
+/// The text of a position in FEN, of four fields with a space between them (PGN standard, 16.1; that the clocks are left
+/// out: this project). It is read as the same position.
+///
+/// A pawn on e2 between two kings on e1 and e8, with White to move, is `4k3/8/8/8/8/8/4P3/4K3 w - -`.
+#[tactic(auto, unfolding(crate::specs::Written::fen_text))]
+pub fn write(alloc: Global, position: &Position) -> Result<Text, NoMemory>
+    ensures text { IfOk result (λ text. text ≡ fen_text position.now) }
+{
+    let mut text = Text::new(alloc);
+    put_ranks(position.men(), &mut text)?;
+    text.push(b' ')?;
+    put_side(position.side(), &mut text)?;
+    text.push(b' ')?;
+    put_rights(position.rights(), &mut text)?;
+    text.push(b' ')?;
+    put_target(position.target(), &mut text)?;
+    Ok(text)
+}

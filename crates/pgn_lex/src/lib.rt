@@ -1,0 +1,17 @@
+//! The tokens of a text of chess games in PGN, of any bytes whatever.
+//!
+//! `kinds` has the tokens, `reading` goes from piece to piece, `rules` is the table of what a piece may begin with, and
+//! `pieces`, `comments`, `words`, `tags` and `tag_values` have one function for each rule.
+#![tactic(auto)]
+
+mod comments;
+mod kinds;
+mod pieces;
+mod reading;
+mod rules;
+mod tag_values;
+mod tags;
+mod words;
+
+pub use kinds::{Placed, Token};
+pub use reading::tokens_of;

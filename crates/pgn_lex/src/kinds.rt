@@ -2,13 +2,13 @@
 
 use cha_list::Text;
 
-/// What a piece of a PGN text says. White space, comments, annotations, move numbers and the judgements `!` and `?`
-/// that stand alone say nothing, and have no token.
+/// What a piece of a PGN text says. White space, comments, annotations as `$5`, move numbers, and judgements as `!?` that
+/// stand alone have no token.
 #[derive(Drop)]
 pub enum Token {
-    /// A tag pair, as `[White "Carlsen"]` (PGN standard, 8.1): its name of at least one byte, of which the first 255 are
-    /// kept; its value with `\"` and `\\` replaced, of which the first 4,096 bytes are kept; and whether the value had
-    /// more than these.
+    /// A tag pair, as `[White "Carlsen"]` (PGN standard, 8.1). The name has at least one byte, and the first 255 are kept.
+    /// In the value `\"` stands for `"` and `\\` for `\`; the first 4,096 bytes that result are kept, and `cut` says that
+    /// there were more.
     Tag { name: Text, value: Text, cut: bool },
     /// A bracket that begins no tag pair on its line. It stands for the rest of the line.
     BadTag,

@@ -34,7 +34,7 @@ fn place(token: Option<Token>, offset: u64, out: &mut Vec<Placed>) -> Result<(),
     }
 }
 
-/// The tokens of a text of games, whatever its bytes are, in order (PGN standard, 3 to 8).
+/// The tokens of a text of games, in order, whatever its bytes are (PGN standard, 5 to 8).
 ///
 /// The bytes EF BB BF at the front are skipped. `1. e4 {best} e5!? *` gives the words `e4` at 3 and `e5!?` at 13, and
 /// the star at 18. The only error is want of memory. The time grows as the length of the text.

@@ -20,7 +20,8 @@ fn white(byte: u8) -> bool
     (9 <= byte && byte <= 13) || byte == b' ' || byte == b'.'
 }
 
-/// The piece that begins with a byte, by the first rule that fits. `first` says that the byte is the first of its line.
+/// The piece that begins with a byte, by the first rule that fits. `first` says that the byte is the first of its
+/// line.
 #[tactic(auto, unfolding(crate::specs::Tokens::piece))]
 pub fn piece_at(alloc: Global, first: bool, byte: u8, rest: &[u8]) -> Result<Piece, NoMemory>
     ensures value { IfOk result (λ found. found ≡ piece first byte rest.now) }

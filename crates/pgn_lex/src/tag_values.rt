@@ -10,8 +10,8 @@ use std::alloc::Global;
 /// How many bytes of a value are kept.
 const KEPT: usize = 4096;
 
-/// A value that was read to its closing quote: the bytes that are kept of it, whether it had more, and how many bytes of
-/// the input it takes with its quote.
+/// A value that was read to its closing quote: the bytes that are kept of it, whether it had more, and how many bytes
+/// of the input it takes, with its quote.
 #[derive(Drop)]
 pub struct Value {
     pub text: Text,
@@ -32,7 +32,8 @@ pub enum Step {
 
 /// Keeps a byte, if there is room.
 fn keep(byte: u8, text: &mut Text, cut: &mut bool) -> Result<(), NoMemory>
-    ensures { OnOk result ((front : List ℕ) → Keeps text.old cut.old front → Keeps text.new cut.new (front ++ byte ∷ [])) }
+    ensures { OnOk result ((front : List ℕ) → Keeps text.old cut.old front
+        → Keeps text.new cut.new (front ++ byte ∷ [])) }
 {
     if text.items().len() < KEPT {
         text.push(byte)?;

@@ -42,7 +42,8 @@ fn after_byte(wanted: u8, bytes: &[u8]) -> Option<&[u8]>
 /// A name in front, and what follows it.
 #[tactic(auto, unfolding(crate::specs::Tags::name_at))]
 fn name_of(bytes: &[u8]) -> Option<(&[u8], &[u8])>
-    ensures some { IfSome result (λ found. name_at bytes.now ≡ Some (record { text = found.0.now; rest = found.1.now })) }
+    ensures some { IfSome result (λ found.
+        name_at bytes.now ≡ Some (record { text = found.0.now; rest = found.1.now })) }
     ensures none { IfNone result (name_at bytes.now ≡ None) }
     ensures bound { IfSome result (λ found. length found.1.now ≤ length bytes.now) }
 {

@@ -1,4 +1,4 @@
-use Rattle.std.proofs.Common.{◌∙◌, sym, ap, length}
+use Rattle.std.proofs.Common.{ap, length}
 use Rattle.pgn_lex.proofs.Keeping.{keeps_more, keeps_no_more}
 use Rattle.pgn_lex.proofs.tag_values.keep.Goals as goal
 

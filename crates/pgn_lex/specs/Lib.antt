@@ -1,0 +1,4 @@
+pub mod Pieces
+pub mod Tags
+pub mod Tokens
+pub mod Values

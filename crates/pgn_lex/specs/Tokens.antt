@@ -1,0 +1,49 @@
+-- The tokens of a text of games.
+use Rattle.std.specs.Prelude.{ℕ, zero, suc, ◌+◌, ◌==◌, Bool, true, false, not, ◌&&◌, if◌then◌else◌, List, [], ◌∷◌, ◌++◌, drop, Option, Some, None}
+use Rattle.cha_list.specs.declared.classes.Class.TheVariants.{InLine, WordByte}
+use Rattle.cha_list.specs.Bytes.{in_class}
+use Rattle.pgn_lex.specs.declared.kinds.Token.{Token}
+use Rattle.pgn_lex.specs.declared.kinds.Token.TheVariants.{Star, Enter, Leave, Bad}
+use Rattle.pgn_lex.specs.declared.kinds.Placed.{Placed}
+use Rattle.pgn_lex.specs.declared.pieces.Piece.{Piece}
+use Rattle.pgn_lex.specs.Pieces.{silent_piece, spoken_piece, is_white, line_piece, comment_piece, annotation_piece, word_piece}
+use Rattle.pgn_lex.specs.Tags.{tag_piece}
+
+-- The piece that begins with a byte, by the first rule that fits (PGN standard, 5 to 8). It depends on that byte, the
+-- bytes after it, and whether the byte is the first of its line.
+unfoldable pub piece : Bool → ℕ → List ℕ → Piece
+piece first b bs =
+    if first && (b == 37) then line_piece bs
+    else (if is_white b then silent_piece 0
+    else (if b == 59 then line_piece bs
+    else (if b == 123 then comment_piece bs
+    else (if b == 91 then tag_piece bs
+    else (if b == 40 then spoken_piece Enter 0
+    else (if b == 41 then spoken_piece Leave 0
+    else (if b == 42 then spoken_piece Star 0
+    else (if b == 36 then annotation_piece bs
+    else (if in_class WordByte b then word_piece b bs
+    else spoken_piece Bad 0)))))))))
+
+-- the token at a place, if there is one
+abbrev pub placed : ℕ → Option Token → List Placed
+placed at None = []
+placed at (Some token) = record { token = token; offset = at } ∷ []
+
+-- The tokens of bytes that begin at a place of the input. So many of them are passed first, which belong to a piece that
+-- was taken; then each piece gives its token, and its other bytes are passed. A byte is the first of its line where the
+-- byte before it ends a line.
+unfoldable pub tokens_after : ℕ → ℕ → Bool → List ℕ → List Placed
+tokens_after pass at first [] = []
+tokens_after (suc pass) at first (b ∷ bs) = tokens_after pass (at + 1) (not (in_class InLine b)) bs
+tokens_after zero at first (b ∷ bs) =
+    placed at (piece first b bs).token ++ tokens_after (piece first b bs).more (at + 1) (not (in_class InLine b)) bs
+
+-- the bytes EF BB BF at the front, with which some programs mark UTF-8
+unfoldable pub has_mark : List ℕ → Bool
+has_mark (a ∷ b ∷ c ∷ bs) = (a == 239) && (b == 187) && (c == 191)
+has_mark _ = false
+
+-- the tokens of a whole text
+unfoldable pub tokens : List ℕ → List Placed
+tokens bytes = if has_mark bytes then tokens_after 0 3 true (drop 3 bytes) else tokens_after 0 0 true bytes

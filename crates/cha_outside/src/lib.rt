@@ -24,3 +24,6 @@ pub use repeat_source::Repeat;
 pub use std_reader::ReadFrom;
 pub use std_writer::WriteTo;
 pub use writing::{Sink, Wrote};
+
+#[cfg(test)]
+mod tests;

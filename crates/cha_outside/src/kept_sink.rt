@@ -5,7 +5,7 @@ ghost use Rattle.std.specs.declared.option.Option.TheVariants.{Some};
 ghost use Rattle.cha_outside.specs.Writing.{TakesBelow, Takes, WriteCause};
 ghost use Rattle.cha_outside.specs.KeptState.{kept_answer, kept_after};
 
-use crate::filling::is_among;
+use crate::failing::is_among;
 use crate::writing::{Sink, Wrote};
 use cha_list::NoMemory;
 use std::alloc::Global;

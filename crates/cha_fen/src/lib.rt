@@ -13,4 +13,4 @@ mod written;
 
 pub use faults::FenFault;
 pub use reader::read;
-pub use written::write;
+pub use written::{write, written_is_read};

@@ -9,6 +9,8 @@ mod faults;
 mod fields;
 mod placement;
 mod reader;
+#[cfg(test)]
+mod tests;
 mod written;
 
 pub use faults::FenFault;

@@ -1,6 +1,6 @@
 -- The position after a legal move is valid.
 use Rattle.std.proofs.Common.{◌≡◌, ◌≢◌, ℕ, ◌+◌, ◌-◌, ◌*◌, ◌/◌, ◌%◌, ◌<◌, ◌≤◌, ◌==◌, Bool, true, false, not, ◌&&◌, ◌||◌, List, length, Option, Some, None, slice_set, ◌⊎◌, inl, inr, refl, sym, ◌∙◌, ap, subst, arith}
-use Rattle.std.proofs.lemmas.Bool.{and_parts, and_from, or_cases, or_parts, both_ways, eqb-true, eqb-false, eq-eqb, not-true, cases_eq, cases_Bool, false_from_ne_true, or_left, or_right}
+use Rattle.std.proofs.lemmas.Bool.{and_parts, and_from, or_cases, or_parts, both_ways, eqb-true, eqb-false, eq-eqb, not-true, ne_eqb, cases_eq, cases_Bool, false_from_ne_true, or_left, or_right}
 use Rattle.std.specs.Int.{abs_diff}
 use Rattle.cha_board.specs.declared.men.Color.{Color}
 use Rattle.cha_board.specs.declared.men.Color.TheVariants.{White, Black}
@@ -262,3 +262,212 @@ no_second q m man new c step e pawn rank =
     let as_pawn = pawn_arrives q m man new step e (same_kind_equal new.kind Pawn k.1) in
     let side : q.side ≡ c = sym (same_color_equal man.color q.side step.may.own) ∙ is.0 ∙ same_color_equal new.color c k.0 in
     second_unreached q.side m.from m.to step.from (mover_goes q m man step as_pawn.0) (mover_inside q m man step as_pawn.0) (rank ∙ ap second_rank (sym side))
+
+-- a square that a move neither leaves nor enters
+abbrev pub NotTouched : Move → ℕ → Type 0
+NotTouched m s = (m.from ≢ s) × (m.to ≢ s)
+
+pub not_touched : (m : Move) (s : ℕ) → not (touches m s) ≡ true → NotTouched m s
+not_touched m s h =
+    let both = or_parts (m.from == s) (m.to == s) (not-true (touches m s) h) in
+    (eqb-false m.from s both.0, eqb-false m.to s both.1)
+
+-- a right that is left was there before, and the move has touched neither its king's home nor its rook's
+pub short_after : (r : Rights) (m : Move) (c : Color) → has_short_right (rights_after r m) c ≡ true → (has_short_right r c ≡ true) × NotTouched m (home_of c) × NotTouched m (home_of c + 3)
+unfolding rights_after
+short_after r m White h =
+    let x = and_parts (r.white_king && not (touches m 4)) (not (touches m 7)) h in
+    let y = and_parts r.white_king (not (touches m 4)) x.0 in
+    (y.0, not_touched m 4 y.1, not_touched m 7 x.1)
+short_after r m Black h =
+    let x = and_parts (r.black_king && not (touches m 60)) (not (touches m 63)) h in
+    let y = and_parts r.black_king (not (touches m 60)) x.0 in
+    (y.0, not_touched m 60 y.1, not_touched m 63 x.1)
+
+pub long_after : (r : Rights) (m : Move) (c : Color) → has_long_right (rights_after r m) c ≡ true → (has_long_right r c ≡ true) × NotTouched m (home_of c) × NotTouched m (home_of c - 4)
+unfolding rights_after
+long_after r m White h =
+    let x = and_parts (r.white_queen && not (touches m 4)) (not (touches m 0)) h in
+    let y = and_parts r.white_queen (not (touches m 4)) x.0 in
+    (y.0, not_touched m 4 y.1, not_touched m 0 x.1)
+long_after r m Black h =
+    let x = and_parts (r.black_queen && not (touches m 60)) (not (touches m 56)) h in
+    let y = and_parts r.black_queen (not (touches m 60)) x.0 in
+    (y.0, not_touched m 60 y.1, not_touched m 56 x.1)
+
+-- none of the squares that the rooks of c leave or enter in a castling
+abbrev pub Away : Color → ℕ → Type 0
+Away c u = (u ≢ home_of c + 3) × (u ≢ home_of c + 1) × (u ≢ home_of c - 4) × (u ≢ home_of c - 1)
+
+-- the homes of one side are away from the castlings of the other
+pub homes_away : (c d : Color) → home_of c ≢ home_of d → Away d (home_of c) × Away d (home_of c + 3) × Away d (home_of c - 4)
+homes_away White White ne = absurd (ne refl)
+homes_away White Black ne = ((omega arith, omega arith, omega arith, omega arith), (omega arith, omega arith, omega arith, omega arith), (omega arith, omega arith, omega arith, omega arith))
+homes_away Black White ne = ((omega arith, omega arith, omega arith, omega arith), (omega arith, omega arith, omega arith, omega arith), (omega arith, omega arith, omega arith, omega arith))
+homes_away Black Black ne = absurd (ne refl)
+
+aside : (q : Board) (m : Move) (i j : ℕ) → Castling q m i j → (u : ℕ) → Away q.side u → (u ≢ i) × (u ≢ j)
+aside q m i j castling u away = elim castling.place [
+  | inl x ↦ (λ e. away.0 (e ∙ x.0), λ e. away.1 (e ∙ x.1))
+  | inr x ↦ (λ e. away.2 (e ∙ x.0), λ e. away.3 (e ∙ x.1))
+]
+
+castling_keeps : (q : Board) (m : Move) (i j u : ℕ) → Castling q m i j → u ≢ m.from → u ≢ m.to → (m.from ≡ home_of q.side → Away q.side u) → man_at (men_after q m) u ≡ man_at q.men u
+castling_keeps q m i j u castling from to away =
+    let others = aside q m i j castling u (away castling.from_home) in
+    ap (λ (xs : List (Option Man)). man_at xs u) castling.men ∙ moved_other (men_moved q m) i j (rook_of q.side) u others.0 others.1 ∙ moved_other q.men m.from m.to (arriving (man_at q.men m.from) m.promotion) u from to
+
+-- a man other than a pawn stays where the move touches nothing
+pub stays_there : (q : Board) (m : Move) (man : Man) → Step q m man → (c : Color) (k : Kind) (u : ℕ) → is_man c k (man_at q.men u) ≡ true → same_kind k Pawn ≡ false
+    → u ≢ m.from → u ≢ m.to → (m.from ≡ home_of q.side → Away q.side u) → man_at (men_after q m) u ≡ man_at q.men u
+stays_there q m man step c k u here other from to away =
+    let stayed = moved_other q.men m.from m.to (arriving (man_at q.men m.from) m.promotion) u from to in
+    elim (makes q m) [
+      | Plainly a b d e ↦ ap (λ (xs : List (Option Man)). man_at xs u) e ∙ stayed
+      | Passing t e ↦ (
+          let v = victim_of q.side m.to in
+          let victim = victim_of_move q m man step t in
+          let ne : u ≢ v = λ f. (
+              let no_pawn = one_kind c (other_color q.side) k Pawn (man_at q.men u) other here in
+              both_ways (is_man (other_color q.side) Pawn (man_at q.men v)) (ap (λ s. is_man (other_color q.side) Pawn (man_at q.men s)) (sym f) ∙ no_pawn) victim.pawn) in
+          ap (λ (xs : List (Option Man)). man_at xs u) e ∙ put_other (men_moved q m) v None u ne ∙ stayed)
+      | Shortly t e ↦ castling_keeps q m _ _ u (short_castling q m step.valid t e) from to away
+      | Longly t e ↦ castling_keeps q m _ _ u (long_castling q m step.valid t e) from to away
+    ]
+
+-- a king and a rook at home stay there where their right is left
+homes_kept : (q : Board) (m : Move) (man : Man) → Step q m man → (c : Color) (r : ℕ) → is_man c King (man_at q.men (home_of c)) ≡ true → is_man c Rook (man_at q.men r) ≡ true
+    → NotTouched m (home_of c) → NotTouched m r → (home_of c ≢ home_of q.side → Away q.side (home_of c) × Away q.side r) → are_at_home (men_after q m) c r ≡ true
+unfolding are_at_home
+homes_kept q m man step c r king rook not_home not_rook away =
+    let apart = λ (e : m.from ≡ home_of q.side). away (λ f. not_home.0 (e ∙ sym f)) in
+    let h = stays_there q m man step c King (home_of c) king refl (λ e. not_home.0 (sym e)) (λ e. not_home.1 (sym e)) (λ e. (apart e).0) in
+    let k = stays_there q m man step c Rook r rook refl (λ e. not_rook.0 (sym e)) (λ e. not_rook.1 (sym e)) (λ e. (apart e).1) in
+    and_from (is_man c King (man_at (men_after q m) (home_of c))) (is_man c Rook (man_at (men_after q m) r)) (ap (is_man c King) h ∙ king) (ap (is_man c Rook) k ∙ rook)
+
+-- the rights that are left fit the men
+pub rights_kept : (q : Board) (m : Move) (man : Man) → Step q m man → (c : Color) → rights_fit (men_after q m) (rights_after q.rights m) c ≡ true
+unfolding rights_fit
+rights_kept q m man step c =
+    let left = rights_after q.rights m in
+    and_from (not (has_short_right left c) || are_at_home (men_after q m) c (home_of c + 3)) (not (has_long_right left c) || are_at_home (men_after q m) c (home_of c - 4))
+    (if_from (has_short_right left c) (are_at_home (men_after q m) c (home_of c + 3)) (λ h. (
+        let x = short_after q.rights m c h in
+        let homes = short_homes q c step.valid x.0 in
+        homes_kept q m man step c (home_of c + 3) homes.0 homes.1 x.1 x.2 (λ ne. (let far = homes_away c q.side ne in (far.0, far.1))))))
+    (if_from (has_long_right left c) (are_at_home (men_after q m) c (home_of c - 4)) (λ h. (
+        let x = long_after q.rights m c h in
+        let homes = long_homes q c step.valid x.0 in
+        homes_kept q m man step c (home_of c - 4) homes.0 homes.1 x.1 x.2 (λ ne. (let far = homes_away c q.side ne in (far.0, far.2))))))
+
+-- a double step moves one man
+pub double_plain : (q : Board) (m : Move) → is_man q.side Pawn (man_at q.men m.from) ≡ true → is_double_step q m.from m.to ≡ true → men_after q m ≡ men_moved q m
+unfolding is_double_step is_en_passant
+double_plain q m pawn double =
+    let o = man_at q.men m.from in
+    let none : is_man q.side King o ≡ false = one_kind q.side q.side Pawn King o refl pawn in
+    let straight = (all_five (files_apart m.from m.to == 0) (rank_of m.from == second_rank q.side) (rank_of m.to == fourth_rank q.side) (is_empty q.men (middle m.from m.to)) (is_empty q.men m.to) double).0 in
+    elim (makes q m) [
+      | Plainly a b c e ↦ e
+      | Passing t e ↦ (
+          let passes = and_parts (is_man q.side Pawn o) (aims_at q.side Pawn m.from m.to && is_target q.target m.to) t in
+          let aims = pawn_ahead q.side m.from m.to (and_parts (aims_at q.side Pawn m.from m.to) (is_target q.target m.to) passes.1).0 in
+          let zero = eqb-true (files_apart m.from m.to) 0 straight in
+          let one = aims.1 in
+          absurd (omega (arith, zero, one)))
+      | Shortly t e ↦ absurd (both_ways (is_man q.side King o) none (and_parts (is_man q.side King o) (is_short_castling q m.from m.to) t).0)
+      | Longly t e ↦ absurd (both_ways (is_man q.side King o) none (and_parts (is_man q.side King o) (is_long_castling q m.from m.to) t).0)
+    ]
+
+-- a double step passes over the square between, which is one step ahead
+pub record Over (c : Color) (s t : ℕ) : Type 0 where
+  pub victim : victim_of (other_color c) (middle s t) ≡ t
+  pub file : files_apart s (middle s t) ≡ 0
+  pub ahead : is_rank_ahead c s (middle s t) ≡ true
+  pub not_last : (rank_of (middle s t) == last_rank c) ≡ false
+  pub small : middle s t < 64
+
+pub over_it : (c : Color) (s t : ℕ) → s < 64 → t < 64 → s % 8 ≡ t % 8 → rank_of s ≡ second_rank c → rank_of t ≡ fourth_rank c → Over c s t
+unfolding files_apart is_rank_ahead
+over_it White s t small small' file begins ends = record {
+  victim = omega arith;
+  file = omega arith;
+  ahead = eq-eqb (rank_of (middle s t)) (rank_of s + 1) (omega arith);
+  not_last = ne_eqb (rank_of (middle s t)) 7 (omega arith);
+  small = omega arith;
+}
+over_it Black s t small small' file begins ends = record {
+  victim = omega arith;
+  file = omega arith;
+  ahead = eq-eqb (rank_of s) (rank_of (middle s t) + 1) (omega arith);
+  not_last = ne_eqb (rank_of (middle s t)) 0 (omega arith);
+  small = omega arith;
+}
+
+-- a pawn that has made a double step leaves a target that fits
+target_set : (c : Color) (men : List (Option Man)) (s t : ℕ) → s < 64 → t < 64 → s % 8 ≡ t % 8 → rank_of s ≡ second_rank c → rank_of t ≡ fourth_rank c
+    → is_empty men s ≡ true → is_empty men (middle s t) ≡ true → is_man c Pawn (man_at men t) ≡ true → target_fits men (other_color c) (middle s t) ≡ true
+unfolding target_fits
+target_set White men s t small small' file begins ends gone free pawn =
+    let mid = middle s t in
+    let front : mid + 8 ≡ t = omega arith in
+    let behind : mid - 8 ≡ s = omega arith in
+    let rank = eq-eqb (rank_of mid) 2 (omega arith) in
+    and_from _ (is_man White Pawn (man_at men (mid + 8))) (and_from _ (is_empty men (mid - 8)) (and_from (rank_of mid == 2) (is_empty men mid) rank free) (ap (is_empty men) behind ∙ gone)) (ap (λ u. is_man White Pawn (man_at men u)) front ∙ pawn)
+target_set Black men s t small small' file begins ends gone free pawn =
+    let mid = middle s t in
+    let front : mid - 8 ≡ t = omega arith in
+    let behind : mid + 8 ≡ s = omega arith in
+    let rank = eq-eqb (rank_of mid) 5 (omega arith) in
+    and_from _ (is_man Black Pawn (man_at men (mid - 8))) (and_from _ (is_empty men (mid + 8)) (and_from (rank_of mid == 5) (is_empty men mid) rank free) (ap (is_empty men) behind ∙ gone)) (ap (λ u. is_man Black Pawn (man_at men u)) front ∙ pawn)
+
+mid_apart : (c : Color) (s t : ℕ) → s < 64 → t < 64 → s % 8 ≡ t % 8 → rank_of s ≡ second_rank c → rank_of t ≡ fourth_rank c → (middle s t ≢ s) × (middle s t ≢ t)
+mid_apart White s t small small' file begins ends = (omega arith, omega arith)
+mid_apart Black s t small small' file begins ends = (omega arith, omega arith)
+
+double_target : (q : Board) (m : Move) (man : Man) → Step q m man → is_man q.side Pawn (man_at q.men m.from) ≡ true → is_double_step q m.from m.to ≡ true → target_fits (men_after q m) (other_color q.side) (middle m.from m.to) ≡ true
+double_target q m man step pawn double =
+    let d = double_step q m.from m.to double in
+    let mid = middle m.from m.to in
+    let a = arriving (man_at q.men m.from) m.promotion in
+    let size = step.valid.size in
+    let in_to : m.to < length q.men = omega (arith, step.to, size) in
+    let in_from : m.from < length q.men = omega (arith, step.from, size) in
+    let over = over_it q.side m.from m.to step.from step.to d.file d.begins d.ends in
+    let unpromoted_here : m.promotion ≡ None = (elim (promoted q.side man.kind m.to m.promotion step.may.well) [
+      | inl x ↦ absurd (fourth_not_last q.side (sym d.ends ∙ x.1))
+      | inr x ↦ x.0
+    ]) in
+    let there : a ≡ man_at q.men m.from = ap (arriving (man_at q.men m.from)) unpromoted_here in
+    let gone : is_empty (men_moved q m) m.from ≡ true = ap is_vacant (moved_from q.men m.from m.to a in_from (from_to q m man step.may)) in
+    let free : is_empty (men_moved q m) mid ≡ true = ap is_vacant (moved_other q.men m.from m.to a mid (mid_apart q.side m.from m.to step.from step.to d.file d.begins d.ends).0 (mid_apart q.side m.from m.to step.from step.to d.file d.begins d.ends).1) ∙ d.free in
+    let arrived : is_man q.side Pawn (man_at (men_moved q m) m.to) ≡ true = ap (is_man q.side Pawn) (moved_to q.men m.from m.to a in_to ∙ there) ∙ pawn in
+    ap (λ (xs : List (Option Man)). target_fits xs (other_color q.side) mid) (double_plain q m pawn double)
+    ∙ target_set q.side (men_moved q m) m.from m.to step.from step.to d.file d.begins d.ends gone free arrived
+
+-- the target that a move leaves fits the men
+pub target_kept : (q : Board) (m : Move) (man : Man) → Step q m man → target_is_good (men_after q m) (other_color q.side) (target_after q m) ≡ true
+unfolding target_after
+target_kept q m man step =
+    elim (cases_Bool (is_man q.side Pawn (man_at q.men m.from) && is_double_step q m.from m.to)) [
+      | inl e ↦ (
+          let both = and_parts (is_man q.side Pawn (man_at q.men m.from)) (is_double_step q m.from m.to) e in
+          rw e (double_target q m man step both.0 both.1))
+      | inr e ↦ rw e refl
+    ]
+
+-- the position after a legal move is valid
+pub after_is_valid : (q : Board) (m : Move) → IsValid q → m.from < 64 → m.to < 64 → is_legal_in q m ≡ true → IsValid (after q m)
+unfolding is_legal_in after
+after_is_valid q m valid from to legal =
+    let both = and_parts (is_pseudo_legal q m) (not (in_check (men_after q m) q.side)) legal in
+    let mover = may_gives q m both.0 in
+    let step : Step q m mover.0 = record { valid = valid; from = from; to = to; may = mover.1 } in
+    record {
+      size = length_after q m ∙ valid.size;
+      kings = λ c. kings_kept q m mover.0 step c;
+      pawns = ap not (pawns_kept q m mover.0 step);
+      opponent = ap (λ c. not (in_check (men_after q m) c)) (other_other q.side) ∙ both.1;
+      rights = λ c. rights_kept q m mover.0 step c;
+      target = target_kept q m mover.0 step;
+    }

@@ -1,0 +1,10 @@
+pub mod Facts
+pub mod Men
+pub mod Geometry
+pub mod Attackers
+pub mod Standing
+pub mod Begin
+pub mod CastlingTests
+pub mod Pending
+pub mod Mating
+pub mod Law

@@ -10,14 +10,15 @@ use Rattle.cha_board.specs.Squares.{rank_of}
 use Rattle.cha_board.specs.Board.{Board, man_at, home_of, has_short_right, has_long_right}
 use Rattle.cha_moves.specs.Moves.{second_rank, is_target, is_promotion}
 use Rattle.mob_law.specs.Reach.{Sets, is_fixed}
-use Rattle.mob_law.proofs.Facts.{MayBecome, Passed, Facts}
+use Rattle.cha_moves.proofs.Kept.{Becomes}
+use Rattle.mob_law.proofs.Facts.{Passed, Facts}
 
 -- the man that stands on u after a move stood on v before it, and what it is now is in reach on u
 pub record Comes (s : Sets) (q : Board) (origin : ℕ → ℕ) (man : Man) (u v : ℕ) : Type 0 where
   pub old : Man
   pub stood : man_at q.men v ≡ Some old
   pub color : old.color ≡ man.color
-  pub kind : MayBecome old.kind man.kind
+  pub kind : Becomes old.kind man.kind
   pub reach : s.has (origin v) man.kind u ≡ true
 
 -- What a move from q to r has to do for the facts to go on, where `source` says on which square of q each man of r stood.
@@ -34,7 +35,7 @@ pub record Carries (p : Board) (s : Sets) (q : Board) (origin : ℕ → ℕ) (r 
   pub target : (t : ℕ) → is_target r.target t ≡ true → Passed p s r (λ u. origin (source u)) t
 
 -- what became a j, which became an i, became an i
-becomes_on : (k j i : Kind) → MayBecome k j → MayBecome j i → MayBecome k i
+becomes_on : (k j i : Kind) → Becomes k j → Becomes j i → Becomes k i
 becomes_on k j i (inl e) (inl f) = inl (f ∙ e)
 becomes_on k j i (inl e) (inr (a, b)) = inr (sym e ∙ a, b)
 becomes_on k j i (inr (a, b)) (inl f) = inr (a, rw f b)

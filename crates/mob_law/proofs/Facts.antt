@@ -7,12 +7,9 @@ use Rattle.cha_board.specs.declared.men.Man.{Man}
 use Rattle.cha_board.specs.Men.{other_color, is_man}
 use Rattle.cha_board.specs.Squares.{rank_of}
 use Rattle.cha_board.specs.Board.{Board, man_at, home_of, has_short_right, has_long_right}
-use Rattle.cha_moves.specs.Moves.{second_rank, is_target, is_promotion, victim_of}
+use Rattle.cha_moves.specs.Moves.{second_rank, is_target, victim_of}
+use Rattle.cha_moves.proofs.Kept.{Becomes}
 use Rattle.mob_law.specs.Reach.{Sets, is_fixed}
-
--- what a man that began as a k may be now: the same, or what a pawn is promoted to
-abbrev pub MayBecome : Kind → Kind → Type 0
-MayBecome k j = (j ≡ k) ⊎ ((k ≡ Pawn) × (is_promotion (Some j) ≡ true))
 
 -- the man that stands on u now comes from the square o of the first position: a man of its colour stood there, which may
 -- have become what it is, and the sets have it in reach on u
@@ -20,7 +17,7 @@ pub record ComesFrom (p : Board) (s : Sets) (man : Man) (u o : ℕ) : Type 0 whe
   pub first : Man
   pub stood : man_at p.men o ≡ Some first
   pub color : first.color ≡ man.color
-  pub kind : MayBecome first.kind man.kind
+  pub kind : Becomes first.kind man.kind
   pub reach : s.has o man.kind u ≡ true
 
 -- a target t of q is that of the first position, with the same side to move; or a pawn has just passed over it, which came

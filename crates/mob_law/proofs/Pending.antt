@@ -9,15 +9,6 @@ use Rattle.cha_moves.specs.Step.{Move}
 use Rattle.cha_moves.specs.Moves.{legal, is_legal_in, men_after, after, goes, rights_after, victim_of, is_en_passant}
 use Rattle.cha_moves.proofs.Made.{Step}
 
-pub king_is_one : (men : List (Option Man)) (c : Color) (s : ℕ) → has_one_king men c ≡ true → s < length men → is_man c King (man_at men s) ≡ true → king_of men c ≡ s
-king_is_one men c s one inside here = ?
-
-pub king_stands : (men : List (Option Man)) (c : Color) → has_one_king men c ≡ true → is_man c King (man_at men (king_of men c)) ≡ true
-king_stands men c one = ?
-
-pub kings_kept : (q : Board) (m : Move) (man : Man) → Step q m man → (c : Color) → has_one_king (men_after q m) c ≡ true
-kings_kept q m man step c = ?
-
 pub listed : (q : Board) (m : Move) → m.from < 64 → m.to < 64 → is_legal_in q m ≡ true → Contains (legal q) m
 listed q m from to h = ?
 

@@ -13,7 +13,8 @@ use Rattle.cha_moves.specs.Moves.{is_promotion}
 use Rattle.mob_law.specs.Reach.{Sets, is_fixed, is_open}
 use Rattle.mob_law.specs.Closed.{Entry}
 use Rattle.mob_law.specs.Threats.{KingOn, NonKingOn}
-use Rattle.mob_law.proofs.Facts.{MayBecome, Facts}
+use Rattle.cha_moves.proofs.Kept.{Becomes}
+use Rattle.mob_law.proofs.Facts.{Facts}
 use Rattle.cha_moves.proofs.Identity.{man_of, is_man_from, on_board}
 use Rattle.mob_law.proofs.Men.{is_non_king_from}
 
@@ -54,19 +55,19 @@ unfolding is_open
 open_near p s u t none = rw none refl
 
 -- what is a king now was one, and what is none was none
-pub king_before : (k j : Kind) → MayBecome k j → j ≡ King → k ≡ King
+pub king_before : (k j : Kind) → Becomes k j → j ≡ King → k ≡ King
 king_before k j (inl e) f = sym e ∙ f
 king_before k j (inr (pawn, becomes)) f =
     let P : Kind → Type 0 = λ x. is_promotion (Some x) ≡ true in
     let none : is_promotion (Some King) ≡ true = subst P f becomes in
     cc
 
-pub no_king_before : (k j : Kind) → MayBecome k j → same_kind j King ≡ false → same_kind k King ≡ false
+pub no_king_before : (k j : Kind) → Becomes k j → same_kind j King ≡ false → same_kind k King ≡ false
 no_king_before k j (inl e) h = rw e at h
 no_king_before k j (inr (pawn, becomes)) h = rw pawn refl
 
 -- what is a pawn now was one
-pub pawn_before : (k j : Kind) → MayBecome k j → j ≡ Pawn → k ≡ Pawn
+pub pawn_before : (k j : Kind) → Becomes k j → j ≡ Pawn → k ≡ Pawn
 pawn_before k j (inl e) f = sym e ∙ f
 pawn_before k j (inr (pawn, becomes)) f = pawn
 

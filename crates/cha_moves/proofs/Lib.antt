@@ -1,0 +1,4 @@
+pub mod Identity
+pub mod Made
+pub mod Kept
+pub mod Validity

@@ -3,9 +3,14 @@
 //! `played` has the game that is given, `marks` the results and `faults` why a game cannot be read.
 #![tactic(auto)]
 
+mod cutting;
 mod faults;
 mod marks;
+mod movetext;
 mod played;
+mod slices;
+mod tag_pairs;
+mod turns;
 
 pub use faults::GameFault;
 pub use marks::ResultMark;

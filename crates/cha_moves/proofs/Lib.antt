@@ -2,3 +2,5 @@ pub mod Identity
 pub mod Made
 pub mod Kept
 pub mod Validity
+pub mod Pieces
+pub mod Listed

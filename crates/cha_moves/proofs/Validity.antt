@@ -187,9 +187,10 @@ second_unreached Black s t small (inr e) from rank = omega arith
 -- a pawn stands on none of the two end ranks
 pub pawn_inside : (men : List (Option Man)) (s : ℕ) → has_pawn_at_end men ≡ false → s < 64 → is_pawn (man_at men s) ≡ true → (rank_of s ≢ 0) × (rank_of s ≢ 7)
 unfolding is_pawn_at_end
-pawn_inside men s none small pawn =
-    (λ e. both_ways (has_pawn_at_end men) none (pawn_at men s small (and_from (is_pawn (man_at men s)) _ pawn (or_left (rank_of s == 0) (rank_of s == 7) (eq-eqb (rank_of s) 0 e)))),
-    λ e. both_ways (has_pawn_at_end men) none (pawn_at men s small (and_from (is_pawn (man_at men s)) _ pawn (or_right (rank_of s == 0) (rank_of s == 7) (eq-eqb (rank_of s) 7 e)))))
+pawn_inside men s none small pawn = (
+  λ e. both_ways (has_pawn_at_end men) none (pawn_at men s small (and_from (is_pawn (man_at men s)) _ pawn (or_left (rank_of s == 0) (rank_of s == 7) (eq-eqb (rank_of s) 0 e)))),
+  λ e. both_ways (has_pawn_at_end men) none (pawn_at men s small (and_from (is_pawn (man_at men s)) _ pawn (or_right (rank_of s == 0) (rank_of s == 7) (eq-eqb (rank_of s) 7 e)))),
+)
 
 -- the pawn that moves stands on none of the two end ranks
 pub mover_inside : (q : Board) (m : Move) (man : Man) → Step q m man → man.kind ≡ Pawn → (rank_of m.from ≢ 0) × (rank_of m.from ≢ 7)
@@ -328,8 +329,8 @@ stays_there q m man step c k u here other from to away =
           let v = victim_of q.side m.to in
           let victim = victim_of_move q m man step t in
           let ne : u ≢ v = λ f. (
-              let no_pawn = one_kind c (other_color q.side) k Pawn (man_at q.men u) other here in
-              both_ways (is_man (other_color q.side) Pawn (man_at q.men v)) (ap (λ s. is_man (other_color q.side) Pawn (man_at q.men s)) (sym f) ∙ no_pawn) victim.pawn) in
+          let no_pawn = one_kind c (other_color q.side) k Pawn (man_at q.men u) other here in
+          both_ways (is_man (other_color q.side) Pawn (man_at q.men v)) (ap (λ s. is_man (other_color q.side) Pawn (man_at q.men s)) (sym f) ∙ no_pawn) victim.pawn) in
           ap (λ (xs : List (Option Man)). man_at xs u) e ∙ put_other (men_moved q m) v None u ne ∙ stayed)
       | Shortly t e ↦ castling_keeps q m _ _ u (short_castling q m step.valid t e) from to away
       | Longly t e ↦ castling_keeps q m _ _ u (long_castling q m step.valid t e) from to away
@@ -352,13 +353,13 @@ rights_kept q m man step c =
     let left = rights_after q.rights m in
     and_from (not (has_short_right left c) || are_at_home (men_after q m) c (home_of c + 3)) (not (has_long_right left c) || are_at_home (men_after q m) c (home_of c - 4))
     (if_from (has_short_right left c) (are_at_home (men_after q m) c (home_of c + 3)) (λ h. (
-        let x = short_after q.rights m c h in
-        let homes = short_homes q c step.valid x.0 in
-        homes_kept q m man step c (home_of c + 3) homes.0 homes.1 x.1 x.2 (λ ne. (let far = homes_away c q.side ne in (far.0, far.1))))))
+    let x = short_after q.rights m c h in
+    let homes = short_homes q c step.valid x.0 in
+    homes_kept q m man step c (home_of c + 3) homes.0 homes.1 x.1 x.2 (λ ne. (let far = homes_away c q.side ne in (far.0, far.1))))))
     (if_from (has_long_right left c) (are_at_home (men_after q m) c (home_of c - 4)) (λ h. (
-        let x = long_after q.rights m c h in
-        let homes = long_homes q c step.valid x.0 in
-        homes_kept q m man step c (home_of c - 4) homes.0 homes.1 x.1 x.2 (λ ne. (let far = homes_away c q.side ne in (far.0, far.2))))))
+    let x = long_after q.rights m c h in
+    let homes = long_homes q c step.valid x.0 in
+    homes_kept q m man step c (home_of c - 4) homes.0 homes.1 x.1 x.2 (λ ne. (let far = homes_away c q.side ne in (far.0, far.2))))))
 
 -- a double step moves one man
 pub double_plain : (q : Board) (m : Move) → is_man q.side Pawn (man_at q.men m.from) ≡ true → is_double_step q m.from m.to ≡ true → men_after q m ≡ men_moved q m

@@ -15,6 +15,7 @@ use Rattle.cha_moves.specs.Ends.{IsMated}
 use Rattle.cha_moves.proofs.Identity.{other_other, same_color_self, same_color_equal, same_kind_equal, ManOf, man_of, is_man_from, one_kind, none_some, some_inj, on_board}
 use Rattle.cha_moves.proofs.Kept.{short_tests, long_tests, kings_kept}
 use Rattle.cha_moves.proofs.Made.{may_gives, length-moved, moved_to, moved_from, moved_other, men_moved, makes, Plainly, Passing, Shortly, Longly}
+use Rattle.cha_moves.proofs.Listed.{listed}
 use Rattle.mob_law.specs.Reach.{Sets, is_fixed, is_open_through}
 use Rattle.mob_law.specs.Threats.{Checks, HasAtMostOneMan, Covered, Blocked, NextToKing, Attacked, Threat}
 use Rattle.mob_law.proofs.Facts.{Facts, FactsHold}
@@ -23,7 +24,6 @@ use Rattle.mob_law.proofs.Geometry.{near, king_aims, king_aims_from, two_far}
 use Rattle.mob_law.proofs.Standing.{all_weaker, empty_not_fixed, open_from, king_on, non_king_on, origin_is_non_king}
 use Rattle.mob_law.proofs.Attackers.{some_attacker, attacks_by, clear_near}
 use Rattle.mob_law.proofs.Kings.{king_is_one, king_stands}
-use Rattle.mob_law.proofs.Pending.{listed}
 
 -- where the two kings stand
 abbrev loser_on : Board → Color → ℕ

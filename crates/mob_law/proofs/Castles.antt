@@ -1,19 +1,18 @@
 -- Castling: the king and its rook go at once, and both leave their origins.
-use Rattle.std.proofs.Common.{◌≡◌, ◌≢◌, ℕ, ◌+◌, ◌-◌, ◌<◌, Bool, true, false, cond, not, ◌&&◌, ◌==◌, List, length, Option, Some, None, refl, sym, subst, ap, ◌∙◌, arith, inl, inr}
-use Rattle.std.proofs.lemmas.Bool.{and_parts, both_ways, cases_eq, eq-eqb, ne_eqb}
+use Rattle.std.proofs.Common.{◌≡◌, ◌≢◌, ℕ, ◌+◌, ◌-◌, true, false, cond, ◌==◌, List, Option, Some, refl, sym, subst, ap, ◌∙◌, arith, inl}
+use Rattle.std.proofs.lemmas.Bool.{and_parts, eq-eqb, ne_eqb}
 use Rattle.cha_board.specs.declared.men.Color.{Color}
 use Rattle.cha_board.specs.declared.men.Color.TheVariants.{White, Black}
 use Rattle.cha_board.specs.declared.men.Kind.{Kind}
 use Rattle.cha_board.specs.declared.men.Kind.TheVariants.{Pawn, Rook, King}
 use Rattle.cha_board.specs.declared.men.Man.{Man}
-use Rattle.cha_board.specs.Men.{same_color, same_kind, is_man}
-use Rattle.cha_board.specs.Squares.{rank_of}
+use Rattle.cha_board.specs.Men.{same_kind, is_man}
 use Rattle.cha_board.specs.Board.{Board, man_at, home_of}
 use Rattle.cha_moves.specs.Step.{Move}
-use Rattle.cha_moves.specs.Moves.{second_rank, is_short_castling, is_long_castling, arriving, moved, castles_short, castles_long, rook_of, men_after, after}
-use Rattle.cha_moves.proofs.Identity.{same_color_equal, some_inj, man_of, is_man_from}
-use Rattle.cha_moves.proofs.Made.{Step, length-moved, moved_other, men_moved}
-use Rattle.cha_moves.proofs.Kept.{Castling, short_castling, long_castling, short_tests, long_tests, arrived_is, stays_man}
+use Rattle.cha_moves.specs.Moves.{is_short_castling, is_long_castling, arriving, moved, castles_short, castles_long, rook_of, men_after, after}
+use Rattle.cha_moves.proofs.Identity.{some_inj, man_of, is_man_from}
+use Rattle.cha_moves.proofs.Made.{Step, moved_other, men_moved}
+use Rattle.cha_moves.proofs.Kept.{Castling, short_castling, long_castling, short_tests, long_tests, stays_man}
 use Rattle.cha_moves.proofs.Validity.{Castled, KingHere, RookHere, Others, castled, short_after, long_after}
 use Rattle.mob_law.specs.Reach.{Sets, is_fixed}
 use Rattle.mob_law.specs.Closed.{Castles, IsClosed}

@@ -1,22 +1,21 @@
 -- Larger sets: what is fixed or guarded in them is so in smaller ones, a threat in smaller sets is one in larger ones, and
 -- what a rule adds to sets lies in all closed sets that hold them.
-use Rattle.std.proofs.Common.{◌≡◌, ℕ, ◌+◌, ◌-◌, Bool, true, false, not, ◌&&◌, ◌||◌, ◌==◌, ap, inl, inr}
-use Rattle.std.specs.List.{list_all}
+use Rattle.std.proofs.Common.{◌≡◌, ℕ, ◌+◌, ◌-◌, true, false, not, ◌&&◌, ◌||◌, ◌==◌, ap, inl, inr}
 use Rattle.std.proofs.lemmas.Bool.{and_parts, and_from, or_cases, or_left, or_right, both_ways, false_from_ne_true, true_from_ne_false, not-true}
 use Rattle.cha_board.specs.declared.men.Color.{Color}
 use Rattle.cha_board.specs.declared.men.Kind.{Kind}
 use Rattle.cha_board.specs.declared.men.Kind.TheVariants.{Pawn, King}
 use Rattle.cha_board.specs.declared.men.Man.{Man}
 use Rattle.cha_board.specs.Men.{other_color, same_kind, is_non_king}
-use Rattle.cha_board.specs.Squares.{squares, rank_of, files_apart, is_rank_ahead, aims_at, between}
+use Rattle.cha_board.specs.Squares.{rank_of, files_apart, is_rank_ahead, aims_at, between}
 use Rattle.cha_board.specs.Board.{Board, man_at, is_empty, home_of, has_short_right, has_long_right}
 use Rattle.cha_board.proofs.Scans.{any_square_at}
 use Rattle.cha_moves.specs.Moves.{second_rank, fourth_rank, middle, is_target, victim_of}
 use Rattle.mob_law.specs.Reach.{Sets, is_fixed, is_open, is_open_through, guards_as, guards_from, is_guarded}
 use Rattle.mob_law.specs.Closed.{has_fixed_enemy, Entry, PieceGoes, Enters, EnemyReaches, Castles, IsClosed}
-use Rattle.mob_law.specs.Threats.{KingOn, NonKingOn, Checks, Attacks, Covered, Blocked, NextToKing, Attacked, Threat, HasNoMate}
+use Rattle.mob_law.specs.Threats.{KingOn, NonKingOn, Covered, Blocked, NextToKing, Attacked, Threat, HasNoMate}
 use Rattle.mob_law.proofs.Attackers.{some_square}
-use Rattle.mob_law.proofs.Standing.{all_weaker, fixed_stands, loose_unfixed}
+use Rattle.mob_law.proofs.Standing.{all_weaker}
 
 -- sets lie within others
 pub record Within (s r : Sets) : Type 0 where

@@ -1,16 +1,16 @@
 -- A move of one man: what the rules of closed sets owe it, and that it then carries the facts along.
-use Rattle.std.proofs.Common.{◌≡◌, ◌≢◌, ℕ, ◌+◌, ◌-◌, ◌<◌, Bool, true, false, cond, not, ◌&&◌, ◌==◌, ◌⊎◌, List, length, Option, Some, None, slice_set, refl, sym, subst, ap, ◌∙◌, arith, inl, inr}
+use Rattle.std.proofs.Common.{◌≡◌, ◌≢◌, ℕ, ◌+◌, ◌-◌, ◌<◌, true, false, cond, ◌&&◌, ◌==◌, ◌⊎◌, List, length, Option, Some, None, slice_set, refl, sym, subst, ap, ◌∙◌, arith, inl, inr}
 use Rattle.std.proofs.lemmas.Bool.{and_parts, both_ways, cases_Bool, cases_eq, eqb-true, eq-eqb, ne_eqb}
 use Rattle.cha_board.specs.declared.men.Color.{Color}
 use Rattle.cha_board.specs.declared.men.Kind.{Kind}
 use Rattle.cha_board.specs.declared.men.Kind.TheVariants.{Pawn}
 use Rattle.cha_board.specs.declared.men.Man.{Man}
-use Rattle.cha_board.specs.Men.{other_color, same_color, is_man}
-use Rattle.cha_board.specs.Squares.{rank_of, files_apart, is_rank_ahead}
+use Rattle.cha_board.specs.Men.{other_color, is_man}
+use Rattle.cha_board.specs.Squares.{rank_of}
 use Rattle.cha_board.specs.Board.{Board, man_at, home_of}
 use Rattle.cha_moves.specs.Step.{Move}
-use Rattle.cha_moves.specs.Moves.{second_rank, last_rank, middle, is_target, is_double_step, arriving, victim_of, castles_short, castles_long, captures_en_passant, men_after, target_after, after}
-use Rattle.cha_moves.proofs.Identity.{other_other, same_color_equal, none_some, man_of, is_man_from}
+use Rattle.cha_moves.specs.Moves.{second_rank, middle, is_target, is_double_step, arriving, victim_of, castles_short, castles_long, captures_en_passant, men_after, target_after, after}
+use Rattle.cha_moves.proofs.Identity.{other_other, none_some, man_of, is_man_from}
 use Rattle.cha_moves.proofs.Made.{Step, put, put_other, length-moved, moved_other, men_moved, makes, Plainly, Passing, Shortly, Longly}
 use Rattle.cha_moves.proofs.Kept.{arrived_is, victim_of_move}
 use Rattle.cha_moves.proofs.Validity.{one_stands, double_step, no_second, short_after, long_after, over_it}

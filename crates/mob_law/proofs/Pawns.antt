@@ -1,6 +1,6 @@
 -- Moves of pawns: steps, double steps, captures, captures en passant, and promotion.
-use Rattle.std.proofs.Common.{◌≡◌, ◌≢◌, ℕ, ◌+◌, ◌-◌, ◌/◌, ◌%◌, ◌<◌, Bool, true, false, not, ◌&&◌, ◌||◌, ◌==◌, Option, Some, None, refl, sym, subst, ap, ◌∙◌, arith, inl, inr}
-use Rattle.std.proofs.lemmas.Bool.{and_parts, and_from, or_cases, both_ways, false_from_ne_true, not-true, eqb-true, eq-eqb}
+use Rattle.std.proofs.Common.{◌≡◌, ◌≢◌, ℕ, ◌+◌, ◌-◌, ◌/◌, ◌%◌, true, false, not, ◌&&◌, ◌==◌, Option, Some, None, refl, sym, subst, ap, ◌∙◌, arith, inl, inr}
+use Rattle.std.proofs.lemmas.Bool.{and_parts, and_from, both_ways, false_from_ne_true, not-true, eq-eqb}
 use Rattle.cha_board.specs.declared.men.Color.{Color}
 use Rattle.cha_board.specs.declared.men.Color.TheVariants.{White, Black}
 use Rattle.cha_board.specs.declared.men.Kind.{Kind}
@@ -10,7 +10,7 @@ use Rattle.cha_board.specs.Men.{other_color, same_color, same_kind, is_man, is_n
 use Rattle.cha_board.specs.Squares.{rank_of, files_apart, is_rank_ahead, aims_at}
 use Rattle.cha_board.specs.Board.{Board, man_at, is_empty}
 use Rattle.cha_moves.specs.Step.{Move}
-use Rattle.cha_moves.specs.Moves.{second_rank, fourth_rank, last_rank, middle, is_step, is_double_step, is_pawn_capture, is_target, is_en_passant, goes, is_promotion, promotes_well, may_enter, arriving, victim_of, captures_en_passant}
+use Rattle.cha_moves.specs.Moves.{second_rank, fourth_rank, last_rank, middle, is_step, is_double_step, is_pawn_capture, is_target, is_en_passant, goes, promotes_well, arriving, victim_of}
 use Rattle.cha_moves.proofs.Identity.{same_color_self, same_color_equal, some_inj, man_of}
 use Rattle.cha_moves.proofs.Made.{Step}
 use Rattle.cha_moves.proofs.Kept.{Target, target_of, promoted}
@@ -18,7 +18,7 @@ use Rattle.cha_moves.proofs.Validity.{step_tests, double_step, pawn_way, Steps, 
 use Rattle.mob_law.specs.Reach.{Sets, is_fixed}
 use Rattle.mob_law.specs.Closed.{Entry, Enters, PawnCaptures, IsClosed}
 use Rattle.mob_law.proofs.Facts.{Passed, AtFirst, JustNow, Facts}
-use Rattle.mob_law.proofs.Standing.{loose_unfixed, empty_not_fixed, origin_is_non_king, non_king_on, entry_of}
+use Rattle.mob_law.proofs.Standing.{loose_unfixed, empty_not_fixed, origin_is_non_king, entry_of}
 use Rattle.mob_law.proofs.Ordinary.{Lands}
 use Rattle.mob_law.proofs.Walkers.{enemy_there, spared}
 

@@ -1,5 +1,5 @@
 -- The facts hold at the first position, where each man is its own origin.
-use Rattle.std.proofs.Common.{◌≡◌, ℕ, Option, Some, refl, inl}
+use Rattle.std.proofs.Common.{refl, inl}
 use Rattle.cha_board.specs.Board.{Board}
 use Rattle.mob_law.specs.Reach.{Sets}
 use Rattle.mob_law.specs.Closed.{IsClosed}

@@ -1,6 +1,6 @@
 -- How a move carries the facts along: men that neither move nor are captured keep their part of them, and the others have
 -- theirs.
-use Rattle.std.proofs.Common.{◌≡◌, ℕ, ◌+◌, ◌-◌, true, ◌⊎◌, Option, Some, sym, ap, ◌∙◌, inl, inr}
+use Rattle.std.proofs.Common.{◌≡◌, ℕ, ◌+◌, ◌-◌, true, Some, sym, ap, ◌∙◌, inl, inr}
 use Rattle.cha_board.specs.declared.men.Color.{Color}
 use Rattle.cha_board.specs.declared.men.Kind.{Kind}
 use Rattle.cha_board.specs.declared.men.Kind.TheVariants.{Pawn}
@@ -8,7 +8,7 @@ use Rattle.cha_board.specs.declared.men.Man.{Man}
 use Rattle.cha_board.specs.Men.{is_man}
 use Rattle.cha_board.specs.Squares.{rank_of}
 use Rattle.cha_board.specs.Board.{Board, man_at, home_of, has_short_right, has_long_right}
-use Rattle.cha_moves.specs.Moves.{second_rank, is_target, is_promotion}
+use Rattle.cha_moves.specs.Moves.{second_rank, is_target}
 use Rattle.mob_law.specs.Reach.{Sets, is_fixed}
 use Rattle.cha_moves.proofs.Kept.{Becomes}
 use Rattle.mob_law.proofs.Facts.{Passed, Facts}

@@ -1,26 +1,24 @@
 -- Castling: the king and its rook go at once, and both leave their origins.
-use Rattle.std.proofs.Common.{◌≡◌, ◌≢◌, ℕ, ◌+◌, ◌-◌, ◌<◌, Bool, true, false, cond, not, ◌&&◌, ◌==◌, List, length, Option, Some, None, refl, sym, subst, ap, ◌∙◌, arith, inl, inr}
-use Rattle.std.proofs.lemmas.Bool.{and_parts, both_ways, cases_eq, eq-eqb, ne_eqb}
+use Rattle.std.proofs.Common.{◌≡◌, ◌≢◌, ℕ, ◌+◌, ◌-◌, true, false, cond, ◌==◌, List, Option, Some, refl, sym, subst, ap, ◌∙◌, arith, inl}
+use Rattle.std.proofs.lemmas.Bool.{and_parts, eq-eqb, ne_eqb}
 use Rattle.cha_board.specs.declared.men.Color.{Color}
 use Rattle.cha_board.specs.declared.men.Color.TheVariants.{White, Black}
 use Rattle.cha_board.specs.declared.men.Kind.{Kind}
 use Rattle.cha_board.specs.declared.men.Kind.TheVariants.{Pawn, Rook, King}
 use Rattle.cha_board.specs.declared.men.Man.{Man}
-use Rattle.cha_board.specs.Men.{same_color, same_kind, is_man}
-use Rattle.cha_board.specs.Squares.{rank_of}
+use Rattle.cha_board.specs.Men.{same_kind, is_man}
 use Rattle.cha_board.specs.Board.{Board, man_at, home_of}
 use Rattle.cha_moves.specs.Step.{Move}
-use Rattle.cha_moves.specs.Moves.{second_rank, is_short_castling, is_long_castling, arriving, moved, castles_short, castles_long, rook_of, men_after, after}
-use Rattle.cha_moves.proofs.Identity.{same_color_equal, some_inj, man_of, is_man_from}
-use Rattle.cha_moves.proofs.Made.{Step, length-moved, moved_other, men_moved}
-use Rattle.cha_moves.proofs.Kept.{Castling, short_castling, long_castling, short_tests, long_tests, arrived_is, stays_man}
-use Rattle.cha_moves.proofs.Validity.{Castled, KingHere, RookHere, Others, castled}
+use Rattle.cha_moves.specs.Moves.{is_short_castling, is_long_castling, arriving, moved, castles_short, castles_long, rook_of, men_after, after}
+use Rattle.cha_moves.proofs.Identity.{some_inj, man_of, is_man_from}
+use Rattle.cha_moves.proofs.Made.{Step, moved_other, men_moved}
+use Rattle.cha_moves.proofs.Kept.{Castling, short_castling, long_castling, short_tests, long_tests, stays_man}
+use Rattle.cha_moves.proofs.Validity.{Castled, KingHere, RookHere, Others, castled, short_after, long_after}
 use Rattle.mob_law.specs.Reach.{Sets, is_fixed}
 use Rattle.mob_law.specs.Closed.{Castles, IsClosed}
 use Rattle.mob_law.proofs.Facts.{Facts, FactsHold}
 use Rattle.mob_law.proofs.Standing.{loose_unfixed, empty_not_fixed}
 use Rattle.mob_law.proofs.Carry.{Comes, Carries, carried}
-use Rattle.mob_law.proofs.Rights.{short_kept, long_kept}
 use Rattle.mob_law.proofs.Ordinary.{apart_fixed, target_now}
 
 -- the square from which the man on u came, where a king has gone from `from` to `to` and its rook from i to j
@@ -164,11 +162,11 @@ castling_carries p s q origin m man i j closed facts step c = record {
       let k = man_of (man_at (men_after q m) u) d Pawn pawn in
       castled_second q m man i j u k.man d step c.king k.color k.kind (castled q m man i j step c.move u k.man k.found));
   short = λ d right. (
-      let k = short_kept q.rights m d right in
-      (k.0, back_none m.from m.to i j (home_of d) k.1 (c.homes d).0, back_none m.from m.to i j (home_of d + 3) k.2 (c.homes d).1));
+      let k = short_after q.rights m d right in
+      (k.0, back_none m.from m.to i j (home_of d) (λ e. k.1.1 (sym e)) (c.homes d).0, back_none m.from m.to i j (home_of d + 3) (λ e. k.2.1 (sym e)) (c.homes d).1));
   long = λ d right. (
-      let k = long_kept q.rights m d right in
-      (k.0, back_none m.from m.to i j (home_of d) k.1 (c.homes d).0, back_none m.from m.to i j (home_of d - 4) k.2 (c.homes d).2));
+      let k = long_after q.rights m d right in
+      (k.0, back_none m.from m.to i j (home_of d) (λ e. k.1.1 (sym e)) (c.homes d).0, back_none m.from m.to i j (home_of d - 4) (λ e. k.2.1 (sym e)) (c.homes d).2));
   target = λ t here. target_now p s q origin m man (back_both m.from m.to i j) closed facts step (back_king m.from m.to i j m.to refl) t here;
 }
 

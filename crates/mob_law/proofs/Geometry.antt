@@ -1,16 +1,14 @@
 -- Squares next to each other, and what lies between squares, by tables over all pairs of squares.
-use Rattle.std.proofs.Common.{◌≡◌, ℕ, ◌+◌, ◌-◌, ◌<◌, ◌≢◌, Bool, true, false, not, ◌&&◌, ◌||◌, ◌==◌, nat_lt, ◌⊎◌, List, [], ◌∷◌, refl, sym, subst, ap, ◌∙◌, arith, inl, inr}
+use Rattle.std.proofs.Common.{◌≡◌, ℕ, ◌+◌, ◌-◌, ◌<◌, ◌≢◌, Bool, true, false, not, ◌&&◌, ◌||◌, ◌==◌, List, [], ◌∷◌, refl}
 use Rattle.std.specs.List.{list_all}
-use Rattle.std.proofs.lemmas.Bool.{and_parts, and_from, eqb-true, ltb-true, or_cases, both_ways, eq-eqb, not-true}
+use Rattle.std.proofs.lemmas.Bool.{and_parts, both_ways, eq-eqb, not-true}
 use Rattle.cha_board.specs.declared.men.Color.{Color}
 use Rattle.cha_board.specs.declared.men.Color.TheVariants.{White, Black}
 use Rattle.cha_board.specs.declared.men.Kind.{Kind}
 use Rattle.cha_board.specs.declared.men.Kind.TheVariants.{Pawn, Knight, Bishop, Rook, Queen, King}
-use Rattle.cha_board.specs.Men.{other_color}
 use Rattle.cha_board.specs.Board.{home_of}
-use Rattle.cha_board.specs.Squares.{squares, rank_of, files_apart, ranks_apart, steps_apart, is_straight, is_diagonal, is_line, is_rank_ahead, aims_at, is_within, lies_between, between}
+use Rattle.cha_board.specs.Squares.{squares, files_apart, ranks_apart, steps_apart, is_straight, is_diagonal, is_line, is_rank_ahead, aims_at, is_within, lies_between, between}
 use Rattle.cha_board.proofs.Scans.{all_squares_at}
-use Rattle.cha_moves.specs.Moves.{second_rank, fourth_rank, last_rank, middle, victim_of}
 use Rattle.mob_law.specs.Reach.{is_leaper}
 
 -- a test that holds of all pairs of squares
@@ -145,50 +143,3 @@ pub two_far : (c : Color) → ((steps_apart (home_of c) (home_of c + 2) == 1) �
 unfolding steps_apart files_apart ranks_apart
 two_far White = (refl, refl)
 two_far Black = (refl, refl)
-
--- the two squares of a double step: on one file, from the second to the fourth rank
-double_squares : Color → ℕ → ℕ → Bool
-double_squares c s t = (files_apart s t == 0) && (rank_of s == second_rank c) && (rank_of t == fourth_rank c)
-
--- the square passed over is a step ahead, not on the last rank, and the one from which the pawn is captured en passant
-passed_squares : Color → ℕ → ℕ → Bool
-passed_squares c s t =
-    let over = middle s t in
-    (victim_of (other_color c) over == t) && (files_apart s over == 0) && is_rank_ahead c s over && not (rank_of over == last_rank c) && nat_lt over 64
-
-over_test : Color → ℕ → ℕ → Bool
-over_test c s t = implies (double_squares c s t) (passed_squares c s t)
-
-over_table : (c : Color) → list_all (λ s. list_all (over_test c s) squares) squares ≡ true
-unfolding over_test implies double_squares passed_squares is_rank_ahead files_apart squares
-over_table White = refl
-over_table Black = refl
-
--- the square that a double step passes over
-pub record Over (c : Color) (s t : ℕ) : Type 0 where
-  pub victim : victim_of (other_color c) (middle s t) ≡ t
-  pub file : files_apart s (middle s t) ≡ 0
-  pub ahead : is_rank_ahead c s (middle s t) ≡ true
-  pub inside : (rank_of (middle s t) == last_rank c) ≡ false
-  pub small : middle s t < 64
-
-pub over_it : (c : Color) (s t : ℕ) → s < 64 → t < 64 → files_apart s t ≡ 0 → rank_of s ≡ second_rank c → rank_of t ≡ fourth_rank c → Over c s t
-unfolding over_test double_squares passed_squares
-over_it c s t small small' file begins ends =
-    let over = middle s t in
-    let begun : double_squares c s t ≡ true =
-        and_from ((files_apart s t == 0) && (rank_of s == second_rank c)) (rank_of t == fourth_rank c)
-            (and_from (files_apart s t == 0) (rank_of s == second_rank c) (eq-eqb (files_apart s t) 0 file) (eq-eqb (rank_of s) (second_rank c) begins))
-            (eq-eqb (rank_of t) (fourth_rank c) ends) in
-    let h = implied (double_squares c s t) (passed_squares c s t) (pair_at (over_test c) (over_table c) s t small small') begun in
-    let a = and_parts ((victim_of (other_color c) over == t) && (files_apart s over == 0) && is_rank_ahead c s over && not (rank_of over == last_rank c)) (nat_lt over 64) h in
-    let b = and_parts ((victim_of (other_color c) over == t) && (files_apart s over == 0) && is_rank_ahead c s over) (not (rank_of over == last_rank c)) a.0 in
-    let d = and_parts ((victim_of (other_color c) over == t) && (files_apart s over == 0)) (is_rank_ahead c s over) b.0 in
-    let e = and_parts (victim_of (other_color c) over == t) (files_apart s over == 0) d.0 in
-    record {
-      victim = eqb-true (victim_of (other_color c) over) t e.0;
-      file = eqb-true (files_apart s over) 0 e.1;
-      ahead = d.1;
-      inside = not-true (rank_of over == last_rank c) b.1;
-      small = ltb-true over 64 a.1;
-    }

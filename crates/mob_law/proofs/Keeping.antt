@@ -1,5 +1,5 @@
 -- Each legal move keeps the facts.
-use Rattle.std.proofs.Common.{◌≡◌, ℕ, ◌<◌, Option, Bool, true, false, not, ◌&&◌, refl, inl, inr}
+use Rattle.std.proofs.Common.{◌≡◌, ℕ, ◌<◌, Option, true, false, not, refl, inl, inr}
 use Rattle.std.proofs.lemmas.Bool.{and_parts, and_left, not-true, cases_Bool}
 use Rattle.cha_board.specs.declared.men.Kind.TheVariants.{Pawn, King}
 use Rattle.cha_board.specs.declared.men.Man.{Man}

@@ -5,6 +5,8 @@ use Rattle.cha_board.specs.Board.{Board, IsValid}
 use Rattle.cha_moves.specs.Step.{Move}
 use Rattle.cha_moves.specs.Moves.{after}
 use Rattle.cha_moves.specs.Ends.{IsMatingLine, IsUnwinnable}
+use Rattle.cha_moves.proofs.Listed.{is_listed}
+use Rattle.cha_moves.proofs.Validity.{after_is_valid}
 use Rattle.mob_law.specs.Reach.{Sets}
 use Rattle.mob_law.specs.Closed.{IsClosed}
 use Rattle.mob_law.specs.Threats.{HasNoMate}
@@ -13,7 +15,6 @@ use Rattle.mob_law.proofs.Facts.{FactsHold}
 use Rattle.mob_law.proofs.Begin.{facts_begin}
 use Rattle.mob_law.proofs.Keeping.{facts_kept}
 use Rattle.mob_law.proofs.Mating.{mate_threatens}
-use Rattle.mob_law.proofs.Pending.{is_listed, after_is_valid}
 
 -- from a valid position where the facts hold, no list of legal moves mates: if it is empty, the mate would be a threat in
 -- the sets; else its first move leads to such a position again

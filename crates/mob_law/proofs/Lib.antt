@@ -6,9 +6,6 @@ pub mod Attackers
 pub mod Standing
 pub mod Begin
 pub mod Carry
-pub mod Rights
-pub mod Doubles
-pub mod Pending
 pub mod Mating
 pub mod Ordinary
 pub mod Walkers
@@ -16,3 +13,4 @@ pub mod Pawns
 pub mod Castles
 pub mod Keeping
 pub mod Law
+pub mod Growing

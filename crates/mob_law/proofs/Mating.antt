@@ -1,29 +1,29 @@
 -- A mate where the facts hold is a threat in the sets.
-use Rattle.std.proofs.Common.{◌≡◌, ◌≢◌, ℕ, ◌+◌, ◌-◌, ◌<◌, Bool, true, false, not, ◌&&◌, ◌||◌, ◌==◌, ◌⊎◌, List, [], length, Option, Some, None, Contains, IsTrue, is_none, refl, sym, subst, ap, ◌∙◌, arith, inl, inr}
+use Rattle.std.proofs.Common.{◌≡◌, ◌≢◌, ℕ, ◌<◌, true, false, not, ◌&&◌, ◌||◌, ◌==◌, ◌⊎◌, List, [], length, Option, Some, None, Contains, refl, sym, subst, ap, ◌∙◌, arith, inl, inr}
 use Rattle.std.proofs.lemmas.Bool.{and_parts, and_from, or_left, or_right, both_ways, false_from_ne_true, true_from_ne_false, not-true, cases_Bool, cases_eq, eq-eqb}
 use Rattle.cha_board.specs.declared.men.Color.{Color}
 use Rattle.cha_board.specs.declared.men.Kind.{Kind}
 use Rattle.cha_board.specs.declared.men.Kind.TheVariants.{Pawn, King}
 use Rattle.cha_board.specs.declared.men.Man.{Man}
 use Rattle.cha_board.specs.Men.{other_color, same_color, same_kind, is_man}
-use Rattle.cha_board.specs.Squares.{rank_of, steps_apart, aims_at, between}
-use Rattle.cha_board.specs.Board.{Board, man_at, is_empty, is_clear, attacked, attacks_as, king_of, in_check, has_one_king, IsValid}
+use Rattle.cha_board.specs.Squares.{steps_apart, aims_at, between}
+use Rattle.cha_board.specs.Board.{Board, man_at, is_empty, is_clear, attacked, king_of, in_check, has_one_king, IsValid}
 use Rattle.cha_board.proofs.Sightings.{attacked_from}
 use Rattle.cha_moves.specs.Step.{Move}
-use Rattle.cha_moves.specs.Moves.{goes, is_short_castling, is_long_castling, last_rank, promotes_well, may_enter, is_pseudo_legal, is_pseudo_legal_as, arriving, moved, is_en_passant, men_after, is_legal_in, legal}
+use Rattle.cha_moves.specs.Moves.{goes, is_short_castling, is_long_castling, promotes_well, may_enter, is_pseudo_legal, is_pseudo_legal_as, moved, is_en_passant, men_after, is_legal_in}
 use Rattle.cha_moves.specs.Ends.{IsMated}
 use Rattle.cha_moves.proofs.Identity.{other_other, same_color_self, same_color_equal, same_kind_equal, ManOf, man_of, is_man_from, one_kind, none_some, some_inj, on_board}
 use Rattle.cha_moves.proofs.Kept.{short_tests, long_tests, kings_kept}
 use Rattle.cha_moves.proofs.Made.{may_gives, length-moved, moved_to, moved_from, moved_other, men_moved, makes, Plainly, Passing, Shortly, Longly}
+use Rattle.cha_moves.proofs.Listed.{listed}
 use Rattle.mob_law.specs.Reach.{Sets, is_fixed, is_open_through}
-use Rattle.mob_law.specs.Threats.{Checks, HasAtMostOneMan, Covered, Blocked, NextToKing, Attacked, Threat}
+use Rattle.mob_law.specs.Threats.{Checks, Covered, Blocked, NextToKing, Attacked, Threat}
 use Rattle.mob_law.proofs.Facts.{Facts, FactsHold}
-use Rattle.mob_law.proofs.Men.{either_color, not_of_other, may_enter_enemy, not_vacant}
+use Rattle.mob_law.proofs.Men.{either_color, not_of_other, may_enter_enemy}
 use Rattle.mob_law.proofs.Geometry.{near, king_aims, king_aims_from, two_far}
 use Rattle.mob_law.proofs.Standing.{all_weaker, empty_not_fixed, open_from, king_on, non_king_on, origin_is_non_king}
 use Rattle.mob_law.proofs.Attackers.{some_attacker, attacks_by, clear_near}
 use Rattle.mob_law.proofs.Kings.{king_is_one, king_stands}
-use Rattle.mob_law.proofs.Pending.{listed}
 
 -- where the two kings stand
 abbrev loser_on : Board → Color → ℕ

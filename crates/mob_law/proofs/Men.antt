@@ -1,15 +1,14 @@
 -- What the tests of men mean, as far as the law needs it.
-use Rattle.std.proofs.Common.{◌≡◌, ℕ, ◌<◌, Bool, true, false, not, ◌&&◌, ◌⊎◌, List, length, Option, Some, None, refl, subst, ap, inl, inr}
-use Rattle.std.proofs.lemmas.Bool.{and_parts, and_from, cases_Bool}
+use Rattle.std.proofs.Common.{◌≡◌, true, false, not, ◌⊎◌, Option, Some, refl, subst, ap, inl, inr}
+use Rattle.std.proofs.lemmas.Bool.{and_parts, and_from}
 use Rattle.cha_board.specs.declared.men.Color.{Color}
 use Rattle.cha_board.specs.declared.men.Color.TheVariants.{White, Black}
 use Rattle.cha_board.specs.declared.men.Kind.{Kind}
 use Rattle.cha_board.specs.declared.men.Kind.TheVariants.{King}
 use Rattle.cha_board.specs.declared.men.Man.{Man}
 use Rattle.cha_board.specs.Men.{other_color, same_color, same_kind, is_vacant, is_man, is_non_king}
-use Rattle.cha_board.specs.Board.{man_at}
 use Rattle.cha_moves.specs.Moves.{may_enter}
-use Rattle.cha_moves.proofs.Identity.{one_color, same_kind_self}
+use Rattle.cha_moves.proofs.Identity.{one_color}
 
 -- a colour is a side's or the other's
 pub either_color : (a c : Color) → (a ≡ c) ⊎ (a ≡ other_color c)

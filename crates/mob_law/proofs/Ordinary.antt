@@ -1,27 +1,24 @@
 -- A move of one man: what the rules of closed sets owe it, and that it then carries the facts along.
-use Rattle.std.proofs.Common.{◌≡◌, ◌≢◌, ℕ, ◌+◌, ◌-◌, ◌<◌, Bool, true, false, cond, not, ◌&&◌, ◌==◌, ◌⊎◌, List, length, Option, Some, None, slice_set, refl, sym, subst, ap, ◌∙◌, arith, inl, inr}
+use Rattle.std.proofs.Common.{◌≡◌, ◌≢◌, ℕ, ◌+◌, ◌-◌, ◌<◌, true, false, cond, ◌&&◌, ◌==◌, ◌⊎◌, List, length, Option, Some, None, slice_set, refl, sym, subst, ap, ◌∙◌, arith, inl, inr}
 use Rattle.std.proofs.lemmas.Bool.{and_parts, both_ways, cases_Bool, cases_eq, eqb-true, eq-eqb, ne_eqb}
 use Rattle.cha_board.specs.declared.men.Color.{Color}
 use Rattle.cha_board.specs.declared.men.Kind.{Kind}
 use Rattle.cha_board.specs.declared.men.Kind.TheVariants.{Pawn}
 use Rattle.cha_board.specs.declared.men.Man.{Man}
-use Rattle.cha_board.specs.Men.{other_color, same_color, is_man}
-use Rattle.cha_board.specs.Squares.{rank_of, files_apart, is_rank_ahead}
+use Rattle.cha_board.specs.Men.{other_color, is_man}
+use Rattle.cha_board.specs.Squares.{rank_of}
 use Rattle.cha_board.specs.Board.{Board, man_at, home_of}
 use Rattle.cha_moves.specs.Step.{Move}
-use Rattle.cha_moves.specs.Moves.{second_rank, last_rank, middle, is_target, is_double_step, arriving, victim_of, castles_short, castles_long, captures_en_passant, men_after, target_after, after}
-use Rattle.cha_moves.proofs.Identity.{other_other, same_color_equal, none_some, man_of, is_man_from}
+use Rattle.cha_moves.specs.Moves.{second_rank, middle, is_target, is_double_step, arriving, victim_of, castles_short, castles_long, captures_en_passant, men_after, target_after, after}
+use Rattle.cha_moves.proofs.Identity.{other_other, none_some, man_of, is_man_from}
 use Rattle.cha_moves.proofs.Made.{Step, put, put_other, length-moved, moved_other, men_moved, makes, Plainly, Passing, Shortly, Longly}
 use Rattle.cha_moves.proofs.Kept.{arrived_is, victim_of_move}
-use Rattle.cha_moves.proofs.Validity.{one_stands, no_second}
+use Rattle.cha_moves.proofs.Validity.{one_stands, double_step, no_second, short_after, long_after, over_it}
 use Rattle.mob_law.specs.Reach.{Sets, is_fixed}
 use Rattle.mob_law.specs.Closed.{IsClosed}
 use Rattle.mob_law.proofs.Facts.{Passed, JustNow, Facts}
-use Rattle.mob_law.proofs.Geometry.{over_it}
 use Rattle.mob_law.proofs.Standing.{fixed_stands, empty_not_fixed}
 use Rattle.mob_law.proofs.Carry.{Comes, Carries}
-use Rattle.mob_law.proofs.Rights.{short_kept, long_kept}
-use Rattle.mob_law.proofs.Doubles.{double_step}
 
 -- the square from which the man on u came, where one man has gone from `from` to `to`
 pub back : ℕ → ℕ → ℕ → ℕ
@@ -156,7 +153,7 @@ target_now p s q origin m man source closed facts step went t here =
           let color : from.first.color ≡ q.side = from.color ∙ pawn.color in
           let reach : s.has (origin m.from) Pawn m.from ≡ true = (let P : Kind → Type 0 = λ x. s.has (origin m.from) x m.from ≡ true in subst P pawn.kind from.reach) in
           let enters = closed.pawns_step (origin m.from) from.first m.from (middle m.from m.to) (record { stood = from.stood; reach = reach; from = step.from; to = g.small }) g.file (rw color g.ahead) (empty_not_fixed p s q origin facts (middle m.from m.to) d.free) in
-          let in_reach : s.has (origin m.from) Pawn (middle m.from m.to) ≡ true = enters.stays (rw color g.inside) in
+          let in_reach : s.has (origin m.from) Pawn (middle m.from m.to) ≡ true = enters.stays (rw color g.not_last) in
           JustNow (rw (victim, went, own, other_other) d.begins) (rw (victim, went, ← at) in_reach))
       | inr e ↦ (let nothing : is_target None t ≡ true = rw e at here in cc)
     ]
@@ -176,10 +173,10 @@ ordinary_carries p s q origin m man closed facts step lands ord = record {
       let k = man_of (man_at (men_after q m) u) c Pawn pawn in
       ordinary_second q m man c u k.man step k.color k.kind rank (ord.came u k.man k.found));
   short = λ c right. (
-      let k = short_kept q.rights m c right in
-      (k.0, back_other m.from m.to (home_of c) k.1, back_other m.from m.to (home_of c + 3) k.2));
+      let k = short_after q.rights m c right in
+      (k.0, back_other m.from m.to (home_of c) (λ e. k.1.1 (sym e)), back_other m.from m.to (home_of c + 3) (λ e. k.2.1 (sym e))));
   long = λ c right. (
-      let k = long_kept q.rights m c right in
-      (k.0, back_other m.from m.to (home_of c) k.1, back_other m.from m.to (home_of c - 4) k.2));
+      let k = long_after q.rights m c right in
+      (k.0, back_other m.from m.to (home_of c) (λ e. k.1.1 (sym e)), back_other m.from m.to (home_of c - 4) (λ e. k.2.1 (sym e))));
   target = λ t here. target_now p s q origin m man (back m.from m.to) closed facts step (back_to m.from m.to m.to refl) t here;
 }

@@ -1,6 +1,6 @@
 -- Moves of pawns: steps, double steps, captures, captures en passant, and promotion.
-use Rattle.std.proofs.Common.{◌≡◌, ◌≢◌, ℕ, ◌+◌, ◌-◌, ◌/◌, ◌<◌, Bool, true, false, not, ◌&&◌, ◌||◌, ◌==◌, Option, Some, None, refl, sym, subst, ap, ◌∙◌, arith, inl, inr}
-use Rattle.std.proofs.lemmas.Bool.{and_parts, and_from, or_cases, both_ways, false_from_ne_true, not-true, eqb-true, eq-eqb}
+use Rattle.std.proofs.Common.{◌≡◌, ◌≢◌, ℕ, ◌+◌, ◌-◌, ◌/◌, ◌%◌, true, false, not, ◌&&◌, ◌==◌, Option, Some, None, refl, sym, subst, ap, ◌∙◌, arith, inl, inr}
+use Rattle.std.proofs.lemmas.Bool.{and_parts, and_from, both_ways, false_from_ne_true, not-true, eq-eqb}
 use Rattle.cha_board.specs.declared.men.Color.{Color}
 use Rattle.cha_board.specs.declared.men.Color.TheVariants.{White, Black}
 use Rattle.cha_board.specs.declared.men.Kind.{Kind}
@@ -10,17 +10,17 @@ use Rattle.cha_board.specs.Men.{other_color, same_color, same_kind, is_man, is_n
 use Rattle.cha_board.specs.Squares.{rank_of, files_apart, is_rank_ahead, aims_at}
 use Rattle.cha_board.specs.Board.{Board, man_at, is_empty}
 use Rattle.cha_moves.specs.Step.{Move}
-use Rattle.cha_moves.specs.Moves.{second_rank, fourth_rank, last_rank, middle, is_step, is_double_step, is_pawn_capture, is_target, is_en_passant, goes, is_promotion, promotes_well, may_enter, arriving, victim_of, captures_en_passant}
+use Rattle.cha_moves.specs.Moves.{second_rank, fourth_rank, last_rank, middle, is_step, is_double_step, is_pawn_capture, is_target, is_en_passant, goes, promotes_well, arriving, victim_of}
 use Rattle.cha_moves.proofs.Identity.{same_color_self, same_color_equal, some_inj, man_of}
 use Rattle.cha_moves.proofs.Made.{Step}
-use Rattle.cha_moves.proofs.Kept.{Target, target_of, victim_stands, promoted}
+use Rattle.cha_moves.proofs.Kept.{Target, target_of, promoted}
+use Rattle.cha_moves.proofs.Validity.{step_tests, double_step, pawn_way, Steps, DoubleSteps, Captures, Passes}
 use Rattle.mob_law.specs.Reach.{Sets, is_fixed}
 use Rattle.mob_law.specs.Closed.{Entry, Enters, PawnCaptures, IsClosed}
 use Rattle.mob_law.proofs.Facts.{Passed, AtFirst, JustNow, Facts}
-use Rattle.mob_law.proofs.Standing.{loose_unfixed, empty_not_fixed, origin_is_non_king, non_king_on, entry_of}
+use Rattle.mob_law.proofs.Standing.{loose_unfixed, empty_not_fixed, origin_is_non_king, entry_of}
 use Rattle.mob_law.proofs.Ordinary.{Lands}
 use Rattle.mob_law.proofs.Walkers.{enemy_there, spared}
-use Rattle.mob_law.proofs.Doubles.{double_step}
 
 -- what a pawn that enters a square becomes there is in reach there
 pawn_reach : (p : Board) (s : Sets) (o : ℕ) (c : Color) (u t : ℕ) (man new : Man) (b : Option Kind) → Enters p s o c u t → man.kind ≡ Pawn → promotes_well c man.kind t b ≡ true → arriving (Some man) b ≡ Some new → s.has o new.kind t ≡ true
@@ -72,7 +72,7 @@ victim_rank q White t target e = (let rank : t / 8 ≡ 5 = target.rank in let th
 victim_rank q Black t target e = (let rank : t / 8 ≡ 2 = target.rank in let there : (t + 8) / 8 ≡ 1 = e in omega (arith, rank, there))
 
 -- a capture en passant: the pawn enters its square, and neither that nor the captured pawn's square is fixed
-record Passes (p : Board) (s : Sets) (q : Board) (origin : ℕ → ℕ) (m : Move) : Type 0 where
+record EnPassant (p : Board) (s : Sets) (q : Board) (origin : ℕ → ℕ) (m : Move) : Type 0 where
   enters : Enters p s (origin m.from) q.side m.from m.to
   unfixed : is_fixed p s m.to ≡ false
   victim : is_fixed p s (victim_of q.side m.to) ≡ false
@@ -81,7 +81,7 @@ record Passes (p : Board) (s : Sets) (q : Board) (origin : ℕ → ℕ) (m : Mov
 -- there as an enemy, and it is not fixed, since it has left its second rank
 passes_by : (p : Board) (s : Sets) (q : Board) (origin : ℕ → ℕ) (m : Move) → Facts p s q origin → PawnCaptures p s (origin m.from) q.side m.from m.to
     → is_man (other_color q.side) Pawn (man_at q.men (victim_of q.side m.to)) ≡ true → is_fixed p s m.to ≡ false → rank_of (victim_of q.side m.to) ≢ second_rank (other_color q.side)
-    → Passed p s q origin m.to → Passes p s q origin m
+    → Passed p s q origin m.to → EnPassant p s q origin m
 passes_by p s q origin m facts takes victim free rank (AtFirst here side) = record {
   enters = takes.en_passant here side;
   unfixed = free;
@@ -102,7 +102,7 @@ passes_by p s q origin m facts takes victim free rank (JustNow second reach) =
       victim = false_from_ne_true (is_fixed p s v) (λ f. rank (let own = (facts.fixed v f).1 in rw own at second));
     }
 
-passes_of : (p : Board) (s : Sets) (q : Board) (origin : ℕ → ℕ) (m : Move) (man : Man) → IsClosed p s → Facts p s q origin → Step q m man → man.kind ≡ Pawn → is_en_passant q m.from m.to ≡ true → Passes p s q origin m
+passes_of : (p : Board) (s : Sets) (q : Board) (origin : ℕ → ℕ) (m : Move) (man : Man) → IsClosed p s → Facts p s q origin → Step q m man → man.kind ≡ Pawn → is_en_passant q m.from m.to ≡ true → EnPassant p s q origin m
 unfolding is_en_passant
 passes_of p s q origin m man closed facts step pawn h =
     let both = and_parts (aims_at q.side Pawn m.from m.to) (is_target q.target m.to) h in
@@ -121,18 +121,20 @@ lands_by p s q origin m man closed facts step pawn free enters = record {
 
 -- a step
 steps : (p : Board) (s : Sets) (q : Board) (origin : ℕ → ℕ) (m : Move) (man : Man) → IsClosed p s → Facts p s q origin → Step q m man → man.kind ≡ Pawn → is_step q m.from m.to ≡ true → Lands p s q origin m man
-unfolding is_step
 steps p s q origin m man closed facts step pawn h =
-    let a = and_parts ((files_apart m.from m.to == 0) && is_rank_ahead q.side m.from m.to) (is_empty q.men m.to) h in
-    let b = and_parts (files_apart m.from m.to == 0) (is_rank_ahead q.side m.from m.to) a.0 in
+    let tests = step_tests q m.from m.to h in
     let mover = pawn_mover p s q origin m man facts step pawn in
-    let free = empty_not_fixed p s q origin facts m.to a.1 in
+    let free = empty_not_fixed p s q origin facts m.to tests.2 in
     let A : Color → Type 0 = λ c. is_rank_ahead c m.from m.to ≡ true in
     let E : Color → Type 0 = λ c. Enters p s (origin m.from) c m.from m.to in
     lands_by p s q origin m man closed facts step pawn free
-        (subst E mover.color (closed.pawns_step (origin m.from) mover.first m.from m.to mover.entry (eqb-true (files_apart m.from m.to) 0 b.0) (subst A (sym mover.color) b.1) free))
+        (subst E mover.color (closed.pawns_step (origin m.from) mover.first m.from m.to mover.entry tests.0 (subst A (sym mover.color) tests.1) free))
 
 -- a double step
+one_file : (s t : ℕ) → s % 8 ≡ t % 8 → files_apart s t ≡ 0
+unfolding files_apart
+one_file s t e = omega arith
+
 doubles : (p : Board) (s : Sets) (q : Board) (origin : ℕ → ℕ) (m : Move) (man : Man) → IsClosed p s → Facts p s q origin → Step q m man → man.kind ≡ Pawn → is_double_step q m.from m.to ≡ true → Lands p s q origin m man
 doubles p s q origin m man closed facts step pawn h =
     let d = double_step q m.from m.to h in
@@ -143,7 +145,7 @@ doubles p s q origin m man closed facts step pawn h =
     let F : Color → Type 0 = λ c. rank_of m.to ≡ fourth_rank c in
     let E : Color → Type 0 = λ c. Enters p s (origin m.from) c m.from m.to in
     lands_by p s q origin m man closed facts step pawn free
-        (subst E mover.color (closed.pawns_double_step (origin m.from) mover.first m.from m.to mover.entry d.file (subst B (sym mover.color) d.begins) (subst F (sym mover.color) d.ends) over free))
+        (subst E mover.color (closed.pawns_double_step (origin m.from) mover.first m.from m.to mover.entry (one_file m.from m.to d.file) (subst B (sym mover.color) d.begins) (subst F (sym mover.color) d.ends) over free))
 
 -- a capture: what stands there is an enemy in reach, and no fixed one
 captures_at : (p : Board) (s : Sets) (q : Board) (origin : ℕ → ℕ) (m : Move) (man : Man) → IsClosed p s → Facts p s q origin → Step q m man → man.kind ≡ Pawn → aims_at q.side Pawn m.from m.to ≡ true → is_empty q.men m.to ≡ false
@@ -175,21 +177,11 @@ passes p s q origin m man closed facts step pawn h =
 
 -- each move of a pawn is one of the four
 pub pawn_lands : (p : Board) (s : Sets) (q : Board) (origin : ℕ → ℕ) (m : Move) (man : Man) → IsClosed p s → Facts p s q origin → Step q m man → man.kind ≡ Pawn → Lands p s q origin m man
-unfolding goes
 pawn_lands p s q origin m man closed facts step pawn =
-    let a = is_step q m.from m.to in
-    let b = is_double_step q m.from m.to in
-    let c = is_pawn_capture q m.from m.to in
-    let d = is_en_passant q m.from m.to in
     let G : Kind → Type 0 = λ k. goes q k m.from m.to ≡ true in
-    let way : (a || b || c || d) ≡ true = subst G pawn step.may.goes in
-    elim (or_cases (a || b || c) d way) [
-      | inl x ↦ elim (or_cases (a || b) c x) [
-        | inl y ↦ elim (or_cases a b y) [
-          | inl z ↦ steps p s q origin m man closed facts step pawn z
-          | inr z ↦ doubles p s q origin m man closed facts step pawn z
-        ]
-        | inr y ↦ captures p s q origin m man closed facts step pawn y
-      ]
-      | inr x ↦ passes p s q origin m man closed facts step pawn x
+    elim (pawn_way q m.from m.to (subst G pawn step.may.goes)) [
+      | Steps h ↦ steps p s q origin m man closed facts step pawn h
+      | DoubleSteps h ↦ doubles p s q origin m man closed facts step pawn h
+      | Captures h ↦ captures p s q origin m man closed facts step pawn h
+      | Passes h ↦ passes p s q origin m man closed facts step pawn h
     ]

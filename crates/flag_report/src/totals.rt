@@ -28,6 +28,8 @@ pub fn position_summary(alloc: Global, s: &Summary) -> Result<Text, NoMemory>
     let bad = s.bad;
     let third = s.third;
     let undecided = s.undecided;
-    let line = format!(in alloc; "positions: {items}, refused: {bad}, dead: {third}, undecided: {undecided}\n")?;
+    let line = format!(in alloc;
+        "positions: {items}, refused: {bad}, dead: {third}, undecided: {undecided}\n"
+    )?;
     text_of(alloc, line.as_bytes())
 }

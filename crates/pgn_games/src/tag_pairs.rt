@@ -77,7 +77,7 @@ fn lost_on_time(value: &[u8]) -> bool
 
 /// Whether the Termination tag says that the game was lost on time.
 pub fn forfeited(termination: Option<&[u8]>) -> bool
-    ensures { result ≡ passes says_forfeit (option_copied termination) }
+    ensures { result ≡ passes says_forfeit (option_copied termination.entry) }
 {
     match termination {
         Some(value) => lost_on_time(value),
@@ -98,7 +98,7 @@ fn means_chess(value: &[u8]) -> bool
 
 /// Whether the Variant tag names another game than chess.
 pub fn other_game(variant: Option<&[u8]>) -> bool
-    ensures { result ≡ passes (λ value. not (says_chess value)) (option_copied variant) }
+    ensures { result ≡ passes (λ value. not (says_chess value)) (option_copied variant.entry) }
 {
     match variant {
         Some(value) => !means_chess(value),
@@ -109,7 +109,7 @@ pub fn other_game(variant: Option<&[u8]>) -> bool
 /// Where a game starts, by its FEN tag.
 #[tactic(auto, unfolding(crate::specs::Games::start_of))]
 pub fn started(fen: Option<&[u8]>) -> Position
-    ensures { result ≡ start_of (option_copied fen) }
+    ensures { result ≡ start_of (option_copied fen.entry) }
 {
     match fen {
         Some(value) => match read(value) {
@@ -131,7 +131,7 @@ fn first_position() -> Position
 /// The fault of a FEN tag.
 #[tactic(auto, unfolding(crate::specs::Games::start_fault))]
 pub fn start_refused(fen: Option<&[u8]>) -> Option<GameFault>
-    ensures { result ≡ start_fault (option_copied fen) }
+    ensures { result ≡ start_fault (option_copied fen.entry) }
 {
     match fen {
         Some(value) => match read(value) {

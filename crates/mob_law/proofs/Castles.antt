@@ -19,7 +19,7 @@ use Rattle.mob_law.specs.Closed.{Castles, IsClosed}
 use Rattle.mob_law.proofs.Facts.{Facts, FactsHold}
 use Rattle.mob_law.proofs.Standing.{loose_unfixed, empty_not_fixed}
 use Rattle.mob_law.proofs.Carry.{Comes, Carries, carried}
-use Rattle.mob_law.proofs.Ordinary.{apart_fixed, target_now}
+use Rattle.mob_law.proofs.OneMan.{apart_fixed, target_now}
 
 -- the square from which the man on u came, where a king has gone from `from` to `to` and its rook from i to j
 pub back_both : ℕ → ℕ → ℕ → ℕ → ℕ → ℕ
@@ -167,7 +167,7 @@ castling_carries p s q origin m man i j closed facts step c = record {
   long = λ d right. (
       let k = long_after q.rights m d right in
       (k.0, back_none m.from m.to i j (home_of d) (λ e. k.1.1 (sym e)) (c.homes d).0, back_none m.from m.to i j (home_of d - 4) (λ e. k.2.1 (sym e)) (c.homes d).2));
-  target = λ t here. target_now p s q origin m man (back_both m.from m.to i j) closed facts step (back_king m.from m.to i j m.to refl) t here;
+  target = λ t here. target_now p s q origin m man closed facts step (back_both m.from m.to i j) (back_king m.from m.to i j m.to refl) t here;
 }
 
 -- no rook castles to a home

@@ -13,7 +13,7 @@ use Rattle.mob_law.specs.Reach.{Sets}
 use Rattle.mob_law.specs.Closed.{IsClosed}
 use Rattle.mob_law.proofs.Facts.{Facts, FactsHold}
 use Rattle.mob_law.proofs.Carry.{carried}
-use Rattle.mob_law.proofs.Ordinary.{back, Lands, ordinary, ordinary_carries}
+use Rattle.mob_law.proofs.OneMan.{back, Lands, one_moved, one_carries}
 use Rattle.mob_law.proofs.Walkers.{walker_lands}
 use Rattle.mob_law.proofs.Pawns.{pawn_lands}
 use Rattle.mob_law.proofs.Castles.{short_held, long_held}
@@ -32,8 +32,8 @@ one_held : (p : Board) (s : Sets) (q : Board) (origin : ℕ → ℕ) (m : Move) 
     → castles_short q (man_at q.men m.from) m.from m.to ≡ false → castles_long q (man_at q.men m.from) m.from m.to ≡ false → FactsHold p s (after q m)
 one_held p s q origin m man closed facts step safe no_short no_long =
     let lands = one_lands p s q origin m man closed facts step safe no_short no_long in
-    let ord = ordinary p s q m man step no_short no_long lands.victim in
-    ((λ u. origin (back m.from m.to u)), carried p s q origin (after q m) (back m.from m.to) facts (ordinary_carries p s q origin m man closed facts step lands ord))
+    let ord = one_moved p s q m man step no_short no_long lands.victim in
+    ((λ u. origin (back m.from m.to u)), carried p s q origin (after q m) (back m.from m.to) facts (one_carries p s q origin m man closed facts step lands ord))
 
 -- a capture en passant is no castling, since a pawn is no king
 no_castling : (q : Board) (o : Option Man) (s t : ℕ) → captures_en_passant q o s t ≡ true → (castles_short q o s t ≡ false) × (castles_long q o s t ≡ false)

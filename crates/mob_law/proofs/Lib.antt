@@ -6,8 +6,9 @@ pub mod Attackers
 pub mod Standing
 pub mod Begin
 pub mod Carry
+pub mod KingSteps
 pub mod Mating
-pub mod Ordinary
+pub mod OneMan
 pub mod Walkers
 pub mod Pawns
 pub mod Castles

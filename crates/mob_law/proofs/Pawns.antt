@@ -19,7 +19,7 @@ use Rattle.mob_law.specs.Reach.{Sets, is_fixed}
 use Rattle.mob_law.specs.Closed.{Entry, Enters, PawnCaptures, IsClosed}
 use Rattle.mob_law.proofs.Facts.{Passed, AtFirst, JustNow, Facts}
 use Rattle.mob_law.proofs.Standing.{loose_unfixed, empty_not_fixed, origin_is_non_king, entry_of}
-use Rattle.mob_law.proofs.Ordinary.{Lands}
+use Rattle.mob_law.proofs.OneMan.{Lands}
 use Rattle.mob_law.proofs.Walkers.{enemy_there, spared}
 
 -- what a pawn that enters a square becomes there is in reach there

@@ -22,8 +22,8 @@ use Rattle.mob_law.proofs.Geometry.{near, king_aims, aims_at_self, leap_clear}
 use Rattle.mob_law.proofs.Kings.{king_is_one}
 use Rattle.mob_law.proofs.Attackers.{some_square, attacks_by, clear_near}
 use Rattle.mob_law.proofs.Standing.{fixed_stands, open_from, open_near, entry_of}
-use Rattle.mob_law.proofs.Mating.{step_plain}
-use Rattle.mob_law.proofs.Ordinary.{Lands}
+use Rattle.mob_law.proofs.KingSteps.{step_plain}
+use Rattle.mob_law.proofs.OneMan.{Lands}
 
 -- what may be entered and is not empty is an enemy other than a king
 pub enemy_there : (c : Color) (o : Option Man) → may_enter c o ≡ true → is_vacant o ≡ false → is_non_king (other_color c) o ≡ true

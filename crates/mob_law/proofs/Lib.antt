@@ -9,7 +9,7 @@ pub mod Carry
 pub mod KingSteps
 pub mod Mating
 pub mod OneMan
-pub mod Walkers
+pub mod Pieces
 pub mod Pawns
 pub mod Castles
 pub mod Keeping

@@ -22,9 +22,10 @@ use Rattle.mob_law.proofs.Carry.{Comes, Carries, carried}
 use Rattle.mob_law.proofs.OneMan.{apart_fixed, target_now}
 
 -- the square from which the man on u came, where a king has gone from `from` to `to` and its rook from i to j
-pub back_both : ℕ → ℕ → ℕ → ℕ → ℕ → ℕ
+back_both : ℕ → ℕ → ℕ → ℕ → ℕ → ℕ
 back_both from to i j u = cond (u == to) from (cond (u == j) i u)
 
+-- the king came from `from`, the rook from i, and each other from its own square
 back_king : (from to i j u : ℕ) → u ≡ to → back_both from to i j u ≡ from
 unfolding back_both
 back_king from to i j u e = rw (eq-eqb u to e) refl
@@ -61,6 +62,7 @@ data Source (from to i j u x : ℕ) : Type 0 where
   OfRook : u ≡ j → x ≡ i → Source from to i j u x
   OfOther : x ≡ u → u ≢ from → u ≢ i → Source from to i j u x
 
+-- `back_both` says from which
 source : (q : Board) (m : Move) (man : Man) (i j u : ℕ) (new : Man) → j ≢ m.to → Castled q m man i j u new → Source m.from m.to i j u (back_both m.from m.to i j u)
 source q m man i j u new jt (KingHere e a) = OfKing e (back_king m.from m.to i j u e)
 source q m man i j u new jt (RookHere e a) = OfRook e (back_rook m.from m.to i j u (λ f. jt (sym e ∙ f)) e)
@@ -82,8 +84,7 @@ one_source from to i j u v x y ne (OfOther a b c) (OfOther d f g) e = sym a ∙ 
 module _ (p : Board) (s : Sets) (q : Board) (origin : ℕ → ℕ) (m : Move) (man : Man) (closed : IsClosed p s) (facts : Facts p s q origin) (step : Step q m man)
     (i j : ℕ) (c : CastlingMove p s q origin m man i j) where
   -- each man after it stood somewhere before it, and is in reach where it stands
-  castled_comes : (u : ℕ) (new : Man) → Castled q m man i j u new
-      → Comes s q origin new u (back_both m.from m.to i j u)
+  castled_comes : (u : ℕ) (new : Man) → Castled q m man i j u new → Comes s q origin new u (back_both m.from m.to i j u)
   castled_comes u new (KingHere e arrives) =
       let one = king_stays q m man new step c.king arrives in
       let kind : King ≡ new.kind = sym c.king ∙ ap (λ (x : Man). x.kind) one in
@@ -140,9 +141,8 @@ module _ (p : Board) (s : Sets) (q : Board) (origin : ℕ → ℕ) (m : Move) (m
   castled_second u new d color kind (Others nf nt ni nj stays) =
       (is_man_from (man_at q.men u) new d Pawn stays color kind, back_none m.from m.to i j u nt nj)
 
-  -- a fixed square is none of the four
-  castled_fixed : (f : ℕ) → is_fixed p s f ≡ true
-      → (man_at (men_after q m) f ≡ man_at q.men f) × (back_both m.from m.to i j f ≡ f)
+  -- a fixed square is none of the four that king and rook leave and enter
+  castled_fixed : (f : ℕ) → is_fixed p s f ≡ true → (man_at (men_after q m) f ≡ man_at q.men f) × (back_both m.from m.to i j f ≡ f)
   castled_fixed f h =
       let nf = apart_fixed p s m.from f (loose_unfixed p s m.from c.castles.king_leaves) h in
       let ni = apart_fixed p s i f (loose_unfixed p s i c.castles.rook_leaves) h in

@@ -27,7 +27,7 @@ no_castling q o s t passes =
 
 -- A legal move at a position where the facts hold:
 module _ (p : Board) (s : Sets) (q : Board) (origin : ℕ → ℕ) (m : Move) (man : Man) (closed : IsClosed p s) (facts : Facts p s q origin) (step : Step q m man) (safe : in_check (men_after q m) q.side ≡ false) where
-  -- what a move of one man needs, a pawn or another
+  -- a move of one man, of a pawn or of another man, lands as the facts need it
   one_lands : castles_short q (man_at q.men m.from) m.from m.to ≡ false → castles_long q (man_at q.men m.from) m.from m.to ≡ false → Lands p s q origin m man
   one_lands no_short no_long =
       elim (cases_Bool (same_kind man.kind Pawn)) [
@@ -39,10 +39,10 @@ module _ (p : Board) (s : Sets) (q : Board) (origin : ℕ → ℕ) (m : Move) (m
   one_held : castles_short q (man_at q.men m.from) m.from m.to ≡ false → castles_long q (man_at q.men m.from) m.from m.to ≡ false → FactsHold p s (after q m)
   one_held no_short no_long =
       let lands = one_lands no_short no_long in
-      let ord = one_moved p s q m man step no_short no_long lands.victim in
-      ((λ u. origin (back m.from m.to u)), carried p s q origin (after q m) (back m.from m.to) facts (one_carries p s q origin m man closed facts step lands ord))
+      let moved = one_moved p s q m man step no_short no_long lands.victim in
+      ((λ u. origin (back m.from m.to u)), carried p s q origin (after q m) (back m.from m.to) facts (one_carries p s q origin m man closed facts step lands moved))
 
-  -- each kind of move does
+  -- and so does each kind of move: of one man, en passant, and the two castlings
   held_after : FactsHold p s (after q m)
   held_after =
       elim (makes q m) [

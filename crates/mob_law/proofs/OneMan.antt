@@ -24,6 +24,7 @@ use Rattle.mob_law.proofs.Carry.{Comes, Carries}
 pub back : ℕ → ℕ → ℕ → ℕ
 back from to u = cond (u == to) from u
 
+-- the man on `to` came from `from`, and each other from its own square
 pub back_to : (from to u : ℕ) → u ≡ to → back from to u ≡ from
 unfolding back
 back_to from to u e = rw (eq-eqb u to e) refl
@@ -140,8 +141,7 @@ module _ (p : Board) (s : Sets) (q : Board) (origin : ℕ → ℕ) (m : Move) (m
       both_ways (s.loose m.from) (fixed_stands p s m.from h').1 loose
 
   -- each man after the move stood somewhere before it, and is in reach where it stands
-  one_comes : (u : ℕ) (new : Man)
-      → OneMoved q m man u new → Comes s q origin new u (back m.from m.to u)
+  one_comes : (u : ℕ) (new : Man) → OneMoved q m man u new → Comes s q origin new u (back m.from m.to u)
   one_comes u new (inl (e, arrives)) =
       let at : back m.from m.to u ≡ m.from = back_to m.from m.to u e in
       let is = arrived_is q.side man new m.to m.promotion step.may.well arrives in

@@ -54,7 +54,7 @@ victim_rank : (q : Board) (c : Color) (t : ℕ) → Target q.men c t → rank_of
 victim_rank q White t target e = (let rank : t / 8 ≡ 5 = target.rank in let there : (t - 8) / 8 ≡ 6 = e in omega (arith, rank, there))
 victim_rank q Black t target e = (let rank : t / 8 ≡ 2 = target.rank in let there : (t + 8) / 8 ≡ 1 = e in omega (arith, rank, there))
 
--- the squares of one file are no files apart
+-- squares of one file are 0 files apart
 one_file : (s t : ℕ) → s % 8 ≡ t % 8 → files_apart s t ≡ 0
 unfolding files_apart
 one_file s t e = omega arith
@@ -67,7 +67,7 @@ record EnPassant (p : Board) (s : Sets) (q : Board) (origin : ℕ → ℕ) (m : 
 
 -- A pawn's move at a position where the facts hold:
 module _ (p : Board) (s : Sets) (q : Board) (origin : ℕ → ℕ) (m : Move) (man : Man) (closed : IsClosed p s) (facts : Facts p s q origin) (step : Step q m man) (pawn : man.kind ≡ Pawn) where
-  -- the pawn, as an entry
+  -- the pawn is an entry, by the fact that each man is in reach where it stands
   pawn_mover : PawnMover p s q origin m man
   pawn_mover =
       let from = facts.each m.from man step.may.found in
@@ -86,8 +86,8 @@ module _ (p : Board) (s : Sets) (q : Board) (origin : ℕ → ℕ) (m : Move) (m
       let A : Color → Type 0 = λ c. aims_at c Pawn m.from m.to ≡ true in
       subst C mover.color (closed.pawns_capture (origin m.from) mover.first m.from m.to mover.entry (subst A (sym mover.color) aims))
 
-  -- at the first position the rule for the target gives it; later the pawn that has just passed over the square is in reach
-  -- there as an enemy, and it is not fixed, since it has left its second rank
+  -- a capture en passant gives this: at the first position by the rule for the target; later because the pawn
+  -- that has just passed over the square is in reach there as an enemy, and is not fixed, since it has left its second rank
   passes_by : PawnCaptures p s (origin m.from) q.side m.from m.to
       → is_man (other_color q.side) Pawn (man_at q.men (victim_of q.side m.to)) ≡ true → is_fixed p s m.to ≡ false → rank_of (victim_of q.side m.to) ≢ second_rank (other_color q.side)
       → Passed p s q origin m.to → EnPassant p s q origin m
@@ -111,7 +111,7 @@ module _ (p : Board) (s : Sets) (q : Board) (origin : ℕ → ℕ) (m : Move) (m
         victim = false_from_ne_true (is_fixed p s v) (λ f. rank (let own = (facts.fixed v f).1 in rw own at second));
       }
 
-  -- each capture en passant is one of these
+  -- which of the two it is, the fact on the target says
   passes_of : is_en_passant q m.from m.to ≡ true → EnPassant p s q origin m
   unfolding is_en_passant
   passes_of h =
@@ -120,7 +120,7 @@ module _ (p : Board) (s : Sets) (q : Board) (origin : ℕ → ℕ) (m : Move) (m
       let takes = captures_of both.0 in
       passes_by takes target.pawn (empty_not_fixed p s q origin facts m.to target.free) (victim_rank q q.side m.to target) (facts.target m.to both.1)
 
-  -- a pawn that enters a square that is not fixed
+  -- a pawn that enters a square, which is not fixed, lands there as the facts need it
   lands_by : is_fixed p s m.to ≡ false → Enters p s (origin m.from) q.side m.from m.to → Lands p s q origin m man
   lands_by free enters = record {
     unfixed = free;
@@ -129,7 +129,7 @@ module _ (p : Board) (s : Sets) (q : Board) (origin : ℕ → ℕ) (m : Move) (m
     victim = λ h. (passes_of (and_parts (is_man q.side Pawn (man_at q.men m.from)) (is_en_passant q m.from m.to) h).1).victim;
   }
 
-  -- a step
+  -- a step: its square is empty, so not fixed, and the pawn enters it
   steps : is_step q m.from m.to ≡ true → Lands p s q origin m man
   steps h =
       let tests = step_tests q m.from m.to h in
@@ -140,7 +140,7 @@ module _ (p : Board) (s : Sets) (q : Board) (origin : ℕ → ℕ) (m : Move) (m
       lands_by free
           (subst E mover.color (closed.pawns_step (origin m.from) mover.first m.from m.to mover.entry tests.0 (subst A (sym mover.color) tests.1) free))
 
-  -- a double step
+  -- a double step: both squares are empty, so not fixed, and the pawn enters the second
   doubles : is_double_step q m.from m.to ≡ true → Lands p s q origin m man
   doubles h =
       let d = double_step q m.from m.to h in
@@ -153,7 +153,7 @@ module _ (p : Board) (s : Sets) (q : Board) (origin : ℕ → ℕ) (m : Move) (m
       lands_by free
           (subst E mover.color (closed.pawns_double_step (origin m.from) mover.first m.from m.to mover.entry (one_file m.from m.to d.file) (subst B (sym mover.color) d.begins) (subst F (sym mover.color) d.ends) over free))
 
-  -- a capture: what stands there is an enemy in reach, and no fixed one
+  -- a capture: what stands there is an enemy, in reach there, and not a fixed one
   captures_at : aims_at q.side Pawn m.from m.to ≡ true → is_empty q.men m.to ≡ false
       → (o : Option Man) → man_at q.men m.to ≡ o → Lands p s q origin m man
   captures_at aims full None there = absurd (both_ways (is_empty q.men m.to) full (rw there refl))
@@ -169,14 +169,13 @@ module _ (p : Board) (s : Sets) (q : Board) (origin : ℕ → ℕ) (m : Move) (m
       lands_by free
           (takes.captures free (record { origin = origin m.to; man = from.first; kind = enemy.kind; stood = from.stood; enemy = enemy_first; reach = from.reach }))
 
-  -- so is each capture
   captures : is_pawn_capture q m.from m.to ≡ true → Lands p s q origin m man
   unfolding is_pawn_capture
   captures h =
       let both = and_parts (aims_at q.side Pawn m.from m.to) (not (is_empty q.men m.to)) h in
       captures_at both.0 (not-true (is_empty q.men m.to) both.1) (man_at q.men m.to) refl
 
-  -- a capture en passant
+  -- a capture en passant: the pawn enters the square passed over
   passes : is_en_passant q m.from m.to ≡ true → Lands p s q origin m man
   passes h =
       let x = passes_of h in

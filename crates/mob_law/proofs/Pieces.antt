@@ -32,6 +32,7 @@ enemy_there c (Some man) enter full =
     let both = and_parts (not (same_color man.color c)) (not (same_kind man.kind King)) enter in
     and_from (same_color man.color (other_color c)) (not (same_kind man.kind King)) (other_color_of man.color c (not-true (same_color man.color c) both.0)) both.1
 
+-- At a position where the facts hold:
 module _ (p : Board) (s : Sets) (q : Board) (origin : ℕ → ℕ) (facts : Facts p s q origin) where
   -- where no fixed enemy stands, a square that may be entered is not fixed
   pub spared : (c : Color) (t : ℕ) → may_enter c (man_at q.men t) ≡ true → has_fixed_enemy p s c t ≡ false → is_fixed p s t ≡ false
@@ -60,6 +61,7 @@ guard_of p s c t f (Some man) found fixed h =
     let two = and_parts (same_color man.color c) (aims_at c man.kind f t) all.0 in
     record { man = man; fixed = fixed; found = found; own = two.0; aims = two.1; leap = all.1 }
 
+-- a guarded square has a guard
 some_guard : (p : Board) (s : Sets) (c : Color) (t : ℕ) → is_guarded p s c t ≡ true → (f : ℕ) × (f < 64) × Guard p s c t f
 unfolding is_guarded guards_from
 some_guard p s c t h =
@@ -74,7 +76,7 @@ record Way (p : Board) (s : Sets) (q : Board) (m : Move) (man : Man) : Type 0 wh
   open_way : is_open p s m.from m.to ≡ true
 
 -- only a pawn captures en passant
-pub no_pawn_passes : (q : Board) (o : Option Man) (man : Man) (s t : ℕ) → o ≡ Some man → same_kind man.kind Pawn ≡ false → captures_en_passant q o s t ≡ true → ⊥
+no_pawn_passes : (q : Board) (o : Option Man) (man : Man) (s t : ℕ) → o ≡ Some man → same_kind man.kind Pawn ≡ false → captures_en_passant q o s t ≡ true → ⊥
 no_pawn_passes q o man s t found other h =
     let pawn = man_of o q.side Pawn (and_parts (is_man q.side Pawn o) (is_en_passant q s t) h).0 in
     let one = some_inj pawn.man man (sym pawn.found ∙ found) in

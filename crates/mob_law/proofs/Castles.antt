@@ -148,9 +148,10 @@ module _ (p : Board) (s : Sets) (q : Board) (origin : ℕ → ℕ) (m : Move) (m
       let ni = apart_fixed p s i f (loose_unfixed p s i c.castles.rook_leaves) h in
       let nt = apart_fixed p s m.to f c.to_free h in
       let nj = apart_fixed p s j f c.rook_free h in
-      let a = arriving (man_at q.men m.from) m.promotion in
-      (ap (λ (xs : List (Option Man)). man_at xs f) c.move.men ∙ moved_other (men_moved q m) i j (rook_of q.side) f ni nj ∙ moved_other q.men m.from m.to a f nf nt,
-          back_none m.from m.to i j f nt nj)
+      let a = arriving (man_at q.men m.from) m.promotion in (
+        ap (λ (xs : List (Option Man)). man_at xs f) c.move.men ∙ moved_other (men_moved q m) i j (rook_of q.side) f ni nj ∙ moved_other q.men m.from m.to a f nf nt,
+        back_none m.from m.to i j f nt nj,
+      )
 
   -- so a castling carries the facts along
   castling_carries : Carries p s q origin (after q m) (back_both m.from m.to i j)
@@ -158,7 +159,7 @@ module _ (p : Board) (s : Sets) (q : Board) (origin : ℕ → ℕ) (m : Move) (m
   castling_carries = record {
     comes = λ u new found. castled_comes u new (castled q m man i j step c.move u new found);
     apart = λ u v new other found found' same. one_source m.from m.to i j u v (back_both m.from m.to i j u) (back_both m.from m.to i j v) c.move.i_from
-      (source q m man i j u new c.move.j_to (castled q m man i j step c.move u new found)) (source q m man i j v other c.move.j_to (castled q m man i j step c.move v other found')) same;
+        (source q m man i j u new c.move.j_to (castled q m man i j step c.move u new found)) (source q m man i j v other c.move.j_to (castled q m man i j step c.move v other found')) same;
     fixed = λ f h. castled_fixed f h;
     second = λ u d pawn rank. (
         let k = man_of (man_at (men_after q m) u) d Pawn pawn in

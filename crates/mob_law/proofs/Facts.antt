@@ -24,7 +24,7 @@ pub record ComesFrom (p : Board) (s : Sets) (man : Man) (u o : ℕ) : Type 0 whe
 pub data Passed (p : Board) (s : Sets) (q : Board) (origin : ℕ → ℕ) (t : ℕ) : Type 0 where
   AtFirst : is_target p.target t ≡ true → q.side ≡ p.side → Passed p s q origin t
   JustNow : rank_of (origin (victim_of q.side t)) ≡ second_rank (other_color q.side)
-    → s.has (origin (victim_of q.side t)) Pawn t ≡ true → Passed p s q origin t
+      → s.has (origin (victim_of q.side t)) Pawn t ≡ true → Passed p s q origin t
 
 -- The six facts of a position q that moves have reached from p. Of each square with a man, `origin` says on which square of
 -- p that man stood; of empty squares it says nothing.
@@ -40,9 +40,9 @@ pub record Facts (p : Board) (s : Sets) (q : Board) (origin : ℕ → ℕ) : Typ
   pub second : (u : ℕ) (c : Color) → is_man c Pawn (man_at q.men u) ≡ true → rank_of u ≡ second_rank c → origin u ≡ u
   -- 5: a right to castle was there at first, and its king and its rook have not moved: on the king's side, on the queen's
   pub short : (c : Color) → has_short_right q.rights c ≡ true
-    → (has_short_right p.rights c ≡ true) × (origin (home_of c) ≡ home_of c) × (origin (home_of c + 3) ≡ home_of c + 3)
+      → (has_short_right p.rights c ≡ true) × (origin (home_of c) ≡ home_of c) × (origin (home_of c + 3) ≡ home_of c + 3)
   pub long : (c : Color) → has_long_right q.rights c ≡ true
-    → (has_long_right p.rights c ≡ true) × (origin (home_of c) ≡ home_of c) × (origin (home_of c - 4) ≡ home_of c - 4)
+      → (has_long_right p.rights c ≡ true) × (origin (home_of c) ≡ home_of c) × (origin (home_of c - 4) ≡ home_of c - 4)
   -- 6: a target is the first position's, or a pawn has just passed over it
   pub target : (t : ℕ) → is_target q.target t ≡ true → Passed p s q origin t
 

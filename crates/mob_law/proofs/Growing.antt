@@ -45,10 +45,10 @@ module _ (p : Board) (s r : Sets) (within : Within s r) where
   unfolding is_open_through
   open_through_grows k u t h =
       all_weaker (λ v. (v == k) || not (is_fixed p s v)) (λ v. (v == k) || not (is_fixed p r v)) (between u t) (λ v free.
-          elim (or_cases (v == k) (not (is_fixed p s v)) free) [
-            | inl x ↦ or_left (v == k) (not (is_fixed p r v)) x
-            | inr x ↦ or_right (v == k) (not (is_fixed p r v)) (ap not (free_grows v (not-true (is_fixed p s v) x)))
-          ]) h
+      elim (or_cases (v == k) (not (is_fixed p s v)) free) [
+        | inl x ↦ or_left (v == k) (not (is_fixed p r v)) x
+        | inr x ↦ or_right (v == k) (not (is_fixed p r v)) (ap not (free_grows v (not-true (is_fixed p s v) x)))
+      ]) h
 
   -- what is not guarded stays unguarded
   pub guard_shrinks : (c : Color) (t : ℕ) → is_guarded p s c t ≡ false → is_guarded p r c t ≡ false
@@ -112,7 +112,7 @@ module _ (p : Board) (s r : Sets) (within : Within s r) (closed : IsClosed p r) 
       → (same_kind k King ≡ true → is_guarded p s (other_color man.color) t ≡ false) → PieceGoes p r o man.color k u t
   piece_forced o man k u t entry other aims open_way unguarded =
       closed.pieces_move o man k u t (entry_grows p s r within o man k u t entry) other aims (open_grows p s r within u t open_way)
-          (λ king. guard_shrinks p s r within (other_color man.color) t (unguarded king))
+      (λ king. guard_shrinks p s r within (other_color man.color) t (unguarded king))
 
   -- the same of a pawn's step
   pub step_forced : (o : ℕ) (man : Man) (u t : ℕ) → Entry p s o man Pawn u t → files_apart u t ≡ 0 → is_rank_ahead man.color u t ≡ true → is_fixed p s t ≡ false

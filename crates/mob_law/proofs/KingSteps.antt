@@ -25,8 +25,8 @@ king_may q m man o found color kind plain enter step =
     let well : promotes_well q.side man.kind m.to m.promotion ≡ true = rw (kind, plain) refl in
     let own : same_color man.color q.side ≡ true = rw color (same_color_self q.side) in
     subst P (sym found) (and_from (same_color man.color q.side && may_enter q.side (man_at q.men m.to) && goes q man.kind m.from m.to) (promotes_well q.side man.kind m.to m.promotion)
-        (and_from (same_color man.color q.side && may_enter q.side (man_at q.men m.to)) (goes q man.kind m.from m.to)
-            (and_from (same_color man.color q.side) (may_enter q.side (man_at q.men m.to)) own enter) way) well)
+    (and_from (same_color man.color q.side && may_enter q.side (man_at q.men m.to)) (goes q man.kind m.from m.to)
+    (and_from (same_color man.color q.side) (may_enter q.side (man_at q.men m.to)) own enter) way) well)
 
 -- a king's step of one square moves one man
 pub step_plain : (q : Board) (m : Move) → is_man q.side King (man_at q.men m.from) ≡ true → (steps_apart m.from m.to == 1) ≡ true → men_after q m ≡ men_moved q m

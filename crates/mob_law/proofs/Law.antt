@@ -27,7 +27,7 @@ module _ (p : Board) (s : Sets) (w : Color) (closed : IsClosed p s) (none : HasN
   never q (m ∷ rest) valid held line =
       let found = is_listed q m line.0 in
       never (after q m) rest (after_is_valid q m valid found.from found.to found.legal)
-          (facts_kept p s q m closed valid found.from found.to found.legal held) line.1
+      (facts_kept p s q m closed valid found.from found.to found.legal held) line.1
 
 -- the facts hold at the first position, and so the law
 pub bounded : (p : Board) (s : Sets) (w : Color) → IsValid p → IsClosed p s → HasNoMate p s w → IsUnwinnable p w

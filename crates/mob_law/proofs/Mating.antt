@@ -96,7 +96,7 @@ module _ (p : Board) (s : Sets) (q : Board) (w : Color) (origin : ℕ → ℕ) (
         loser_small = loser_small;
         winner_small = winner_small;
         far = false_from_ne_true (steps_apart (loser_on q w) (winner_on q w) == 1) (λ step.
-          kings_far q w (loser_on q w) (winner_on q w) loser_small winner_small refl safe' loser_is step);
+            kings_far q w (loser_on q w) (winner_on q w) loser_small winner_small refl safe' loser_is step);
       }
 
 -- With the two kings:
@@ -225,7 +225,7 @@ module _ (p : Board) (s : Sets) (q : Board) (w : Color) (origin : ℕ → ℕ) (
   covered_at None there =
       let color = st.loser.color ∙ sym scene.mate.to_move in
       covered_from
-          (king_may q (hop q w n) st.loser.man (man_at q.men (loser_on q w)) st.loser.found color st.loser.kind refl (rw there refl) step)
+      (king_may q (hop q w n) st.loser.man (man_at q.men (loser_on q w)) st.loser.found color st.loser.kind refl (rw there refl) step)
   covered_at (Some man) there =
       let side = scene.mate.to_move in
       elim (cases_Bool (same_kind man.kind King)) [
@@ -238,7 +238,7 @@ module _ (p : Board) (s : Sets) (q : Board) (w : Color) (origin : ℕ → ℕ) (
               let M : Option Man → Type 0 = λ x. may_enter (other_color w) x ≡ true in
               let enter = subst E (sym side) (subst M (sym there) (may_enter_enemy (other_color w) man enemy h)) in
               covered_from
-                  (king_may q (hop q w n) st.loser.man (man_at q.men (loser_on q w)) st.loser.found color st.loser.kind refl enter step))
+              (king_may q (hop q w n) st.loser.man (man_at q.men (loser_on q w)) st.loser.found color st.loser.kind refl enter step))
         ]
       ]
 
@@ -250,14 +250,17 @@ mate_threatens p s q w valid held mate =
     let st = stand p s q w origin scene in
     let c = checker p s q w origin scene st in
     let k = loser_on q w in
-    let h = winner_on q w in
-    (k, h, record {
-      loser = king_on p s q origin held.1 valid (other_color w) k st.loser_is;
-      winner = king_on p s q origin held.1 valid w h st.winner_is;
-      distinct = λ e. not_of_other (other_color w) King (man_at q.men k) st.loser.man st.loser.found (let color = st.loser.color in rw color (same_color_self (other_color w))) (rw (other_other, ← e) st.winner_is);
-      far = st.far;
-      kind = c.man.kind;
-      square = c.square;
-      checks = c.checks;
-      covered = λ n small step. covered_at p s q w origin scene st c n small step (man_at q.men n) refl;
-    })
+    let h = winner_on q w in (
+      k,
+      h,
+      record {
+        loser = king_on p s q origin held.1 valid (other_color w) k st.loser_is;
+        winner = king_on p s q origin held.1 valid w h st.winner_is;
+        distinct = λ e. not_of_other (other_color w) King (man_at q.men k) st.loser.man st.loser.found (let color = st.loser.color in rw color (same_color_self (other_color w))) (rw (other_other, ← e) st.winner_is);
+        far = st.far;
+        kind = c.man.kind;
+        square = c.square;
+        checks = c.checks;
+        covered = λ n small step. covered_at p s q w origin scene st c n small step (man_at q.men n) refl;
+      },
+    )

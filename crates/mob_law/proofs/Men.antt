@@ -38,4 +38,3 @@ is_non_king_from c man own other = and_from (same_color man.color c) (not (same_
 -- an enemy that is no king may be captured
 pub may_enter_enemy : (c : Color) (man : Man) → same_color man.color c ≡ false → same_kind man.kind King ≡ false → may_enter c (Some man) ≡ true
 may_enter_enemy c man enemy other = and_from (not (same_color man.color c)) (not (same_kind man.kind King)) (ap not enemy) (ap not other)
-

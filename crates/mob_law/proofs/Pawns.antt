@@ -32,7 +32,7 @@ pawn_reach p s o c u t man new None enters pawn well arrives =
     elim (promoted c man.kind t None well) [
       | inl x ↦ cc
       | inr x ↦ subst P kind (enters.stays (false_from_ne_true (rank_of t == last_rank c) (λ last.
-        both_ways (same_kind man.kind Pawn && (rank_of t == last_rank c)) x.1 (and_from (same_kind man.kind Pawn) (rank_of t == last_rank c) is last))))
+          both_ways (same_kind man.kind Pawn && (rank_of t == last_rank c)) x.1 (and_from (same_kind man.kind Pawn) (rank_of t == last_rank c) is last))))
     ]
 pawn_reach p s o c u t man new (Some k) enters pawn well arrives =
     let late : Man = record { color = man.color; kind = k } in
@@ -103,8 +103,8 @@ module _ (p : Board) (s : Sets) (q : Board) (origin : ℕ → ℕ) (m : Move) (m
       let other : same_kind k.man.kind King ≡ false = (let e = k.kind in rw e refl) in
       let first = facts.each v k.man k.found in
       let enemy : is_non_king (other_color q.side) (Some first.first) ≡ true =
-          (let P : Option Man → Type 0 = λ x. is_non_king (other_color q.side) x ≡ true in
-          subst P first.stood (origin_is_non_king p s q origin facts (other_color q.side) v k.man k.found (rw color (same_color_self (other_color q.side))) other)) in
+      (let P : Option Man → Type 0 = λ x. is_non_king (other_color q.side) x ≡ true in
+      subst P first.stood (origin_is_non_king p s q origin facts (other_color q.side) v k.man k.found (rw color (same_color_self (other_color q.side))) other)) in
       record {
         enters = takes.captures free (record { origin = origin v; man = first.first; kind = Pawn; stood = first.stood; enemy = enemy; reach = reach });
         unfixed = free;
@@ -138,7 +138,7 @@ module _ (p : Board) (s : Sets) (q : Board) (origin : ℕ → ℕ) (m : Move) (m
       let A : Color → Type 0 = λ c. is_rank_ahead c m.from m.to ≡ true in
       let E : Color → Type 0 = λ c. Enters p s (origin m.from) c m.from m.to in
       lands_by free
-          (subst E mover.color (closed.pawns_step (origin m.from) mover.first m.from m.to mover.entry tests.0 (subst A (sym mover.color) tests.1) free))
+      (subst E mover.color (closed.pawns_step (origin m.from) mover.first m.from m.to mover.entry tests.0 (subst A (sym mover.color) tests.1) free))
 
   -- a double step: both squares are empty, so not fixed, and the pawn enters the second
   doubles : is_double_step q m.from m.to ≡ true → Lands p s q origin m man
@@ -151,7 +151,7 @@ module _ (p : Board) (s : Sets) (q : Board) (origin : ℕ → ℕ) (m : Move) (m
       let F : Color → Type 0 = λ c. rank_of m.to ≡ fourth_rank c in
       let E : Color → Type 0 = λ c. Enters p s (origin m.from) c m.from m.to in
       lands_by free
-          (subst E mover.color (closed.pawns_double_step (origin m.from) mover.first m.from m.to mover.entry (one_file m.from m.to d.file) (subst B (sym mover.color) d.begins) (subst F (sym mover.color) d.ends) over free))
+      (subst E mover.color (closed.pawns_double_step (origin m.from) mover.first m.from m.to mover.entry (one_file m.from m.to d.file) (subst B (sym mover.color) d.begins) (subst F (sym mover.color) d.ends) over free))
 
   -- a capture: what stands there is an enemy, in reach there, and not a fixed one
   captures_at : aims_at q.side Pawn m.from m.to ≡ true → is_empty q.men m.to ≡ false
@@ -165,9 +165,9 @@ module _ (p : Board) (s : Sets) (q : Board) (origin : ℕ → ℕ) (m : Move) (m
       let parts = and_parts (same_color enemy.color (other_color q.side)) (not (same_kind enemy.kind King)) foe in
       let from = facts.each m.to enemy there in
       let enemy_first : is_non_king (other_color q.side) (Some from.first) ≡ true =
-          subst N from.stood (origin_is_non_king p s q origin facts (other_color q.side) m.to enemy there parts.0 (not-true (same_kind enemy.kind King) parts.1)) in
+      subst N from.stood (origin_is_non_king p s q origin facts (other_color q.side) m.to enemy there parts.0 (not-true (same_kind enemy.kind King) parts.1)) in
       lands_by free
-          (takes.captures free (record { origin = origin m.to; man = from.first; kind = enemy.kind; stood = from.stood; enemy = enemy_first; reach = from.reach }))
+      (takes.captures free (record { origin = origin m.to; man = from.first; kind = enemy.kind; stood = from.stood; enemy = enemy_first; reach = from.reach }))
 
   captures : is_pawn_capture q m.from m.to ≡ true → Lands p s q origin m man
   unfolding is_pawn_capture

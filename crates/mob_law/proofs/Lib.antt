@@ -15,3 +15,4 @@ pub mod Castles
 pub mod Keeping
 pub mod Law
 pub mod Growing
+pub mod Widest

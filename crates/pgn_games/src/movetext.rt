@@ -115,7 +115,10 @@ fn add_word(alloc: Global, depth: usize, placed: &Placed, words: &mut Words) -> 
         ≡ take 12001 (words.old ++ (filter_map (λ t. move_word t.token) (outside_at depth placed.now) ++ rest))) }
     ensures few { OnOk result (length words.new ≤ 12001) }
 {
-    if depth > 0 || words.items().len() == KEPT {
+    if depth > 0 {
+        return Ok(());
+    }
+    if words.items().len() == KEPT {
         return Ok(());
     }
     match word_in(&placed.token) {

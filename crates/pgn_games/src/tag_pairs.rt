@@ -1,6 +1,7 @@
 //! What the tag pairs of a game say.
 
 ghost use Rattle.std.specs.Prelude.{◌≡◌, not};
+ghost use Rattle.std.specs.List.{list_any};
 ghost use Rattle.std.specs.Option.{option_copied};
 ghost use Rattle.std.specs.Str.{str_eq_ignore_ascii_case};
 ghost use Rattle.pgn_games.specs.Fields.{value_named, tag_value, is_cut, says_forfeit, says_chess, passes};
@@ -46,13 +47,20 @@ pub fn value_of<'a>(name: &[u8], slice: &'a [Placed]) -> Option<&'a [u8]>
 
 /// Whether the value of a tag pair is longer than what is kept of it.
 #[tactic(auto, unfolding(crate::specs::Fields::is_cut))]
-pub fn was_cut(token: &Token) -> bool
+fn was_cut(token: &Token) -> bool
     ensures { result ≡ is_cut token.now }
 {
     match token {
         Token::Tag { cut, .. } => *cut,
         _ => false,
     }
+}
+
+/// Whether some value is longer than what is kept of it.
+pub fn some_cut(slice: &[Placed]) -> bool
+    ensures { result ≡ list_any (λ t. is_cut t.token) slice.now }
+{
+    slice.iter().any(|placed| was_cut(&placed.token))
 }
 
 /// Whether two texts are the same but for the case of ASCII letters.

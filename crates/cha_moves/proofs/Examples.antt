@@ -54,14 +54,14 @@ bK = Some (record { color = Black; kind = King })
 abbrev opening : Board
 opening = record {
   men =
-    wR ∷ wN ∷ wB ∷ wQ ∷ wK ∷ wB ∷ wN ∷ wR ∷
-    wP ∷ wP ∷ wP ∷ wP ∷ wP ∷ wP ∷ wP ∷ wP ∷
-    __ ∷ __ ∷ __ ∷ __ ∷ __ ∷ __ ∷ __ ∷ __ ∷
-    __ ∷ __ ∷ __ ∷ __ ∷ __ ∷ __ ∷ __ ∷ __ ∷
-    __ ∷ __ ∷ __ ∷ __ ∷ __ ∷ __ ∷ __ ∷ __ ∷
-    __ ∷ __ ∷ __ ∷ __ ∷ __ ∷ __ ∷ __ ∷ __ ∷
-    bP ∷ bP ∷ bP ∷ bP ∷ bP ∷ bP ∷ bP ∷ bP ∷
-    bR ∷ bN ∷ bB ∷ bQ ∷ bK ∷ bB ∷ bN ∷ bR ∷ [];
+      wR ∷ wN ∷ wB ∷ wQ ∷ wK ∷ wB ∷ wN ∷ wR ∷
+      wP ∷ wP ∷ wP ∷ wP ∷ wP ∷ wP ∷ wP ∷ wP ∷
+      __ ∷ __ ∷ __ ∷ __ ∷ __ ∷ __ ∷ __ ∷ __ ∷
+      __ ∷ __ ∷ __ ∷ __ ∷ __ ∷ __ ∷ __ ∷ __ ∷
+      __ ∷ __ ∷ __ ∷ __ ∷ __ ∷ __ ∷ __ ∷ __ ∷
+      __ ∷ __ ∷ __ ∷ __ ∷ __ ∷ __ ∷ __ ∷ __ ∷
+      bP ∷ bP ∷ bP ∷ bP ∷ bP ∷ bP ∷ bP ∷ bP ∷
+      bR ∷ bN ∷ bB ∷ bQ ∷ bK ∷ bB ∷ bN ∷ bR ∷ [];
   side = White;
   rights = record { white_king = true; white_queen = true; black_king = true; black_queen = true };
   target = None;
@@ -75,14 +75,14 @@ twenty_moves = refl
 abbrev kiwipete : Board
 kiwipete = record {
   men =
-    wR ∷ __ ∷ __ ∷ __ ∷ wK ∷ __ ∷ __ ∷ wR ∷
-    wP ∷ wP ∷ wP ∷ wB ∷ wB ∷ wP ∷ wP ∷ wP ∷
-    __ ∷ __ ∷ wN ∷ __ ∷ __ ∷ wQ ∷ __ ∷ bP ∷
-    __ ∷ bP ∷ __ ∷ __ ∷ wP ∷ __ ∷ __ ∷ __ ∷
-    __ ∷ __ ∷ __ ∷ wP ∷ wN ∷ __ ∷ __ ∷ __ ∷
-    bB ∷ bN ∷ __ ∷ __ ∷ bP ∷ bN ∷ bP ∷ __ ∷
-    bP ∷ __ ∷ bP ∷ bP ∷ bQ ∷ bP ∷ bB ∷ __ ∷
-    bR ∷ __ ∷ __ ∷ __ ∷ bK ∷ __ ∷ __ ∷ bR ∷ [];
+      wR ∷ __ ∷ __ ∷ __ ∷ wK ∷ __ ∷ __ ∷ wR ∷
+      wP ∷ wP ∷ wP ∷ wB ∷ wB ∷ wP ∷ wP ∷ wP ∷
+      __ ∷ __ ∷ wN ∷ __ ∷ __ ∷ wQ ∷ __ ∷ bP ∷
+      __ ∷ bP ∷ __ ∷ __ ∷ wP ∷ __ ∷ __ ∷ __ ∷
+      __ ∷ __ ∷ __ ∷ wP ∷ wN ∷ __ ∷ __ ∷ __ ∷
+      bB ∷ bN ∷ __ ∷ __ ∷ bP ∷ bN ∷ bP ∷ __ ∷
+      bP ∷ __ ∷ bP ∷ bP ∷ bQ ∷ bP ∷ bB ∷ __ ∷
+      bR ∷ __ ∷ __ ∷ __ ∷ bK ∷ __ ∷ __ ∷ bR ∷ [];
   side = White;
   rights = record { white_king = true; white_queen = true; black_king = true; black_queen = true };
   target = None;
@@ -96,14 +96,14 @@ forty_eight_moves = refl
 abbrev fools_mate : Board
 fools_mate = record {
   men =
-    wR ∷ wN ∷ wB ∷ wQ ∷ wK ∷ wB ∷ wN ∷ wR ∷
-    wP ∷ wP ∷ wP ∷ wP ∷ wP ∷ __ ∷ __ ∷ wP ∷
-    __ ∷ __ ∷ __ ∷ __ ∷ __ ∷ wP ∷ __ ∷ __ ∷
-    __ ∷ __ ∷ __ ∷ __ ∷ __ ∷ __ ∷ wP ∷ bQ ∷
-    __ ∷ __ ∷ __ ∷ __ ∷ bP ∷ __ ∷ __ ∷ __ ∷
-    __ ∷ __ ∷ __ ∷ __ ∷ __ ∷ __ ∷ __ ∷ __ ∷
-    bP ∷ bP ∷ bP ∷ bP ∷ __ ∷ bP ∷ bP ∷ bP ∷
-    bR ∷ bN ∷ bB ∷ __ ∷ bK ∷ bB ∷ bN ∷ bR ∷ [];
+      wR ∷ wN ∷ wB ∷ wQ ∷ wK ∷ wB ∷ wN ∷ wR ∷
+      wP ∷ wP ∷ wP ∷ wP ∷ wP ∷ __ ∷ __ ∷ wP ∷
+      __ ∷ __ ∷ __ ∷ __ ∷ __ ∷ wP ∷ __ ∷ __ ∷
+      __ ∷ __ ∷ __ ∷ __ ∷ __ ∷ __ ∷ wP ∷ bQ ∷
+      __ ∷ __ ∷ __ ∷ __ ∷ bP ∷ __ ∷ __ ∷ __ ∷
+      __ ∷ __ ∷ __ ∷ __ ∷ __ ∷ __ ∷ __ ∷ __ ∷
+      bP ∷ bP ∷ bP ∷ bP ∷ __ ∷ bP ∷ bP ∷ bP ∷
+      bR ∷ bN ∷ bB ∷ __ ∷ bK ∷ bB ∷ bN ∷ bR ∷ [];
   side = White;
   rights = record { white_king = true; white_queen = true; black_king = true; black_queen = true };
   target = None;
@@ -117,14 +117,14 @@ fools_mate_mates = record { to_move = refl; check = refl; stuck = refl }
 abbrev cornered : Board
 cornered = record {
   men =
-    __ ∷ __ ∷ __ ∷ __ ∷ __ ∷ __ ∷ __ ∷ __ ∷
-    __ ∷ __ ∷ __ ∷ __ ∷ __ ∷ __ ∷ __ ∷ __ ∷
-    __ ∷ __ ∷ __ ∷ __ ∷ __ ∷ __ ∷ __ ∷ __ ∷
-    __ ∷ __ ∷ __ ∷ __ ∷ __ ∷ __ ∷ __ ∷ __ ∷
-    __ ∷ __ ∷ __ ∷ __ ∷ __ ∷ __ ∷ __ ∷ __ ∷
-    __ ∷ __ ∷ __ ∷ __ ∷ __ ∷ __ ∷ wK ∷ __ ∷
-    __ ∷ __ ∷ __ ∷ __ ∷ __ ∷ wQ ∷ __ ∷ __ ∷
-    __ ∷ __ ∷ __ ∷ __ ∷ __ ∷ __ ∷ __ ∷ bK ∷ [];
+      __ ∷ __ ∷ __ ∷ __ ∷ __ ∷ __ ∷ __ ∷ __ ∷
+      __ ∷ __ ∷ __ ∷ __ ∷ __ ∷ __ ∷ __ ∷ __ ∷
+      __ ∷ __ ∷ __ ∷ __ ∷ __ ∷ __ ∷ __ ∷ __ ∷
+      __ ∷ __ ∷ __ ∷ __ ∷ __ ∷ __ ∷ __ ∷ __ ∷
+      __ ∷ __ ∷ __ ∷ __ ∷ __ ∷ __ ∷ __ ∷ __ ∷
+      __ ∷ __ ∷ __ ∷ __ ∷ __ ∷ __ ∷ wK ∷ __ ∷
+      __ ∷ __ ∷ __ ∷ __ ∷ __ ∷ wQ ∷ __ ∷ __ ∷
+      __ ∷ __ ∷ __ ∷ __ ∷ __ ∷ __ ∷ __ ∷ bK ∷ [];
   side = Black;
   rights = record { white_king = false; white_queen = false; black_king = false; black_queen = false };
   target = None;
@@ -138,14 +138,14 @@ cornered_is_stalemated = record { free = refl; stuck = refl }
 abbrev guarded_way : Board
 guarded_way = record {
   men =
-    wR ∷ __ ∷ __ ∷ __ ∷ wK ∷ __ ∷ __ ∷ wR ∷
-    __ ∷ __ ∷ __ ∷ __ ∷ __ ∷ __ ∷ __ ∷ __ ∷
-    __ ∷ __ ∷ __ ∷ __ ∷ __ ∷ __ ∷ __ ∷ __ ∷
-    __ ∷ __ ∷ __ ∷ __ ∷ __ ∷ __ ∷ __ ∷ __ ∷
-    __ ∷ __ ∷ __ ∷ __ ∷ __ ∷ __ ∷ __ ∷ __ ∷
-    __ ∷ __ ∷ __ ∷ __ ∷ __ ∷ __ ∷ __ ∷ __ ∷
-    __ ∷ __ ∷ __ ∷ __ ∷ __ ∷ __ ∷ __ ∷ __ ∷
-    __ ∷ bR ∷ __ ∷ __ ∷ bK ∷ bR ∷ __ ∷ __ ∷ [];
+      wR ∷ __ ∷ __ ∷ __ ∷ wK ∷ __ ∷ __ ∷ wR ∷
+      __ ∷ __ ∷ __ ∷ __ ∷ __ ∷ __ ∷ __ ∷ __ ∷
+      __ ∷ __ ∷ __ ∷ __ ∷ __ ∷ __ ∷ __ ∷ __ ∷
+      __ ∷ __ ∷ __ ∷ __ ∷ __ ∷ __ ∷ __ ∷ __ ∷
+      __ ∷ __ ∷ __ ∷ __ ∷ __ ∷ __ ∷ __ ∷ __ ∷
+      __ ∷ __ ∷ __ ∷ __ ∷ __ ∷ __ ∷ __ ∷ __ ∷
+      __ ∷ __ ∷ __ ∷ __ ∷ __ ∷ __ ∷ __ ∷ __ ∷
+      __ ∷ bR ∷ __ ∷ __ ∷ bK ∷ bR ∷ __ ∷ __ ∷ [];
   side = White;
   rights = record { white_king = true; white_queen = true; black_king = false; black_queen = false };
   target = None;
@@ -165,14 +165,14 @@ castling_past_an_attacked_rook_way = refl
 abbrev pinned : Board
 pinned = record {
   men =
-    __ ∷ __ ∷ __ ∷ __ ∷ bK ∷ __ ∷ __ ∷ __ ∷
-    __ ∷ __ ∷ __ ∷ __ ∷ __ ∷ __ ∷ __ ∷ __ ∷
-    __ ∷ __ ∷ __ ∷ __ ∷ __ ∷ __ ∷ __ ∷ __ ∷
-    __ ∷ __ ∷ __ ∷ __ ∷ __ ∷ __ ∷ __ ∷ __ ∷
-    wK ∷ __ ∷ __ ∷ bP ∷ wP ∷ __ ∷ __ ∷ bR ∷
-    __ ∷ __ ∷ __ ∷ __ ∷ __ ∷ __ ∷ __ ∷ __ ∷
-    __ ∷ __ ∷ __ ∷ __ ∷ __ ∷ __ ∷ __ ∷ __ ∷
-    __ ∷ __ ∷ __ ∷ __ ∷ __ ∷ __ ∷ __ ∷ __ ∷ [];
+      __ ∷ __ ∷ __ ∷ __ ∷ bK ∷ __ ∷ __ ∷ __ ∷
+      __ ∷ __ ∷ __ ∷ __ ∷ __ ∷ __ ∷ __ ∷ __ ∷
+      __ ∷ __ ∷ __ ∷ __ ∷ __ ∷ __ ∷ __ ∷ __ ∷
+      __ ∷ __ ∷ __ ∷ __ ∷ __ ∷ __ ∷ __ ∷ __ ∷
+      wK ∷ __ ∷ __ ∷ bP ∷ wP ∷ __ ∷ __ ∷ bR ∷
+      __ ∷ __ ∷ __ ∷ __ ∷ __ ∷ __ ∷ __ ∷ __ ∷
+      __ ∷ __ ∷ __ ∷ __ ∷ __ ∷ __ ∷ __ ∷ __ ∷
+      __ ∷ __ ∷ __ ∷ __ ∷ __ ∷ __ ∷ __ ∷ __ ∷ [];
   side = White;
   rights = record { white_king = false; white_queen = false; black_king = false; black_queen = false };
   target = Some 43;
@@ -186,14 +186,14 @@ no_capture_that_opens_the_king = refl
 abbrev unpinned : Board
 unpinned = record {
   men =
-    __ ∷ __ ∷ __ ∷ __ ∷ bK ∷ __ ∷ __ ∷ __ ∷
-    __ ∷ __ ∷ __ ∷ __ ∷ __ ∷ __ ∷ __ ∷ __ ∷
-    __ ∷ __ ∷ __ ∷ __ ∷ __ ∷ __ ∷ __ ∷ __ ∷
-    __ ∷ __ ∷ __ ∷ __ ∷ __ ∷ __ ∷ __ ∷ __ ∷
-    wK ∷ __ ∷ __ ∷ bP ∷ wP ∷ __ ∷ __ ∷ __ ∷
-    __ ∷ __ ∷ __ ∷ __ ∷ __ ∷ __ ∷ __ ∷ __ ∷
-    __ ∷ __ ∷ __ ∷ __ ∷ __ ∷ __ ∷ __ ∷ __ ∷
-    __ ∷ __ ∷ __ ∷ __ ∷ __ ∷ __ ∷ __ ∷ bR ∷ [];
+      __ ∷ __ ∷ __ ∷ __ ∷ bK ∷ __ ∷ __ ∷ __ ∷
+      __ ∷ __ ∷ __ ∷ __ ∷ __ ∷ __ ∷ __ ∷ __ ∷
+      __ ∷ __ ∷ __ ∷ __ ∷ __ ∷ __ ∷ __ ∷ __ ∷
+      __ ∷ __ ∷ __ ∷ __ ∷ __ ∷ __ ∷ __ ∷ __ ∷
+      wK ∷ __ ∷ __ ∷ bP ∷ wP ∷ __ ∷ __ ∷ __ ∷
+      __ ∷ __ ∷ __ ∷ __ ∷ __ ∷ __ ∷ __ ∷ __ ∷
+      __ ∷ __ ∷ __ ∷ __ ∷ __ ∷ __ ∷ __ ∷ __ ∷
+      __ ∷ __ ∷ __ ∷ __ ∷ __ ∷ __ ∷ __ ∷ bR ∷ [];
   side = White;
   rights = record { white_king = false; white_queen = false; black_king = false; black_queen = false };
   target = Some 43;
@@ -212,14 +212,14 @@ captured_pawn_leaves = refl
 abbrev last_step : Board
 last_step = record {
   men =
-    __ ∷ __ ∷ __ ∷ __ ∷ wK ∷ __ ∷ __ ∷ __ ∷
-    __ ∷ __ ∷ __ ∷ __ ∷ __ ∷ __ ∷ __ ∷ __ ∷
-    __ ∷ __ ∷ __ ∷ __ ∷ __ ∷ __ ∷ __ ∷ __ ∷
-    __ ∷ __ ∷ __ ∷ __ ∷ __ ∷ __ ∷ __ ∷ __ ∷
-    __ ∷ __ ∷ __ ∷ __ ∷ __ ∷ __ ∷ __ ∷ __ ∷
-    __ ∷ __ ∷ __ ∷ __ ∷ __ ∷ __ ∷ __ ∷ __ ∷
-    wP ∷ __ ∷ __ ∷ __ ∷ __ ∷ __ ∷ __ ∷ __ ∷
-    __ ∷ __ ∷ __ ∷ __ ∷ bK ∷ __ ∷ __ ∷ __ ∷ [];
+      __ ∷ __ ∷ __ ∷ __ ∷ wK ∷ __ ∷ __ ∷ __ ∷
+      __ ∷ __ ∷ __ ∷ __ ∷ __ ∷ __ ∷ __ ∷ __ ∷
+      __ ∷ __ ∷ __ ∷ __ ∷ __ ∷ __ ∷ __ ∷ __ ∷
+      __ ∷ __ ∷ __ ∷ __ ∷ __ ∷ __ ∷ __ ∷ __ ∷
+      __ ∷ __ ∷ __ ∷ __ ∷ __ ∷ __ ∷ __ ∷ __ ∷
+      __ ∷ __ ∷ __ ∷ __ ∷ __ ∷ __ ∷ __ ∷ __ ∷
+      wP ∷ __ ∷ __ ∷ __ ∷ __ ∷ __ ∷ __ ∷ __ ∷
+      __ ∷ __ ∷ __ ∷ __ ∷ bK ∷ __ ∷ __ ∷ __ ∷ [];
   side = White;
   rights = record { white_king = false; white_queen = false; black_king = false; black_queen = false };
   target = None;
@@ -246,14 +246,14 @@ double_step_sets_the_target = refl
 abbrev rooks : Board
 rooks = record {
   men =
-    wR ∷ __ ∷ __ ∷ __ ∷ wK ∷ __ ∷ __ ∷ wR ∷
-    __ ∷ __ ∷ __ ∷ __ ∷ __ ∷ __ ∷ __ ∷ __ ∷
-    __ ∷ __ ∷ __ ∷ __ ∷ __ ∷ __ ∷ __ ∷ __ ∷
-    __ ∷ __ ∷ __ ∷ __ ∷ __ ∷ __ ∷ __ ∷ __ ∷
-    __ ∷ __ ∷ __ ∷ __ ∷ __ ∷ __ ∷ __ ∷ __ ∷
-    __ ∷ __ ∷ __ ∷ __ ∷ __ ∷ __ ∷ __ ∷ __ ∷
-    __ ∷ __ ∷ __ ∷ __ ∷ __ ∷ __ ∷ __ ∷ __ ∷
-    bR ∷ __ ∷ __ ∷ __ ∷ bK ∷ __ ∷ __ ∷ bR ∷ [];
+      wR ∷ __ ∷ __ ∷ __ ∷ wK ∷ __ ∷ __ ∷ wR ∷
+      __ ∷ __ ∷ __ ∷ __ ∷ __ ∷ __ ∷ __ ∷ __ ∷
+      __ ∷ __ ∷ __ ∷ __ ∷ __ ∷ __ ∷ __ ∷ __ ∷
+      __ ∷ __ ∷ __ ∷ __ ∷ __ ∷ __ ∷ __ ∷ __ ∷
+      __ ∷ __ ∷ __ ∷ __ ∷ __ ∷ __ ∷ __ ∷ __ ∷
+      __ ∷ __ ∷ __ ∷ __ ∷ __ ∷ __ ∷ __ ∷ __ ∷
+      __ ∷ __ ∷ __ ∷ __ ∷ __ ∷ __ ∷ __ ∷ __ ∷
+      bR ∷ __ ∷ __ ∷ __ ∷ bK ∷ __ ∷ __ ∷ bR ∷ [];
   side = White;
   rights = record { white_king = true; white_queen = true; black_king = true; black_queen = true };
   target = None;

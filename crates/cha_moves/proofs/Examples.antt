@@ -1,12 +1,10 @@
 -- Known positions, computed: the definitions give what the Laws of Chess and published counts say.
-use Rattle.std.proofs.Common.{◌≡◌, ℕ, Bool, true, false, List, [], ◌∷◌, length, Option, Some, None, refl}
-use Rattle.cha_board.specs.declared.men.Color.{Color}
+use Rattle.std.proofs.Common.{◌≡◌, true, false, [], ◌∷◌, length, Option, Some, None, refl}
 use Rattle.cha_board.specs.declared.men.Color.TheVariants.{White, Black}
 use Rattle.cha_board.specs.declared.men.Kind.TheVariants.{Pawn, Knight, Bishop, Rook, Queen, King}
 use Rattle.cha_board.specs.declared.men.Man.{Man}
 use Rattle.cha_board.specs.Squares.{squares, files_apart, ranks_apart, steps_apart, is_straight, is_diagonal, is_line, is_rank_ahead, aims_at, is_within, lies_between, between}
 use Rattle.cha_board.specs.Board.{Board, man_at, is_clear, attacks_as, attacked, king_of, in_check}
-use Rattle.cha_moves.specs.Step.{Move}
 use Rattle.cha_moves.specs.Moves.{is_step, is_double_step, is_pawn_capture, is_en_passant, is_short_castling, is_long_castling, goes, promotes_well, is_pseudo_legal_as, men_after, rights_after, target_after, after, is_legal_in, moves_from, all_moves, legal}
 use Rattle.cha_moves.specs.Ends.{IsMated, IsStalemated}
 use Rattle.cha_moves.specs.Texts.{square_text, promotion_text, move_bytes}

@@ -27,6 +27,7 @@ fn men_kept(position: &Position, m: Move) -> [Option<Man>; 64]
     ensures kings { (c : Side) → IsTrue (has_one_king result c) }
 {
     m.known();
+    // What is said of the men rests on the position being valid, of which `men` tells.
     let _valid = position.men();
     men_made(position, m)
 }
@@ -116,6 +117,7 @@ pub fn after(position: &Position, m: Move) -> Position
     requires { Contains (legal_moves position.now) m }
     ensures { result ≡ position_after position.now m }
 {
+    // The position is valid, of which `men` tells, and so is what a legal move leaves.
     let _valid = position.men();
     Position::of_parts(
         men_made(position, m),

@@ -127,6 +127,18 @@ pub fn after(position: &Position, m: Move) -> Position
     )
 }
 
+/// Whether the Laws allow a move from one square to another with this promotion.
+fn allows(position: &Position, from: Square, to: Square, promotion: Option<Kind>) -> bool
+    ensures { result ≡ is_legal_in position.now (record { from = from; to = to; promotion = promotion }) }
+{
+    let m = Move {
+        from,
+        to,
+        promotion,
+    };
+    is_allowed(position, m)
+}
+
 /// Whether some move between two squares is legal.
 #[tactic(auto, using(crate::proofs::Listed::none_between))]
 fn any_between(position: &Position, from: Square, to: Square) -> bool
@@ -134,42 +146,11 @@ fn any_between(position: &Position, from: Square, to: Square) -> bool
     ensures none { OnFalse result (filter (is_legal_in position.now) (moves_between from to) ≡ []) }
 {
     can_go(position, from, to)
-        && (is_allowed(
-            position,
-            Move {
-                from,
-                to,
-                promotion: None,
-            },
-        ) || is_allowed(
-            position,
-            Move {
-                from,
-                to,
-                promotion: Some(Kind::Queen),
-            },
-        ) || is_allowed(
-            position,
-            Move {
-                from,
-                to,
-                promotion: Some(Kind::Rook),
-            },
-        ) || is_allowed(
-            position,
-            Move {
-                from,
-                to,
-                promotion: Some(Kind::Bishop),
-            },
-        ) || is_allowed(
-            position,
-            Move {
-                from,
-                to,
-                promotion: Some(Kind::Knight),
-            },
-        ))
+        && (allows(position, from, to, None)
+            || allows(position, from, to, Some(Kind::Queen))
+            || allows(position, from, to, Some(Kind::Rook))
+            || allows(position, from, to, Some(Kind::Bishop))
+            || allows(position, from, to, Some(Kind::Knight)))
 }
 
 /// Whether some move from a square is legal.

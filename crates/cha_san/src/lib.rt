@@ -3,6 +3,11 @@
 //! `faults` says why a word names no move.
 #![tactic(auto)]
 
+mod backwards;
 mod faults;
+mod fitting;
+mod forms;
+mod letters;
+mod reading;
 
 pub use faults::{PlayFault, SanFault};

@@ -9,5 +9,7 @@ mod fitting;
 mod forms;
 mod letters;
 mod reading;
+mod resolving;
 
 pub use faults::{PlayFault, SanFault};
+pub use resolving::resolve;

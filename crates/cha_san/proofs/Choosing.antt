@@ -6,7 +6,7 @@ use Rattle.cha_moves.specs.Step.{Move}
 use Rattle.cha_san.specs.declared.faults.SanFault.TheVariants.{Ambiguous}
 use Rattle.cha_san.specs.Resolving.{only}
 
-next : {X : Type 0} (xs : List X) (i : ℕ) (x : X) → i < length xs → x ≡ get_or xs i x → drop i xs ≡ x ∷ drop (i + 1) xs
+pub next : {X : Type 0} (xs : List X) (i : ℕ) (x : X) → i < length xs → x ≡ get_or xs i x → drop i xs ≡ x ∷ drop (i + 1) xs
 next xs i x inside is =
     let e : i + 1 ≡ suc i = omega arith in
     drop-cons xs i x inside ∙ ap (λ y. y ∷ drop (suc i) xs) (sym is) ∙ ap (λ n. x ∷ drop n xs) (sym e)

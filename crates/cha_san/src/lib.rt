@@ -8,6 +8,7 @@ mod faults;
 mod fitting;
 mod forms;
 mod letters;
+mod playing;
 mod reading;
 mod resolving;
 

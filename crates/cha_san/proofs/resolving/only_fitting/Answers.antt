@@ -18,9 +18,9 @@ loop-m-preserved c =
     let m = c.m-item.result in
     elim c.if-fits.branch [
       | then-fits+in-None w ↦
-        rw w.found-is
-        (sym (passing p xs i m c.loop-m-test.true c.m-item.is (sym c.fits.ensures ∙ w.if-fits.true)) ∙ ap (λ o. cons_option o (filter p (drop i xs))) (sym w.in-None.is) ∙ c.loop-m.invariant)
+          rw w.found-is
+          (sym (passing p xs i m c.loop-m-test.true c.m-item.is (sym c.fits.ensures ∙ w.if-fits.true)) ∙ ap (λ o. cons_option o (filter p (drop i xs))) (sym w.in-None.is) ∙ c.loop-m.invariant)
       | else-fits w ↦
-        rw w.found-is
-        (ap (cons_option c.loop-m.found) (sym (failing p xs i m c.loop-m-test.true c.m-item.is (sym c.fits.ensures ∙ w.if-fits.false))) ∙ c.loop-m.invariant)
+          rw w.found-is
+          (ap (cons_option c.loop-m.found) (sym (failing p xs i m c.loop-m-test.true c.m-item.is (sym c.fits.ensures ∙ w.if-fits.false))) ∙ c.loop-m.invariant)
     ]

@@ -2,3 +2,4 @@ pub mod Cuts
 pub mod Outsides
 pub mod Chains
 pub mod Taken
+pub mod Giving

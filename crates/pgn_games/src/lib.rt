@@ -1,6 +1,7 @@
 //! The games of a text in PGN, of any bytes whatever, one at a time.
 //!
-//! `played` has the game that is given, `marks` the results and `faults` why a game cannot be read.
+//! `played`, `marks` and `faults` have the game that is given, `reading` the reader and `taking` how it takes a source;
+//! `turns` and `cutting` cut tokens into games, and `tag_pairs`, `movetext` and `slices` say what the tokens of one say.
 #![tactic(auto)]
 
 mod cutting;
@@ -8,11 +9,14 @@ mod faults;
 mod marks;
 mod movetext;
 mod played;
+mod reading;
 mod slices;
 mod tag_pairs;
 mod taking;
 mod turns;
 
+pub use cha_outside::ReadEnd;
 pub use faults::GameFault;
 pub use marks::ResultMark;
 pub use played::{Game, Words};
+pub use reading::Reader;

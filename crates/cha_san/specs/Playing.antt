@@ -31,10 +31,7 @@ positions start words = positions_from 1 start words
 abbrev pub LacksMemory : Result (List Board) PlayFault → Type 0
 LacksMemory (Ok qs) = ⊥
 LacksMemory (Err fault) = fault.fault ≡ NoMemory
-<<<<<<< HEAD
 
 -- a position comes from another by the move of a word
 abbrev pub FollowsBy : Board → List ℕ → Board → Type 0
 FollowsBy q word next = (m : Move) × (resolved q word ≡ Ok m) × (next ≡ after q m)
-=======
->>>>>>> c3d82e4a84beb7930158721ed172ad9f21e2fee7

@@ -1,6 +1,8 @@
 //! SAN, the text of a move, and the positions of a game (PGN standard, 8.2.3).
 //!
-//! `faults` says why a word names no move.
+//! `faults` says why a word names no move. A word is read from its end: `backwards` has its last byte and what is in front,
+//! `letters` what bytes mean, `reading` what a word says, kept as `forms` has it. `fitting` has the moves that fit, `resolving`
+//! the one that a word names, and `playing` the positions of a game.
 #![tactic(auto)]
 
 mod backwards;
@@ -13,4 +15,5 @@ mod reading;
 mod resolving;
 
 pub use faults::{PlayFault, SanFault};
+pub use playing::play;
 pub use resolving::resolve;

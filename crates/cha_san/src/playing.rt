@@ -1,6 +1,6 @@
 //! The positions of a game.
 
-ghost use Rattle.std.specs.Prelude.{◌≡◌, ◌+◌, ◌≤◌, ◌⊎◌, ◌++◌, [], ◌∷◌, Ok, Err, None, length, IfOk, IfErr, OnOk};
+ghost use Rattle.std.specs.Prelude.{◌≡◌, ◌+◌, ◌≤◌, ◌⊎◌, ◌++◌, [], ◌∷◌, Ok, Err, None, Some, slice_get, length, IfOk, IfErr, OnOk};
 ghost use Rattle.cha_moves.specs.Moves.{after as position_after};
 ghost use Rattle.cha_san.specs.declared.faults.SanFault.TheVariants.{NoMemory};
 ghost use Rattle.cha_san.specs.Resolving.{resolved};
@@ -11,6 +11,7 @@ use crate::resolving::resolve;
 use cha_board::Position;
 use cha_list::Text;
 use cha_moves::{Positions, after};
+use pgn_games::Game;
 use std::alloc::Global;
 
 /// The position after the move of a word, which has this number in its game.
@@ -44,7 +45,7 @@ fn append(positions: &mut Positions, position: &Position) -> Result<(), PlayFaul
 }
 
 /// A position and the one after each word, or the first word that names no move.
-pub fn replayed(alloc: Global, start: &Position, words: &[Text]) -> Result<Positions, PlayFault>
+fn replayed(alloc: Global, start: &Position, words: &[Text]) -> Result<Positions, PlayFault>
     requires { length words.now ≤ 12000 }
     ensures { LacksMemory result ⊎ (result ≡ positions start.now words.now) }
 {
@@ -62,4 +63,18 @@ pub fn replayed(alloc: Global, start: &Position, words: &[Text]) -> Result<Posit
     }
     append(&mut done, &position)?;
     Ok(done)
+}
+
+/// The positions of a game: its start, and the one after each word. Otherwise the first word that names no move.
+///
+/// The time that this takes grows as the number of words.
+pub fn play(alloc: Global, game: &Game) -> Result<Positions, PlayFault>
+    requires readable { game.now.fault ≡ None }
+    requires few { length game.now.words ≤ 12000 }
+    ensures value { LacksMemory result ⊎ (result ≡ positions game.now.start game.now.words) }
+    ensures count { IfOk result (λ played. length played ≡ length game.now.words + 1) }
+    ensures start { IfOk result (λ played. slice_get played 0 ≡ Some game.now.start) }
+    ensures number { IfErr result (λ fault. (fault.fault ≡ NoMemory) ⊎ ((1 ≤ fault.ply) × (fault.ply ≤ length game.now.words))) }
+{
+    replayed(alloc, &game.start, game.words.items())
 }

@@ -13,6 +13,8 @@ mod letters;
 mod playing;
 mod reading;
 mod resolving;
+#[cfg(test)]
+mod tests;
 
 pub use faults::{PlayFault, SanFault};
 pub use playing::play;

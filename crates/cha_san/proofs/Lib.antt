@@ -1,0 +1,4 @@
+pub mod Choosing
+pub mod Resolved
+pub mod Replayed
+pub mod Played

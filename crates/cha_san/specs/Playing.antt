@@ -31,3 +31,7 @@ positions start words = positions_from 1 start words
 abbrev pub LacksMemory : Result (List Board) PlayFault → Type 0
 LacksMemory (Ok qs) = ⊥
 LacksMemory (Err fault) = fault.fault ≡ NoMemory
+
+-- a position comes from another by the move of a word
+abbrev pub FollowsBy : Board → List ℕ → Board → Type 0
+FollowsBy q word next = (m : Move) × (resolved q word ≡ Ok m) × (next ≡ after q m)

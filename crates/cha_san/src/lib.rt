@@ -1,6 +1,8 @@
 //! SAN, the text of a move, and the positions of a game (PGN standard, 8.2.3).
 //!
-//! `faults` says why a word names no move.
+//! `faults` says why a word names no move. A word is read from its end: `backwards` has its last byte and what is in front,
+//! `letters` what bytes mean, `reading` what a word says, kept as `forms` has it. `fitting` has the moves that fit, `resolving`
+//! the one that a word names, and `playing` the positions of a game.
 #![tactic(auto)]
 
 mod backwards;
@@ -8,6 +10,12 @@ mod faults;
 mod fitting;
 mod forms;
 mod letters;
+mod playing;
 mod reading;
+mod resolving;
+#[cfg(test)]
+mod tests;
 
 pub use faults::{PlayFault, SanFault};
+pub use playing::play;
+pub use resolving::resolve;

@@ -1,0 +1,210 @@
+-- The lists of moves that mate are exactly the mating lines.
+use Rattle.std.proofs.Common.{◌≡◌, ℕ, zero, suc, ◌+◌, ◌-◌, ◌%◌, ◌==◌, ◌≤◌, ◌<◌, Bool, true, false, not, ◌&&◌, if◌then◌else◌, List, [], ◌∷◌, length, map, flat_map, Contains, IsTrue, slice_get, get_or, drop, Some, None, inl, inr, sym, ap, ◌∙◌, subst, refl, arith, sub-one, lt_of_not-le}
+use mathlib.Core.Bool.{beq}
+use Rattle.std.specs.Bool.{OnFalse}
+use Rattle.std.proofs.lemmas.Bool.Decides.{nat_tests}
+use Rattle.cha_board.specs.declared.men.Color.{Color}
+use Rattle.cha_board.specs.declared.men.Color.TheVariants.{White, Black}
+use Rattle.cha_board.specs.Men.{other_color, same_color}
+use Rattle.cha_board.specs.Board.{Board, in_check}
+use Rattle.cha_moves.specs.Step.{Move}
+use Rattle.cha_moves.specs.Moves.{after, legal}
+use Rattle.cha_moves.specs.Ends.{IsMated, IsMatingLine, HasNoMateWithin}
+use Rattle.cha_decide.specs.MateLines.{is_nil, is_mated, mate_lines}
+use Rattle.cha_decide.specs.Sound.{IsShortestMate, searched_plies}
+use Rattle.cha_decide.proofs.Pieces.{contains_first, contains_first_of, contains_none, first_or_later, contains_image, contained_image, contains_piece, contained_piece, empty_without_first, without_piece, first_in_piece, first_image, no_piece, no_pieces}
+
+same_side : (a b : Color) → same_color a b ≡ true → a ≡ b
+same_side White White h = refl
+same_side White Black h = absurd (cc)
+same_side Black White h = absurd (cc)
+same_side Black Black h = refl
+
+side_itself : (a b : Color) → a ≡ b → same_color a b ≡ true
+side_itself White White h = refl
+side_itself White Black h = absurd (cc)
+side_itself Black White h = absurd (cc)
+side_itself Black Black h = refl
+
+nil_is : (ms : List Move) → is_nil ms ≡ true → ms ≡ []
+nil_is [] h = refl
+nil_is (m ∷ ms) h = absurd (cc)
+
+nil_itself : (ms : List Move) → ms ≡ [] → is_nil ms ≡ true
+nil_itself [] h = refl
+nil_itself (m ∷ ms) h = absurd (cc)
+
+all_three : (a b c : Bool) → a && b && c ≡ true → (a ≡ true) × (b ≡ true) × (c ≡ true)
+all_three true true true h = (refl, refl, refl)
+all_three true true false h = absurd (cc)
+all_three true false c h = absurd (cc)
+all_three false b c h = absurd (cc)
+
+three_all : (a b c : Bool) → a ≡ true → b ≡ true → c ≡ true → a && b && c ≡ true
+three_all a b c e f g = cc
+
+-- the test says what the fact says
+pub mated_is : (q : Board) (loser : Color) → is_mated q loser ≡ true → IsMated q loser
+unfolding is_mated
+mated_is q loser h =
+    let parts = all_three (same_color q.side loser) (in_check q.men loser) (is_nil (legal q)) h in
+    record { to_move = same_side q.side loser parts.0; check = parts.1; stuck = nil_is (legal q) parts.2 }
+
+pub mated_itself : (q : Board) (loser : Color) → IsMated q loser → is_mated q loser ≡ true
+unfolding is_mated
+mated_itself q loser h =
+    three_all (same_color q.side loser) (in_check q.men loser) (is_nil (legal q)) (side_itself q.side loser h.to_move) h.check (nil_itself (legal q) h.stuck)
+
+-- the lists of no moves
+no_move : (b : Bool) (ms : List Move) → Contains (if b then ([] ∷ []) else []) ms → (b ≡ true) × (ms ≡ [])
+no_move true ms h =
+    elim (first_or_later [] ms [] h) [ | inl is ↦ (refl, sym is) | inr later ↦ absurd (contains_none [] ms refl later) ]
+no_move false ms h = absurd (contains_none [] ms refl h)
+
+some_move : (b : Bool) → b ≡ true → Contains {X = List Move} (if b then ([] ∷ []) else []) []
+some_move true e = contains_first [] []
+some_move false e = absurd (cc)
+
+-- the lists that begin with a move
+abbrev pub begun : Board → Color → ℕ → Move → List (List Move)
+begun q winner n m = map (λ ms. m ∷ ms) (mate_lines n (after q m) winner)
+
+-- the lists are mating lines of so many moves
+pub mating_line : (n : ℕ) (q : Board) (winner : Color) (ms : List Move) → Contains (mate_lines n q winner) ms → IsMatingLine q winner ms × (length ms ≡ n)
+unfolding mate_lines
+mating_line zero q winner ms h =
+    let parts = no_move (is_mated q (other_color winner)) ms h in
+    let P : List Move → Type 0 = λ l. IsMatingLine q winner l × (length l ≡ 0) in
+    subst P (sym parts.1) (mated_is q (other_color winner) parts.0, refl)
+mating_line (suc n) q winner ms h =
+    let piece = contained_piece (begun q winner n) (legal q) ms h in
+    let line = contained_image (λ l. piece.0 ∷ l) (mate_lines n (after q piece.0) winner) ms piece.2 in
+    let rest = mating_line n (after q piece.0) winner line.0 line.1 in
+    let P : List Move → Type 0 = λ l. IsMatingLine q winner l × (length l ≡ suc n) in
+    subst P line.2 ((piece.1, rest.0), ap suc rest.1)
+
+-- each mating line is one of the lists
+pub line_of_mate : (q : Board) (winner : Color) (ms : List Move) → IsMatingLine q winner ms → Contains (mate_lines (length ms) q winner) ms
+unfolding mate_lines
+line_of_mate q winner [] h = some_move (is_mated q (other_color winner)) (mated_itself q (other_color winner) h)
+line_of_mate q winner (m ∷ ms) h =
+    contains_piece (begun q winner (length ms)) (legal q) m (m ∷ ms) h.0
+    (contains_image (λ l. m ∷ l) (mate_lines (length ms) (after q m) winner) ms (line_of_mate (after q m) winner ms h.1))
+
+-- without a list of so many moves no mating line has as many
+pub none_of_length : (n : ℕ) (q : Board) (winner : Color) → mate_lines n q winner ≡ [] → (ms : List Move) → length ms ≡ n → IsMatingLine q winner ms → ⊥
+none_of_length n q winner none ms size h =
+    contains_none (mate_lines (length ms) q winner) ms (ap (λ k. mate_lines k q winner) size ∙ none) (line_of_mate q winner ms h)
+
+-- without a list of at most d moves there is no mate within d
+pub none_within : (d : ℕ) (q : Board) (winner : Color) → ((k : ℕ) → k < d + 1 → mate_lines k q winner ≡ []) → HasNoMateWithin q winner d
+none_within d q winner none ms few h = none_of_length (length ms) q winner (none (length ms) (omega arith)) ms refl h
+
+-- the first list of n moves that mates, where none of fewer moves does
+pub shortest : (n : ℕ) (q : Board) (winner : Color) (ms : List Move) → n ≤ searched_plies → ((k : ℕ) → k < n → mate_lines k q winner ≡ [])
+  → slice_get (mate_lines n q winner) 0 ≡ Some ms → IsShortestMate q winner ms
+shortest n q winner ms few none first =
+    let line = mating_line n q winner ms (contains_first_of (mate_lines n q winner) ms first) in
+    record {
+      mates = line.0;
+      short = omega (arith, line.1);
+      least = λ others h. least others h line.1;
+      first = ap (λ k. slice_get (mate_lines k q winner) 0) line.1 ∙ first;
+    }
+  where
+    least : (others : List Move) → IsMatingLine q winner others → length ms ≡ n → length ms ≤ length others
+    least others h size =
+        let fewer : length others < n → ⊥ = λ less. none_of_length (length others) q winner (none (length others) less) others refl h in
+        omega (arith, lt_of_not-le {n = length others + 1} {m = n} (λ le. fewer (omega arith)))
+
+-- the search through the legal moves for the first list of n + 1 moves: each list begins with one of them
+pub search_begins : (plies : ℕ) (q : Board) (winner : Color) (ms : List Move) → 0 < plies → ms ≡ legal q → flat_map (begun q winner (plies - 1)) (drop 0 ms) ≡ mate_lines plies q winner
+unfolding mate_lines
+search_begins zero q winner ms some is = absurd (omega arith)
+search_begins (suc n) q winner ms some is = rw (sub-one) (ap (flat_map (begun q winner n)) is)
+
+module _ (n : ℕ) (q : Board) (winner : Color) (ms : List Move) (i : ℕ) (m : Move) (all : List (List Move)) where
+  pub search_goes_on : (j : ℕ) → i < length ms → m ≡ get_or ms i m → slice_get (mate_lines n (after q m) winner) 0 ≡ None → j ≡ i + 1
+    → flat_map (begun q winner n) (drop i ms) ≡ all → flat_map (begun q winner n) (drop j ms) ≡ all
+  search_goes_on j small is none next so_far =
+      without_piece (begun q winner n) ms i j m all small is
+      (ap (map (λ l. m ∷ l)) (empty_without_first (mate_lines n (after q m) winner) none)) next so_far
+
+  pub search_finds : (rest line : List Move) → i < length ms → m ≡ get_or ms i m → slice_get (mate_lines n (after q m) winner) 0 ≡ Some rest → line ≡ m ∷ rest
+    → flat_map (begun q winner n) (drop i ms) ≡ all → slice_get all 0 ≡ Some line
+  search_finds rest line small is first made so_far =
+      first_in_piece (begun q winner n) ms i m line all small is
+      (first_image (λ l. m ∷ l) (mate_lines n (after q m) winner) rest first ∙ ap Some (sym made)) so_far
+
+pub search_ends : (n : ℕ) (q : Board) (winner : Color) (ms : List Move) (i : ℕ) (all : List (List Move)) → length ms ≤ i
+  → flat_map (begun q winner n) (drop i ms) ≡ all → slice_get all 0 ≡ None
+search_ends n q winner ms i all past so_far = ap (λ ls. slice_get ls 0) (no_piece (begun q winner n) ms i all past so_far)
+
+-- the mate on the board is the only list of no moves
+pub on_board : (q : Board) (winner : Color) → is_mated q (other_color winner) ≡ true → slice_get (mate_lines 0 q winner) 0 ≡ Some []
+unfolding mate_lines
+on_board q winner h = rw h refl
+
+pub not_on_board : (q : Board) (winner : Color) → is_mated q (other_color winner) ≡ false → mate_lines 0 q winner ≡ []
+unfolding mate_lines
+not_on_board q winner h = rw h refl
+
+pub none_below_one : (q : Board) (winner : Color) → is_mated q (other_color winner) ≡ false → (k : ℕ) → k < 1 → mate_lines k q winner ≡ []
+none_below_one q winner h zero small = not_on_board q winner h
+none_below_one q winner h (suc k) small = absurd (omega arith)
+
+-- a mate on the board is the shortest
+pub on_board_shortest : (q : Board) (winner : Color) → is_mated q (other_color winner) ≡ true → IsShortestMate q winner []
+on_board_shortest q winner h = shortest 0 q winner [] (omega arith) (λ k small. absurd (omega arith)) (on_board q winner h)
+
+flips : (a b : Color) → same_color (other_color a) b ≡ not (same_color a b)
+flips White White = refl
+flips White Black = refl
+flips Black White = refl
+flips Black Black = refl
+
+flips_back : (a b : Color) → same_color a (other_color b) ≡ not (same_color a b)
+flips_back White White = refl
+flips_back White Black = refl
+flips_back Black White = refl
+flips_back Black Black = refl
+
+pub is_even : ℕ → Bool
+is_even n = n % 2 == 0
+
+even_or_odd : (n : ℕ) → not (is_even (suc n)) ≡ is_even n
+unfolding is_even
+even_or_odd n = grind (arith, nat_tests)
+
+side_after : (q : Board) (m : Move) → (after q m).side ≡ other_color q.side
+unfolding after
+side_after q m = refl
+
+no_mate_if : (a b c : Bool) (some : List (List Move)) → a ≡ false → (if (a && b && c) then some else []) ≡ []
+no_mate_if false b c some e = refl
+no_mate_if true b c some e = absurd (cc)
+
+-- where the side to move is the winner, no list of an even number of moves mates, and where it is the loser, no list of
+-- an odd number
+pub other_last : (n : ℕ) (q : Board) (winner : Color) → same_color q.side winner ≡ is_even n → mate_lines n q winner ≡ []
+unfolding mate_lines is_mated is_even
+other_last zero q winner h = no_mate_if _ _ _ _ (flips_back q.side winner ∙ ap not h)
+other_last (suc n) q winner h =
+    no_pieces (begun q winner n) (legal q)
+    (λ m. ap (map (λ l. m ∷ l)) (other_last n (after q m) winner
+    (ap (λ side. same_color side winner) (side_after q m) ∙ flips q.side winner ∙ ap not h ∙ even_or_odd n)))
+
+by_parity : {P : Type 0} (mover odd side even : Bool) → mover ≡ side → even ≡ not odd → (side ≡ even → P) → OnFalse (beq mover odd) P
+by_parity true true side even e f g = tt
+by_parity true false side even e f g = g (cc)
+by_parity false true side even e f g = g (cc)
+by_parity false false side even e f g = tt
+
+odd_or_even : (n : ℕ) → is_even n ≡ not (n % 2 == 1)
+unfolding is_even
+odd_or_even n = grind (arith, nat_tests)
+
+pub last_or_none : (n : ℕ) (q : Board) (winner : Color) (mover : Bool) → mover ≡ same_color q.side winner → OnFalse (beq mover (n % 2 == 1)) (slice_get (mate_lines n q winner) 0 ≡ None)
+last_or_none n q winner mover e =
+    by_parity mover (n % 2 == 1) (same_color q.side winner) (is_even n) e (odd_or_even n)
+    (λ h. ap (λ ls. slice_get ls 0) (other_last n q winner h))

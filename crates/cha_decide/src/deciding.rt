@@ -1,0 +1,37 @@
+//! The verdicts on both sides of a position.
+
+ghost use Rattle.std.specs.Prelude.{IfOk};
+ghost use Rattle.cha_decide.specs.Sound.{IsSound};
+
+use crate::decided::Decision;
+use crate::sides::examine;
+use cha_board::{Color, Position};
+use cha_list::NoMemory;
+use flag_report::{Verdict, is_winnable};
+use std::alloc::Global;
+
+/// The verdicts on both sides of a position. `first` is examined, and then the other side, unless `first` can mate.
+///
+/// A side's verdict is `Winnable` exactly where a list of at most two legal moves ends in a mate by the side: of the
+/// shortest such lists the first, in the order of moves. It is `Unwinnable` exactly where the side has no man other than
+/// its king, and `Undecided` with depth 2 in all other positions (this project).
+pub fn decide(alloc: Global, position: &Position, first: Color) -> Result<Decision, NoMemory>
+    ensures { IfOk result (λ decision. IsSound position.now first decision) }
+{
+    let examined = examine(alloc, position, first)?;
+    let other = if is_winnable(&examined) {
+        Verdict::Skipped
+    } else {
+        examine(alloc, position, first.other())?
+    };
+    match first {
+        Color::White => Ok(Decision {
+            white: examined,
+            black: other,
+        }),
+        Color::Black => Ok(Decision {
+            white: other,
+            black: examined,
+        }),
+    }
+}

@@ -1,4 +1,4 @@
--- What each verdict on a position says.
+-- What each verdict on a position says (this project).
 use Rattle.std.specs.Prelude.{◌≡◌, ℕ, ◌≤◌, false, List, length, Some, IsTrue, slice_get, ⊤}
 use Rattle.cha_board.specs.declared.men.Color.{Color}
 use Rattle.cha_board.specs.declared.men.Color.TheVariants.{White, Black}
@@ -35,7 +35,7 @@ pub record IsOpen (q : Board) (winner : Color) (depth : ℕ) : Type 0 where
   pub none : HasNoMateWithin q winner depth
   pub armed : IsTrue (has_non_king q.men winner)
 
--- a verdict on a side is true of a position
+-- a verdict on a side is true of a position; the first three exclude each other
 abbrev pub IsTrueOf : Board → Color → Verdict → Type 0
 IsTrueOf q winner (Winnable moves) = IsShortestMate q winner moves
 IsTrueOf q winner Unwinnable = IsShownUnwinnable q winner

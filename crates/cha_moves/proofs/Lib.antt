@@ -1,0 +1,6 @@
+pub mod Identity
+pub mod Made
+pub mod Kept
+pub mod Validity
+pub mod Pieces
+pub mod Listed

@@ -68,7 +68,7 @@ fn first_mate(
         return Ok(mate_on_board(alloc, position, winner));
     }
     let moves = legal(alloc, position)?;
-    for m in moves.items() {
+    for m in &moves {
         match first_mate(alloc, &after(position, *m), winner, plies - 1)? {
             Some(rest) => return Ok(Some(line_of(*m, rest)?)),
             None => {}

@@ -1,6 +1,6 @@
 -- The language of the command words (this project).
-use Rattle.std.specs.Prelude.{ℕ, Bool, if◌then◌else◌, List, [], ◌∷◌, map, Option, Some, None, codes, string_bytes, nat_eq}
-use Rattle.std.specs.List.{slice_eq}
+use Rattle.std.specs.Prelude.{ℕ, if◌then◌else◌, List, [], ◌∷◌, map, Option, Some, None, codes, string_bytes}
+use Rattle.std.specs.Str.{bytes_eq}
 use Rattle.std.specs.declared.string.String.{String}
 use Rattle.std.specs.declared.alloc.Global.{Global}
 use Rattle.adjudicate.specs.declared.orders.Order.{Order}
@@ -8,7 +8,7 @@ use Rattle.adjudicate.specs.declared.orders.Order.TheVariants.{JudgePositions}
 
 -- what is ordered by a list of words
 unfoldable pub order_of : List (List ℕ) → Option Order
-order_of (word ∷ []) = if slice_eq nat_eq word (codes "position") then Some JudgePositions else None
+order_of (word ∷ []) = if bytes_eq word (codes "position") then Some JudgePositions else None
 order_of _ = None
 
 -- the same of the texts of the words

@@ -14,18 +14,21 @@ pub fn next_line(text: &[u8]) -> (&[u8], &[u8])
 {
     let end = run_of(Class::NotLineFeed, text);
     let (line, rest) = text.split_at(end);
-    match rest {
-        [] => (line, rest),
-        [_feed, later @ ..] => (without_return(line), later),
+    if rest.is_empty() {
+        return (line, rest);
     }
+    let (_feed, later) = rest.split_at(1);
+    (without_return(line), later)
 }
 
 /// A line without one carriage return at its end.
 fn without_return(line: &[u8]) -> &[u8]
     ensures { result.now ≡ without_return_of line.now }
 {
-    match line {
-        [front @ .., b'\r'] => front,
-        _ => line,
+    let end = line.len();
+    if end > 0 && line[end - 1] == b'\r' {
+        line.split_at(end - 1).0
+    } else {
+        line
     }
 }

@@ -2,3 +2,5 @@ pub mod Men
 pub mod Squares
 pub mod Board
 pub mod Build
+pub mod SquareSets
+pub mod SetLaws

@@ -3,3 +3,4 @@ pub mod Addings
 pub mod Writing
 pub mod RoundTrip
 pub mod WrittenRead
+mod Examples

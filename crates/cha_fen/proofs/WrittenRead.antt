@@ -214,3 +214,7 @@ pub written_is_read : (q : Board) → IsValid q → fen (fen_text q) ≡ Ok q
 unfolding fen parts_of are_clocks
 written_is_read q v =
     rw (written_fields q, men_read q.men v.size, side_read q.side, rights_read q.rights, target_read q.target (λ s e. small_target q s v e), no_fault q v) (ap Ok (built_again q v))
+
+-- the same of a text that was written
+pub read_again : (text : List ℕ) (q : Board) → text ≡ fen_text q → IsValid q → fen text ≡ Ok q
+read_again text q e v = ap fen e ∙ written_is_read q v

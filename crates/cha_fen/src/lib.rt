@@ -9,8 +9,10 @@ mod faults;
 mod fields;
 mod placement;
 mod reader;
+#[cfg(test)]
+mod tests;
 mod written;
 
 pub use faults::FenFault;
 pub use reader::read;
-pub use written::write;
+pub use written::{write, written_is_read};

@@ -125,21 +125,36 @@ fn put_target(target: Option<Square>, text: &mut Text) -> Result<(), NoMemory>
     Ok(())
 }
 
+/// Writes the four fields of a position, with a space between them.
+#[tactic(auto, unfolding(crate::specs::Written::fen_text))]
+fn put_position(position: &Position, text: &mut Text) -> Result<(), NoMemory>
+    ensures text { OnOk result (text.new ≡ text.old ++ fen_text position.now) }
+    ensures valid { IsValid position.now }
+{
+    put_ranks(position.men(), text)?;
+    text.push(b' ')?;
+    put_side(position.side(), text)?;
+    text.push(b' ')?;
+    put_rights(position.rights(), text)?;
+    text.push(b' ')?;
+    put_target(position.target(), text)
+}
+
 /// The text of a position in FEN, of four fields with a space between them (PGN standard, 16.1; that the clocks are left
 /// out: this project). It is read as the same position.
 ///
 /// A pawn on e2 between two kings on e1 and e8, with White to move, is `4k3/8/8/8/8/8/4P3/4K3 w - -`.
-#[tactic(auto, unfolding(crate::specs::Written::fen_text))]
+#[tactic(auto, using(crate::proofs::WrittenRead::read_again))]
 pub fn write(alloc: Global, position: &Position) -> Result<Text, NoMemory>
     ensures text { IfOk result (λ text. text ≡ fen_text position.now) }
+    ensures read_again { IfOk result (λ text. fen text ≡ Ok position.now) }
 {
     let mut text = Text::new(alloc);
-    put_ranks(position.men(), &mut text)?;
-    text.push(b' ')?;
-    put_side(position.side(), &mut text)?;
-    text.push(b' ')?;
-    put_rights(position.rights(), &mut text)?;
-    text.push(b' ')?;
-    put_target(position.target(), &mut text)?;
+    put_position(position, &mut text)?;
     Ok(text)
 }
+
+/// The law of the two: what is written of a valid position is read as that position.
+pub fn written_is_read()
+    ensures { (q : Board) → IsValid q → fen (fen_text q) ≡ Ok q }
+{}

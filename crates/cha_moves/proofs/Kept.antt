@@ -1,7 +1,7 @@
 -- What the man that moves becomes, the squares of a castling and of a capture en passant, and that each side keeps its king.
 use Rattle.std.proofs.Common.{◌≡◌, ◌≢◌, ℕ, ◌+◌, ◌-◌, ◌<◌, ◌≤◌, ◌==◌, Bool, true, false, not, ◌&&◌, ◌||◌, cond, List, length, Option, Some, None, is_none, slice_set, ◌⊎◌, inl, inr, refl, sym, ◌∙◌, ap, subst, arith}
 use Rattle.std.specs.List.{count_by}
-use Rattle.std.proofs.lemmas.Bool.{and_parts, both_ways, eqb-true, eq-eqb, not-true}
+use Rattle.std.proofs.lemmas.Bool.{and_parts, both_ways, eqb-true, eq-eqb, not-true, cases_eq, false_from_ne_true}
 use Rattle.std.proofs.lemmas.List.{length-set}
 use Rattle.std.proofs.lemmas.List.Sums.{sum_by-set}
 use Rattle.cha_board.specs.declared.men.Color.{Color}
@@ -11,7 +11,8 @@ use Rattle.cha_board.specs.declared.men.Kind.TheVariants.{Pawn, Knight, Bishop, 
 use Rattle.cha_board.specs.declared.men.Man.{Man}
 use Rattle.cha_board.specs.Men.{other_color, same_color, same_kind, is_vacant, is_man}
 use Rattle.cha_board.specs.Squares.{rank_of}
-use Rattle.cha_board.specs.Board.{Board, IsValid, man_at, is_empty, home_of, has_one_king, has_short_right, has_long_right, rights_fit, are_at_home, target_fits, target_is_good}
+use Rattle.cha_board.specs.Board.{Board, IsValid, man_at, is_empty, home_of, king_of, has_one_king, has_short_right, has_long_right, rights_fit, are_at_home, target_fits, target_is_good}
+use Rattle.cha_board.proofs.Kings.{king_is}
 use Rattle.cha_moves.specs.Step.{Move}
 use Rattle.cha_moves.specs.Moves.{last_rank, is_promotion, promotes_well, may_enter, arriving, is_target, is_en_passant, victim_of, is_short_castling, is_long_castling, moved, castles_short, castles_long, captures_en_passant, rook_of, men_after}
 use Rattle.cha_moves.proofs.Identity.{same_color_equal, same_kind_equal, side_other, one_color, two_kinds, one_kind, empty_no_man, empty_is_none, none_some, some_inj, on_board, ManOf, man_of, is_man_from, five_of_eight, six_of_nine, all_four, if_at}
@@ -110,7 +111,8 @@ kings_in men c = count_by (is_man c King) men
 abbrev one_if : Bool → ℕ
 one_if b = cond b 1 0
 
-kings_put : (men : List (Option Man)) (s : ℕ) (man : Option Man) (c : Color) → s < length men
+-- a write to one square, and how many kings there are
+pub kings_put : (men : List (Option Man)) (s : ℕ) (man : Option Man) (c : Color) → s < length men
     → kings_in (slice_set men s man) c + one_if (is_man c King (man_at men s)) ≡ kings_in men c + one_if (is_man c King man)
 kings_put men s man c inside = sum_by-set (λ (o : Option Man). one_if (is_man c King o)) men s man None inside
 
@@ -363,3 +365,31 @@ unfolding has_one_king
 kings_kept q m man step c =
     let one : kings_in q.men c ≡ 1 = eqb-true (kings_in q.men c) 1 (step.valid.kings c) in
     eq-eqb (kings_in (men_after q m) c) 1 (kings_after q m man step c ∙ one)
+
+-- a side with one king has it on one square alone
+pub one_king_place : (men : List (Option Man)) (c : Color) (s k : ℕ) → has_one_king men c ≡ true → s < length men → k < length men
+    → is_man c King (man_at men s) ≡ true → is_man c King (man_at men k) ≡ true → s ≡ k
+unfolding has_one_king
+one_king_place men c s k one in_s in_k here there =
+    elim (cases_eq s k) [
+      | inl e ↦ e
+      | inr ne ↦ (
+          let left : List (Option Man) = slice_set men s None in
+          let in_k' : k < length left = rw length-set in_k in
+          let ne' : k ≢ s = λ e. ne (sym e) in
+          let still : is_man c King (man_at left k) ≡ true = ap (is_man c King) (put_other men s None k ne') ∙ there in
+          let a = kings_put men s None c in_s in
+          let b = kings_put left k None c in_k' in
+          let x : one_if (is_man c King (man_at men s)) ≡ 1 = ap one_if here in
+          let y : one_if (is_man c King (man_at left k)) ≡ 1 = ap one_if still in
+          let total : kings_in men c ≡ 1 = eqb-true (kings_in men c) 1 one in
+          absurd (omega (arith, a, b, x, y, total)))
+    ]
+
+-- where a king of c stands that has one king
+pub king_place : (men : List (Option Man)) (c : Color) (s : ℕ) → has_one_king men c ≡ true → s < length men → is_man c King (man_at men s) ≡ true → king_of men c ≡ s
+king_place men c s one inside here =
+    king_is men c s inside (λ k below. false_from_ne_true (is_man c King (man_at men k)) (λ h.
+    let in_k : k < length men = omega arith in
+    let e = one_king_place men c s k one inside in_k here h in
+    omega (arith, e, below))) here

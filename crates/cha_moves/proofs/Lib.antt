@@ -4,3 +4,4 @@ pub mod Kept
 pub mod Validity
 pub mod Pieces
 pub mod Listed
+pub mod Bare

@@ -1,8 +1,11 @@
-//! How a position stands.
+//! How a position stands (Laws of Chess, Articles 5.1.1 and 5.2.1).
 
-use cha_board::Color;
+ghost use Rattle.cha_moves.specs.Standings.{Stands};
 
-/// How a position stands (Laws of Chess, Articles 5.1.1 and 5.2.1).
+use crate::list::any_legal;
+use cha_board::{Color, Position, king_attacked};
+
+/// How a position stands.
 #[derive(Clone, Copy, Debug, PartialEq, Eq)]
 pub enum Standing {
     /// The side to move is checkmated; the other side, which is named, has won.
@@ -11,4 +14,19 @@ pub enum Standing {
     Stalemate,
     /// The side to move has a legal move.
     Running,
+}
+
+/// How a position stands: mate, stalemate or neither. It takes no memory.
+pub fn state(position: &Position) -> Standing
+    ensures { Stands position.now result }
+{
+    if any_legal(position) {
+        return Standing::Running;
+    }
+    let side = position.side();
+    if king_attacked(position.men(), side) {
+        Standing::Mate(side.other())
+    } else {
+        Standing::Stalemate
+    }
 }

@@ -1,15 +1,21 @@
 //! The moves of chess: which are legal, the position after each, and how a position stands (Laws of Chess, Articles 3 and 5).
 //!
 //! `step` has the move, `goes` how men go, `makes` what a move changes, `list` the legal moves and the position after
-//! one, `ends` how a position stands.
+//! one, `ends` how a position stands, `lines` the lines that end in mate, `lone` bare kings, and `text` the move's text.
 #![tactic(auto)]
 
 mod ends;
 mod goes;
+mod lines;
 mod list;
+mod lone;
 mod makes;
 mod step;
+mod text;
 
-pub use ends::Standing;
+pub use ends::{Standing, state};
+pub use lines::replays;
 pub use list::{Moves, Positions, after, any_legal, is_legal, legal};
+pub use lone::has_bare_king;
 pub use step::Move;
+pub use text::move_text;

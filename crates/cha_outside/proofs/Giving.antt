@@ -2,7 +2,6 @@
 use Rattle.std.proofs.Common.{◌≡◌, ℕ, zero, suc, ◌-◌, ◌≤◌, List, length, replicate, [], ◌++◌, Some, refl, sym, ap, ◌∙◌, subst, take, drop, take-append-drop}
 use Rattle.std.proofs.Math.Seq.{take-append_seam}
 use Rattle.std.proofs.lemmas.List.{length-replicate, take-replicate, drop-replicate}
-use Rattle.std.specs.declared.option.Option.{Option}
 use Rattle.cha_outside.specs.declared.reading.Got.{Got}
 use Rattle.cha_outside.specs.Reading.{Gives, given}
 

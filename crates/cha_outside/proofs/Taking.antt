@@ -1,5 +1,5 @@
 -- Bytes taken from a source, one read after another.
-use Rattle.std.proofs.Common.{◌≡◌, ℕ, List, [], ◌++◌}
+use Rattle.std.proofs.Common.{ℕ, List, [], ◌++◌}
 use Rattle.std.specs.declared.option.Option.{Option}
 use Rattle.std.specs.Io.KnownBytes.{Keeps, Consumes}
 use Rattle.std.proofs.KnownBytes.{Consumes-nil, Consumes-trans, Consumes-kept}

@@ -1,7 +1,6 @@
-//! The front of a buffer.
+//! The front of a buffer, and the answer of a read that filled it.
 
-ghost use Rattle.std.specs.Prelude.{◌≡◌, ◌≤◌, min, length, take, drop, ◌++◌};
-ghost use Rattle.cha_outside.specs.Faults.{is_to_fail};
+ghost use Rattle.std.specs.Prelude.{◌≡◌, min, length, take};
 ghost use Rattle.cha_outside.specs.Reading.{given};
 
 use crate::reading::Got;
@@ -21,11 +20,4 @@ pub(crate) fn got(n: usize) -> Got
     ensures { result ≡ given n }
 {
     if n == 0 { Got::End } else { Got::Bytes(n) }
-}
-
-/// Whether the calls that are to fail have the number of this one.
-pub(crate) fn is_among(fails: &[u32], number: u64) -> bool
-    ensures { result ≡ is_to_fail fails.now number }
-{
-    fails.iter().any(|call| u64::from(*call) == number)
 }

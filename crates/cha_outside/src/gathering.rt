@@ -24,6 +24,9 @@ pub enum ReadEnd {
 
 /// Reads a source to its end, and gives all its bytes. It reads 4,096 bytes at a time, and begins no read once more
 /// than `limit` bytes were taken.
+///
+/// After an error the bytes taken are gone from the source. A source that tells what it has left is too long exactly
+/// where that is more than `limit` bytes, unless it fails or memory is refused first.
 #[tactic(auto, using(crate::proofs::Taking::consumes_nothing, crate::proofs::Taking::consumes_more, crate::proofs::Taking::consumes_keeps))]
 pub fn read_all<S: Source>(alloc: Global, source: &mut S, limit: usize) -> Result<Vec<u8>, ReadEnd>
     ensures all { IfOk result (λ v. Consumes (S.left source.old) (S.left source.new) v.items × IsAtEnd (S.left source.new) × (vec_len v ≤ limit)) }

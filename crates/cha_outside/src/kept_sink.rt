@@ -3,9 +3,9 @@
 ghost use Rattle.std.specs.Prelude.{◌≡◌, ◌<◌, [], length, IfOk};
 ghost use Rattle.std.specs.declared.option.Option.TheVariants.{Some};
 ghost use Rattle.cha_outside.specs.Writing.{TakesBelow, Takes, WriteCause};
-ghost use Rattle.cha_outside.specs.KeptState.{KeptState, kept_answer, kept_after};
+ghost use Rattle.cha_outside.specs.KeptState.{kept_answer, kept_after};
 
-use crate::filling::is_among;
+use crate::failing::is_among;
 use crate::writing::{Sink, Wrote};
 use cha_list::NoMemory;
 use std::alloc::Global;

@@ -5,6 +5,7 @@
 #![tactic(auto)]
 
 mod bytes_source;
+mod failing;
 mod filling;
 mod gathering;
 mod kept_sink;

@@ -3,9 +3,10 @@
 ghost use Rattle.std.specs.Prelude.{◌≡◌, ◌<◌, length};
 ghost use Rattle.std.specs.declared.option.Option.TheVariants.{Some};
 ghost use Rattle.cha_outside.specs.Reading.{GivesWithin, Gives, ReadCause};
-ghost use Rattle.cha_outside.specs.PiecesState.{PiecesState, size_at, pieces_answer, pieces_after};
+ghost use Rattle.cha_outside.specs.PiecesState.{size_at, pieces_answer, pieces_after};
 
-use crate::filling::{copy_front, got, is_among};
+use crate::failing::is_among;
+use crate::filling::{copy_front, got};
 use crate::reading::{Got, Source};
 use std::marker::Model;
 

@@ -3,7 +3,6 @@
 ghost use Rattle.std.specs.Prelude.{◌≡◌, ◌-◌, ◌<◌, length, min, replicate};
 ghost use Rattle.std.specs.declared.option.Option.TheVariants.{Some};
 ghost use Rattle.cha_outside.specs.Reading.{GivesWithin, Gives, ReadCause, given};
-ghost use Rattle.cha_outside.specs.RepeatState.{RepeatState};
 
 use crate::filling::got;
 use crate::reading::{Got, Source};

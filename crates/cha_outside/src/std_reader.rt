@@ -1,6 +1,6 @@
 //! std's readers as sources.
 
-ghost use Rattle.std.specs.Prelude.{◌≡◌, ◌<◌, length};
+ghost use Rattle.std.specs.Prelude.{◌≡◌};
 ghost use Rattle.cha_outside.specs.Adapters.{reader_of, read_faults};
 
 use crate::reading::{Got, Source};

@@ -1,4 +1,4 @@
-use Rattle.std.proofs.Common.{◌++◌, take, arith, length-append}
+use Rattle.std.proofs.Common.{◌++◌, take, arith}
 use Rattle.std.proofs.lemmas.Grind.{common_steps}
 use Rattle.cha_outside.proofs.Taking.{consumes_more}
 use Rattle.cha_outside.proofs.gathering.read_all.Goals as goal

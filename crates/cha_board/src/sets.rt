@@ -1,0 +1,88 @@
+//! Sets of squares.
+
+ghost use Rattle.std.specs.Prelude.{◌≡◌};
+ghost use Rattle.cha_board.specs.SquareSets.{set_of_bits, bits_of_set, empty_set, has_square, set_with, set_joined, is_subset};
+
+use crate::squares::Square;
+use std::marker::Model;
+
+/// A set of squares, seen by contracts as 64 truth values, one for each square from a1 to h8.
+///
+/// As a number its bit `s` stands for square `s`: the set of a1 and h1 is the number `0x81`.
+#[derive(Clone, Copy, Debug, PartialEq, Eq)]
+pub struct SquareSet {
+    bits: u64,
+}
+
+impl Model for SquareSet {
+    ghost use Rattle.std.specs.Prelude.{Bool, List, ◌<◌, ◌^◌};
+    ghost use Rattle.std.proofs.Common.{ap};
+    ghost use Rattle.cha_board.specs.SquareSets.{set_of_bits, bits_of_set};
+    ghost use Rattle.cha_board.specs.SetLaws.{bits_of_set-set_of_bits};
+
+    ghost Value = { List Bool };
+
+    ghost view = { λ s. set_of_bits s.bits };
+
+    ghost invariant = { λ s. s.bits < 2 ^ 64 };
+
+    ghost inverse = { λ set. record { bits = bits_of_set set } };
+
+    ghost inverse_ok = { λ s h. ap (λ n. record { bits = n }) (bits_of_set-set_of_bits s.bits h) };
+}
+
+impl SquareSet {
+    /// The set of no square.
+    pub fn empty() -> SquareSet
+        ensures { result ≡ empty_set }
+    {
+        SquareSet { bits: 0 }
+    }
+
+    /// The set of the squares that are the bits of a number.
+    pub fn from_bits(bits: u64) -> SquareSet
+        ensures { result ≡ set_of_bits bits }
+    {
+        SquareSet { bits }
+    }
+
+    /// The number whose bits are the squares of the set.
+    pub fn bits(self) -> u64
+        ensures value { result ≡ bits_of_set self }
+        ensures shown { self ≡ set_of_bits result }
+    {
+        self.bits
+    }
+
+    /// Whether a square is in the set.
+    pub fn has(self, at: Square) -> bool
+        ensures { result ≡ has_square self at }
+    {
+        (self.bits >> at.index()) & 1 == 1
+    }
+
+    /// The set with one more square.
+    pub fn with(self, at: Square) -> SquareSet
+        ensures { result ≡ set_with self at }
+    {
+        SquareSet {
+            bits: self.bits | (1 << at.index()),
+        }
+    }
+
+    /// The squares of either set.
+    pub fn joined(self, other: SquareSet) -> SquareSet
+        ensures { result ≡ set_joined self other }
+    {
+        SquareSet {
+            bits: self.bits | other.bits,
+        }
+    }
+
+    /// Whether each square of this set is in the other.
+    pub fn within(self, other: SquareSet) -> bool
+        ensures { result ≡ is_subset self other }
+    {
+        self.bits & !other.bits == 0
+    }
+}

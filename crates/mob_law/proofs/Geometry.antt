@@ -1,0 +1,145 @@
+-- Squares next to each other, and what lies between squares, by tables over all pairs of squares.
+use Rattle.std.proofs.Common.{◌≡◌, ℕ, ◌+◌, ◌-◌, ◌<◌, ◌≢◌, Bool, true, false, not, ◌&&◌, ◌||◌, ◌==◌, List, [], ◌∷◌, refl}
+use Rattle.std.specs.List.{list_all}
+use Rattle.std.proofs.lemmas.Bool.{and_parts, both_ways, eq-eqb, not-true}
+use Rattle.cha_board.specs.declared.men.Color.{Color}
+use Rattle.cha_board.specs.declared.men.Color.TheVariants.{White, Black}
+use Rattle.cha_board.specs.declared.men.Kind.{Kind}
+use Rattle.cha_board.specs.declared.men.Kind.TheVariants.{Pawn, Knight, Bishop, Rook, Queen, King}
+use Rattle.cha_board.specs.Board.{home_of}
+use Rattle.cha_board.specs.Squares.{squares, files_apart, ranks_apart, steps_apart, is_straight, is_diagonal, is_line, is_rank_ahead, aims_at, is_within, lies_between, between}
+use Rattle.cha_board.proofs.Scans.{all_squares_at}
+use Rattle.mob_law.specs.Reach.{is_leaper}
+
+-- a test that holds of all pairs of squares
+pair_at : (f : ℕ → ℕ → Bool) → list_all (λ s. list_all (f s) squares) squares ≡ true → (s t : ℕ) → s < 64 → t < 64 → f s t ≡ true
+pair_at f table s t small small' = all_squares_at (f s) t (all_squares_at (λ s. list_all (f s) squares) s table small) small'
+
+-- a implies b
+implies : Bool → Bool → Bool
+implies a b = not a || b
+
+implied : (a b : Bool) → implies a b ≡ true → a ≡ true → b ≡ true
+unfolding implies
+implied true b h e = h
+implied false b h e = cc
+
+is_none_of : List ℕ → Bool
+is_none_of [] = true
+is_none_of (x ∷ xs) = false
+
+none_of : (xs : List ℕ) → is_none_of xs ≡ true → xs ≡ []
+unfolding is_none_of
+none_of [] h = refl
+none_of (x ∷ xs) h = cc
+
+-- a step of one square: the squares differ, it can be gone back, and nothing lies between
+near_test : ℕ → ℕ → Bool
+near_test s t = implies (steps_apart s t == 1) (not (s == t) && (steps_apart t s == 1) && is_none_of (between s t))
+
+near_table : list_all (λ s. list_all (near_test s) squares) squares ≡ true
+unfolding near_test implies is_none_of between lies_between is_within is_straight is_diagonal is_line steps_apart files_apart ranks_apart squares
+near_table = refl
+
+-- a knight's jump has nothing between its squares
+jump_test : ℕ → ℕ → Bool
+jump_test s t = implies (aims_at White Knight s t) (is_none_of (between s t))
+
+jump_table : list_all (λ s. list_all (jump_test s) squares) squares ≡ true
+unfolding jump_test implies aims_at is_none_of between lies_between is_within is_straight is_diagonal is_line steps_apart files_apart ranks_apart squares
+jump_table = refl
+
+-- a pawn captures one step away
+pawn_test : Color → ℕ → ℕ → Bool
+pawn_test c s t = implies (aims_at c Pawn s t) (steps_apart s t == 1)
+
+pawn_table : (c : Color) → list_all (λ s. list_all (pawn_test c s) squares) squares ≡ true
+unfolding pawn_test implies aims_at is_rank_ahead steps_apart files_apart ranks_apart squares
+pawn_table White = refl
+pawn_table Black = refl
+
+-- no man aims at its own square
+self_test : Color → ℕ → Bool
+self_test c s = not (aims_at c Pawn s s) && not (aims_at c Knight s s) && not (aims_at c Bishop s s) && not (aims_at c Rook s s) && not (aims_at c Queen s s) && not (aims_at c King s s)
+
+self_table : (c : Color) → list_all (self_test c) squares ≡ true
+unfolding self_test aims_at is_rank_ahead is_straight is_diagonal is_line steps_apart files_apart ranks_apart squares
+self_table White = refl
+self_table Black = refl
+
+-- what a step of one square is
+pub record Near (s t : ℕ) : Type 0 where
+  pub other : s ≢ t
+  pub back : (steps_apart t s == 1) ≡ true
+  pub clear : between s t ≡ []
+
+pub near : (s t : ℕ) → s < 64 → t < 64 → (steps_apart s t == 1) ≡ true → Near s t
+unfolding near_test
+near s t small small' step =
+    let h = implied (steps_apart s t == 1) (not (s == t) && (steps_apart t s == 1) && is_none_of (between s t)) (pair_at near_test near_table s t small small') step in
+    let a = and_parts (not (s == t) && (steps_apart t s == 1)) (is_none_of (between s t)) h in
+    let b = and_parts (not (s == t)) (steps_apart t s == 1) a.0 in
+    record {
+      other = λ e. both_ways (s == t) (not-true (s == t) b.0) (eq-eqb s t e);
+      back = b.1;
+      clear = none_of (between s t) a.1;
+    }
+
+-- a king aims one step away
+pub king_aims : (c : Color) (s t : ℕ) → aims_at c King s t ≡ true → (steps_apart s t == 1) ≡ true
+unfolding aims_at
+king_aims c s t h = h
+
+pub king_aims_from : (c : Color) (s t : ℕ) → (steps_apart s t == 1) ≡ true → aims_at c King s t ≡ true
+unfolding aims_at
+king_aims_from c s t h = h
+
+by_kind : (c : Color) (k : Kind) (s : ℕ) → not (aims_at c Pawn s s) ≡ true → not (aims_at c Knight s s) ≡ true → not (aims_at c Bishop s s) ≡ true
+    → not (aims_at c Rook s s) ≡ true → not (aims_at c Queen s s) ≡ true → not (aims_at c King s s) ≡ true → aims_at c k s s ≡ false
+by_kind c Pawn s p n b r q k = not-true _ p
+by_kind c Knight s p n b r q k = not-true _ n
+by_kind c Bishop s p n b r q k = not-true _ b
+by_kind c Rook s p n b r q k = not-true _ r
+by_kind c Queen s p n b r q k = not-true _ q
+by_kind c King s p n b r q k = not-true _ k
+
+-- six truth values that are all false, by kind
+no_aim : (c : Color) (k : Kind) (s : ℕ) → (not (aims_at c Pawn s s) && not (aims_at c Knight s s) && not (aims_at c Bishop s s) && not (aims_at c Rook s s) && not (aims_at c Queen s s) && not (aims_at c King s s)) ≡ true → aims_at c k s s ≡ false
+no_aim c k s h =
+    let e = and_parts _ (not (aims_at c King s s)) h in
+    let d = and_parts _ (not (aims_at c Queen s s)) e.0 in
+    let r = and_parts _ (not (aims_at c Rook s s)) d.0 in
+    let b = and_parts _ (not (aims_at c Bishop s s)) r.0 in
+    let n = and_parts (not (aims_at c Pawn s s)) (not (aims_at c Knight s s)) b.0 in
+    by_kind c k s n.0 n.1 b.1 r.1 d.1 e.1
+
+-- no man aims at the square on which it stands
+pub aims_at_self : (c : Color) (k : Kind) (s : ℕ) → s < 64 → aims_at c k s s ≡ false
+unfolding self_test
+aims_at_self c k s small =
+    no_aim c k s (all_squares_at (self_test c) s (self_table c) small)
+
+-- a pawn aims one step away
+pawn_near : (c : Color) (s t : ℕ) → s < 64 → t < 64 → aims_at c Pawn s t ≡ true → (steps_apart s t == 1) ≡ true
+unfolding pawn_test
+pawn_near c s t small small' aims = implied (aims_at c Pawn s t) (steps_apart s t == 1) (pair_at (pawn_test c) (pawn_table c) s t small small') aims
+
+-- a knight jumps over nothing
+jump_clear : (c : Color) (s t : ℕ) → s < 64 → t < 64 → aims_at c Knight s t ≡ true → between s t ≡ []
+unfolding jump_test aims_at
+jump_clear c s t small small' aims = none_of (between s t) (implied (aims_at White Knight s t) (is_none_of (between s t)) (pair_at jump_test jump_table s t small small') aims)
+
+-- whatever attacks by a step or a jump, or from a square next to its own, has nothing in its way
+pub leap_clear : (c : Color) (k : Kind) (s t : ℕ) → s < 64 → t < 64 → aims_at c k s t ≡ true → (is_leaper k || (steps_apart s t == 1)) ≡ true → between s t ≡ []
+leap_clear c Pawn s t small small' aims leap = (near s t small small' (pawn_near c s t small small' aims)).clear
+leap_clear c Knight s t small small' aims leap = jump_clear c s t small small' aims
+leap_clear c King s t small small' aims leap = (near s t small small' (king_aims c s t aims)).clear
+leap_clear c Bishop s t small small' aims leap = (near s t small small' leap).clear
+leap_clear c Rook s t small small' aims leap = (near s t small small' leap).clear
+leap_clear c Queen s t small small' aims leap = (near s t small small' leap).clear
+
+-- a castling is no step of one square
+pub two_far : (c : Color) → ((steps_apart (home_of c) (home_of c + 2) == 1) ≡ false) × ((steps_apart (home_of c) (home_of c - 2) == 1) ≡ false)
+unfolding steps_apart files_apart ranks_apart
+two_far White = (refl, refl)
+two_far Black = (refl, refl)

@@ -1,0 +1,63 @@
+-- Each legal move keeps the facts.
+use Rattle.std.proofs.Common.{◌≡◌, ℕ, ◌<◌, Option, true, false, not, refl, inl, inr}
+use Rattle.std.proofs.lemmas.Bool.{and_parts, and_left, not-true, cases_Bool}
+use Rattle.cha_board.specs.declared.men.Kind.TheVariants.{Pawn, King}
+use Rattle.cha_board.specs.declared.men.Man.{Man}
+use Rattle.cha_board.specs.Men.{same_kind, is_man}
+use Rattle.cha_board.specs.Board.{Board, man_at, in_check, IsValid}
+use Rattle.cha_moves.specs.Step.{Move}
+use Rattle.cha_moves.specs.Moves.{is_pseudo_legal, is_short_castling, is_long_castling, is_en_passant, castles_short, castles_long, captures_en_passant, men_after, after, is_legal_in}
+use Rattle.cha_moves.proofs.Identity.{same_kind_equal, one_kind}
+use Rattle.cha_moves.proofs.Made.{may_gives, Step, makes, Plainly, Passing, Shortly, Longly}
+use Rattle.mob_law.specs.Reach.{Sets}
+use Rattle.mob_law.specs.Closed.{IsClosed}
+use Rattle.mob_law.proofs.Facts.{Facts, FactsHold}
+use Rattle.mob_law.proofs.Carry.{carried}
+use Rattle.mob_law.proofs.Ordinary.{back, Lands, ordinary, ordinary_carries}
+use Rattle.mob_law.proofs.Walkers.{walker_lands}
+use Rattle.mob_law.proofs.Pawns.{pawn_lands}
+use Rattle.mob_law.proofs.Castles.{short_held, long_held}
+
+-- what a move of one man needs, a pawn or another
+one_lands : (p : Board) (s : Sets) (q : Board) (origin : ℕ → ℕ) (m : Move) (man : Man) → IsClosed p s → Facts p s q origin → Step q m man → in_check (men_after q m) q.side ≡ false
+    → castles_short q (man_at q.men m.from) m.from m.to ≡ false → castles_long q (man_at q.men m.from) m.from m.to ≡ false → Lands p s q origin m man
+one_lands p s q origin m man closed facts step safe no_short no_long =
+    elim (cases_Bool (same_kind man.kind Pawn)) [
+      | inl h ↦ pawn_lands p s q origin m man closed facts step (same_kind_equal man.kind Pawn h)
+      | inr h ↦ walker_lands p s q origin m man closed facts step safe h no_short no_long
+    ]
+
+-- a move of one man keeps the facts
+one_held : (p : Board) (s : Sets) (q : Board) (origin : ℕ → ℕ) (m : Move) (man : Man) → IsClosed p s → Facts p s q origin → Step q m man → in_check (men_after q m) q.side ≡ false
+    → castles_short q (man_at q.men m.from) m.from m.to ≡ false → castles_long q (man_at q.men m.from) m.from m.to ≡ false → FactsHold p s (after q m)
+one_held p s q origin m man closed facts step safe no_short no_long =
+    let lands = one_lands p s q origin m man closed facts step safe no_short no_long in
+    let ord = ordinary p s q m man step no_short no_long lands.victim in
+    ((λ u. origin (back m.from m.to u)), carried p s q origin (after q m) (back m.from m.to) facts (ordinary_carries p s q origin m man closed facts step lands ord))
+
+-- a capture en passant is no castling, since a pawn is no king
+no_castling : (q : Board) (o : Option Man) (s t : ℕ) → captures_en_passant q o s t ≡ true → (castles_short q o s t ≡ false) × (castles_long q o s t ≡ false)
+no_castling q o s t passes =
+    let pawn = (and_parts (is_man q.side Pawn o) (is_en_passant q s t) passes).0 in
+    let no_king = one_kind q.side q.side Pawn King o refl pawn in
+    (and_left (is_man q.side King o) (is_short_castling q s t) no_king, and_left (is_man q.side King o) (is_long_castling q s t) no_king)
+
+-- each kind of move does
+held_after : (p : Board) (s : Sets) (q : Board) (origin : ℕ → ℕ) (m : Move) (man : Man) → IsClosed p s → Facts p s q origin → Step q m man → in_check (men_after q m) q.side ≡ false → FactsHold p s (after q m)
+held_after p s q origin m man closed facts step safe =
+    elim (makes q m) [
+      | Plainly a no_short no_long e ↦ one_held p s q origin m man closed facts step safe no_short no_long
+      | Passing passes e ↦ (
+          let apart = no_castling q (man_at q.men m.from) m.from m.to passes in
+          one_held p s q origin m man closed facts step safe apart.0 apart.1)
+      | Shortly short e ↦ short_held p s q origin m man closed facts step short e
+      | Longly long e ↦ long_held p s q origin m man closed facts step long e
+    ]
+
+-- each legal move keeps the facts
+pub facts_kept : (p : Board) (s : Sets) (q : Board) (m : Move) → IsClosed p s → IsValid q → m.from < 64 → m.to < 64 → is_legal_in q m ≡ true → FactsHold p s q → FactsHold p s (after q m)
+unfolding is_legal_in
+facts_kept p s q m closed valid from to legal held =
+    let both = and_parts (is_pseudo_legal q m) (not (in_check (men_after q m) q.side)) legal in
+    let mover = may_gives q m both.0 in
+    held_after p s q held.0 m mover.0 closed held.1 (record { valid = valid; from = from; to = to; may = mover.1 }) (not-true (in_check (men_after q m) q.side) both.1)

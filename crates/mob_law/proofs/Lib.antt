@@ -1,0 +1,16 @@
+pub mod Facts
+pub mod Men
+pub mod Geometry
+pub mod Kings
+pub mod Attackers
+pub mod Standing
+pub mod Begin
+pub mod Carry
+pub mod Mating
+pub mod Ordinary
+pub mod Walkers
+pub mod Pawns
+pub mod Castles
+pub mod Keeping
+pub mod Law
+pub mod Growing

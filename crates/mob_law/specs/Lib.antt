@@ -1,0 +1,4 @@
+pub mod Reach
+pub mod Closed
+pub mod Threats
+pub mod Static

@@ -1,0 +1,24 @@
+//! A game as it stands in a text.
+
+use crate::faults::GameFault;
+use crate::marks::ResultMark;
+use cha_board::Position;
+use cha_list::{Listed, Text};
+
+/// Move words in order, each of at least one byte and at most 255.
+pub type Words = Listed<Text>;
+
+/// A game, with what its text says of it. The moves are words that nobody has resolved yet.
+#[derive(Drop)]
+pub struct Game {
+    /// The position of the FEN tag; the opening position where there is no such tag, or where it gives none.
+    pub start: Position,
+    /// The result with which the movetext ends, whatever the Result tag says.
+    pub recorded: ResultMark,
+    /// The Termination tag says that the game was lost on time.
+    pub forfeit: bool,
+    /// The move words outside variations, of which the first 12,001 are kept.
+    pub words: Words,
+    /// Why the game cannot be read, or None.
+    pub fault: Option<GameFault>,
+}

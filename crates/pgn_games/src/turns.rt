@@ -1,0 +1,101 @@
+//! What a token does to the game that is being read.
+
+ghost use Rattle.std.specs.Prelude.{◌≡◌, ◌+◌, ◌-◌, ◌^◌, ◌<◌, ◌≤◌};
+ghost use Rattle.pgn_games.specs.Cutting.{mark_of, is_tag, depth_after, open_at, turn};
+
+use crate::marks::ResultMark;
+use pgn_lex::Token;
+
+/// Where a reader of tokens stands.
+#[derive(Clone, Copy, Debug, PartialEq, Eq)]
+pub enum Place {
+    /// Before a game.
+    Before,
+    /// Among the tags of a game.
+    Tags,
+    /// In the movetext, with so many variations open.
+    Moves(usize),
+}
+
+/// What a token does to the game that is being read.
+#[derive(Clone, Copy, Debug, PartialEq, Eq)]
+pub enum Turn {
+    /// It belongs to the game, which goes on from there.
+    Stays(Place),
+    /// It belongs to the game, and ends it.
+    Ends,
+    /// It begins the next game.
+    Begins,
+}
+
+/// The result that a word or a star tells.
+#[tactic(auto, unfolding(crate::specs::Cutting::mark_of))]
+pub fn mark(token: &Token) -> Option<ResultMark>
+    ensures { result ≡ mark_of token.now }
+{
+    match token {
+        Token::Word(word) => {
+            let word = word.items();
+            if word == b"1-0".as_slice() {
+                return Some(ResultMark::WhiteWins);
+            }
+            if word == b"0-1".as_slice() {
+                return Some(ResultMark::BlackWins);
+            }
+            if word == b"1/2-1/2".as_slice() {
+                return Some(ResultMark::Draw);
+            }
+            None
+        }
+        Token::Star => Some(ResultMark::Unknown),
+        _ => None,
+    }
+}
+
+/// Whether a token stands among the tags of a game.
+#[tactic(auto, unfolding(crate::specs::Cutting::is_tag))]
+fn among_tags(token: &Token) -> bool
+    ensures { result ≡ is_tag token.now }
+{
+    match token {
+        Token::Tag { .. } => true,
+        Token::BadTag => true,
+        _ => false,
+    }
+}
+
+/// How many variations are open after a token.
+#[tactic(auto, unfolding(crate::specs::Cutting::depth_after))]
+pub fn deeper(depth: usize, token: &Token) -> usize
+    requires { depth < 2 ^ 64 - 1 }
+    ensures value { result ≡ depth_after depth token.now }
+    ensures bound { result ≤ depth + 1 }
+{
+    match token {
+        Token::Enter => depth + 1,
+        Token::Leave => depth.saturating_sub(1),
+        _ => depth,
+    }
+}
+
+/// What a token does at a place.
+#[tactic(auto, unfolding(crate::specs::Cutting::turn))]
+pub fn turned(place: Place, token: &Token) -> Turn
+    requires { open_at place < 2 ^ 64 - 1 }
+    ensures { result ≡ turn place token.now }
+{
+    if among_tags(token) {
+        return match place {
+            Place::Moves(_) => Turn::Begins,
+            _ => Turn::Stays(Place::Tags),
+        };
+    }
+    let depth = match place {
+        Place::Moves(depth) => depth,
+        _ => 0,
+    };
+    if depth == 0 && mark(token).is_some() {
+        return Turn::Ends;
+    }
+    Turn::Stays(Place::Moves(deeper(depth, token)))
+}

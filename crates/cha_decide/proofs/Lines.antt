@@ -58,7 +58,7 @@ mated_itself q loser h =
 -- the lists of no moves
 no_move : (b : Bool) (ms : List Move) → Contains (if b then ([] ∷ []) else []) ms → (b ≡ true) × (ms ≡ [])
 no_move true ms h =
-    elim (first_or_later [] ms [] h) [ | inl is ↦ (refl, sym is) | inr later ↦ absurd (contains_none [] ms refl later) ]
+    elim (first_or_later [] ms [] h) [ inl is ↦ (refl, sym is) | inr later ↦ absurd (contains_none [] ms refl later) ]
 no_move false ms h = absurd (contains_none [] ms refl h)
 
 some_move : (b : Bool) → b ≡ true → Contains {X = List Move} (if b then ([] ∷ []) else []) []
@@ -102,7 +102,7 @@ none_within d q winner none ms few h = none_of_length (length ms) q winner (none
 
 -- the first list of n moves that mates, where none of fewer moves does
 pub shortest : (n : ℕ) (q : Board) (winner : Color) (ms : List Move) → n ≤ searched_plies → ((k : ℕ) → k < n → mate_lines k q winner ≡ [])
-  → slice_get (mate_lines n q winner) 0 ≡ Some ms → IsShortestMate q winner ms
+    → slice_get (mate_lines n q winner) 0 ≡ Some ms → IsShortestMate q winner ms
 shortest n q winner ms few none first =
     let line = mating_line n q winner ms (contains_first_of (mate_lines n q winner) ms first) in
     record {
@@ -125,19 +125,19 @@ search_begins (suc n) q winner ms some is = rw (sub-one) (ap (flat_map (begun q 
 
 module _ (n : ℕ) (q : Board) (winner : Color) (ms : List Move) (i : ℕ) (m : Move) (all : List (List Move)) where
   pub search_goes_on : (j : ℕ) → i < length ms → m ≡ get_or ms i m → slice_get (mate_lines n (after q m) winner) 0 ≡ None → j ≡ i + 1
-    → flat_map (begun q winner n) (drop i ms) ≡ all → flat_map (begun q winner n) (drop j ms) ≡ all
+      → flat_map (begun q winner n) (drop i ms) ≡ all → flat_map (begun q winner n) (drop j ms) ≡ all
   search_goes_on j small is none next so_far =
       without_piece (begun q winner n) ms i j m all small is
       (ap (map (λ l. m ∷ l)) (empty_without_first (mate_lines n (after q m) winner) none)) next so_far
 
   pub search_finds : (rest line : List Move) → i < length ms → m ≡ get_or ms i m → slice_get (mate_lines n (after q m) winner) 0 ≡ Some rest → line ≡ m ∷ rest
-    → flat_map (begun q winner n) (drop i ms) ≡ all → slice_get all 0 ≡ Some line
+      → flat_map (begun q winner n) (drop i ms) ≡ all → slice_get all 0 ≡ Some line
   search_finds rest line small is first made so_far =
       first_in_piece (begun q winner n) ms i m line all small is
       (first_image (λ l. m ∷ l) (mate_lines n (after q m) winner) rest first ∙ ap Some (sym made)) so_far
 
 pub search_ends : (n : ℕ) (q : Board) (winner : Color) (ms : List Move) (i : ℕ) (all : List (List Move)) → length ms ≤ i
-  → flat_map (begun q winner n) (drop i ms) ≡ all → slice_get all 0 ≡ None
+    → flat_map (begun q winner n) (drop i ms) ≡ all → slice_get all 0 ≡ None
 search_ends n q winner ms i all past so_far = ap (λ ls. slice_get ls 0) (no_piece (begun q winner n) ms i all past so_far)
 
 -- the mate on the board is the only list of no moves

@@ -7,7 +7,7 @@ use Rattle.cha_board.specs.Board.{Board, has_one_king, has_pawn_at_end, is_pawn_
 use Rattle.cha_board.specs.Build.{build_fault, kept_rights, kept_target, built}
 use Rattle.cha_fen.specs.declared.faults.FenFault.{FenFault}
 use Rattle.cha_fen.specs.declared.faults.FenFault.TheVariants.{Shape, Kings, PawnRank, OpponentInCheck}
-use Rattle.cha_fen.specs.Fields.{fields_after, fields}
+use Rattle.cha_fen.specs.Fields.{fields_after}
 use Rattle.cha_fen.specs.Placement.{rows, kind_of, man_of, squares_of, row_squares, men_upward, men_of_rows}
 use Rattle.cha_fen.specs.Fen.{side_of, are_rights, rights_of, target_of, are_clocks, parts_of, fen}
 use Rattle.cha_fen.specs.Written.{letter_of, row_text_after, ranks_text, rights_text, target_text, fen_text}

@@ -31,23 +31,13 @@ fn kind_named(byte: u8) -> Option<Kind>
 fn man_named(byte: u8) -> Option<Man>
     ensures { result ≡ man_of byte }
 {
-    if byte >= b'a' {
-        match kind_named(byte - 32) {
-            None => None,
-            Some(kind) => Some(Man {
-                color: Color::Black,
-                kind,
-            }),
-        }
+    let (color, upper) = if byte >= b'a' {
+        (Color::Black, byte - 32)
     } else {
-        match kind_named(byte) {
-            None => None,
-            Some(kind) => Some(Man {
-                color: Color::White,
-                kind,
-            }),
-        }
-    }
+        (Color::White, byte)
+    };
+    let kind = kind_named(upper)?;
+    Some(Man { color, kind })
 }
 
 /// Adds empty squares.

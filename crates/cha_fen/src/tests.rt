@@ -2,7 +2,7 @@
 //! edges of the form.
 
 use crate::{FenFault, read, write};
-use cha_list::Text;
+use cha_list::{Text, text_of};
 use std::alloc::Global;
 use std::test::Fail;
 
@@ -237,18 +237,24 @@ fn first_of_several_faults_is_answered(rt: HostRuntime) -> Result<(), Fail> {
     Ok(())
 }
 
+/// A text of this size: two kings, and blanks behind them.
+fn padded(alloc: Global, size: usize) -> Result<Text, Fail> {
+    let mut text = text_of(alloc, b"4k3/8/8/8/8/8/8/4K3 w - -")?;
+    for _blank in text.items().len()..size {
+        text.push(b' ')?;
+    }
+    Ok(text)
+}
+
 #[test]
 fn long_texts_are_read(rt: HostRuntime) -> Result<(), Fail> {
-    for size in [4096usize, 4097] {
-        let mut text = Text::new(rt.alloc());
-        text.append(b"4k3/8/8/8/8/8/8/4K3 w - -")?;
-        while text.items().len() < size {
-            text.push(b' ')?;
-        }
+    for size in [4096, 4097] {
+        let text = padded(rt.alloc(), size)?;
+        assert_eq!(rt; text.items().len(), size);
         assert_eq!(rt;
             rewritten(rt.alloc(), text.items())?.items(),
             b"4k3/8/8/8/8/8/8/4K3 w - -".as_slice(),
-            "at {size}"
+            "at {size}",
         );
     }
     Ok(())

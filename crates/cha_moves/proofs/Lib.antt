@@ -5,3 +5,4 @@ pub mod Validity
 pub mod Pieces
 pub mod Listed
 pub mod Bare
+pub mod Examples

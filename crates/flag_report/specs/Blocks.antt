@@ -17,6 +17,10 @@ use Rattle.flag_report.specs.Verdicts.{is_winnable, is_unwinnable}
 abbrev pub line : List ℕ → List ℕ
 line text = text ++ 10 ∷ []
 
+-- a count behind its label
+abbrev pub count_text : List ℕ → ℕ → List ℕ
+count_text label count = label ++ decimal count
+
 -- the texts of moves, each behind a space
 unfoldable pub moves_text : List Move → List ℕ
 moves_text [] = []
@@ -31,7 +35,7 @@ winnable_text (m ∷ ms) = codes "winnable in " ++ decimal (length (m ∷ ms)) +
 unfoldable pub verdict_text : Verdict → List ℕ
 verdict_text (Winnable moves) = winnable_text moves
 verdict_text Unwinnable = codes "unwinnable"
-verdict_text (Undecided depth) = codes "undecided, depth " ++ decimal depth
+verdict_text (Undecided depth) = count_text (codes "undecided, depth ") depth
 verdict_text Skipped = codes "skipped"
 
 -- neither side can mate

@@ -1,9 +1,9 @@
 -- The last lines.
 use Rattle.std.specs.Prelude.{ℕ, List, ◌++◌, codes, decimal}
 use Rattle.flag_report.specs.declared.totals.Summary.{Summary}
-use Rattle.flag_report.specs.Blocks.{line}
+use Rattle.flag_report.specs.Blocks.{line, count_text}
 
 -- the last line for positions
 unfoldable pub position_summary_text : Summary → List ℕ
 position_summary_text s =
-    line (codes "positions: " ++ decimal s.items ++ codes ", refused: " ++ decimal s.bad ++ codes ", dead: " ++ decimal s.third ++ codes ", undecided: " ++ decimal s.undecided)
+    line (count_text (codes "positions: ") s.items ++ count_text (codes ", refused: ") s.bad ++ count_text (codes ", dead: ") s.third ++ count_text (codes ", undecided: ") s.undecided)

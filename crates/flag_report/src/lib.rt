@@ -4,13 +4,13 @@
 //! `positions` the blocks of positions, `totals` the last line.
 #![tactic(auto)]
 
+mod found;
 mod pieces;
 mod positions;
 mod status;
 mod totals;
-mod found;
 
+pub use found::{Verdict, is_undecided, is_unwinnable, is_winnable};
 pub use positions::{position_block, refused_block};
 pub use status::{has_dead_state, is_dead};
 pub use totals::{Summary, position_summary};
-pub use found::{Verdict, is_undecided, is_unwinnable, is_winnable};

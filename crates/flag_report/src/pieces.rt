@@ -1,7 +1,8 @@
 //! The texts that the blocks of positions and of games share.
 
-ghost use Rattle.std.specs.Prelude.{◌≡◌, ◌++◌, OnOk, decimal};
-ghost use Rattle.flag_report.specs.Blocks.{moves_text, winnable_text, verdict_text, findings_text, fault_text};
+ghost use Rattle.std.specs.Prelude.{◌≡◌, ◌++◌, OnOk, decimal, codes};
+ghost use Rattle.flag_report.specs.Blocks.{line, count_text, moves_text, winnable_text, verdict_text, findings_text, fault_text};
+ghost use Rattle.cha_fen.specs.Written.{fen_text};
 
 use crate::found::Verdict;
 use crate::status::{put_status, standing};
@@ -45,6 +46,14 @@ fn put_winnable(alloc: Global, moves: &[Move], text: &mut Text) -> Result<(), No
     put_moves(moves, text)
 }
 
+/// Appends the text of a search to some depth that found nothing.
+fn put_undecided(alloc: Global, depth: u8, text: &mut Text) -> Result<(), NoMemory>
+    ensures { OnOk result (text.new ≡ text.old ++ count_text (codes "undecided, depth ") depth) }
+{
+    put_count(alloc, b"undecided, depth ", u64::from(depth), text)?;
+    Ok(())
+}
+
 /// Appends the text of a verdict.
 #[tactic(auto, unfolding(crate::specs::Blocks::verdict_text))]
 fn put_verdict(alloc: Global, verdict: &Verdict, text: &mut Text) -> Result<(), NoMemory>
@@ -53,12 +62,30 @@ fn put_verdict(alloc: Global, verdict: &Verdict, text: &mut Text) -> Result<(), 
     match verdict {
         Verdict::Winnable(moves) => put_winnable(alloc, moves.items(), text),
         Verdict::Unwinnable => text.append(b"unwinnable"),
-        Verdict::Undecided { depth } => {
-            text.append(b"undecided, depth ")?;
-            put_number(alloc, u64::from(*depth), text)
-        }
+        Verdict::Undecided { depth } => put_undecided(alloc, *depth, text),
         Verdict::Skipped => text.append(b"skipped"),
     }
+}
+
+/// Appends a line with the verdict on a side behind its label.
+fn put_side(alloc: Global, label: &[u8], verdict: &Verdict, text: &mut Text) -> Result<(), NoMemory>
+    ensures { OnOk result (text.new ≡ text.old ++ line (label.now ++ verdict_text verdict.now)) }
+{
+    text.append(label)?;
+    put_verdict(alloc, verdict, text)?;
+    text.append(b"\n")?;
+    Ok(())
+}
+
+/// Appends the line with the FEN of a position.
+fn put_fen(alloc: Global, position: &Position, text: &mut Text) -> Result<(), NoMemory>
+    ensures { OnOk result (text.new ≡ text.old ++ line (codes "fen: " ++ fen_text position.now)) }
+{
+    text.append(b"fen: ")?;
+    let fen = write(alloc, position)?;
+    text.append(fen.items())?;
+    text.append(b"\n")?;
+    Ok(())
 }
 
 /// Appends the four lines on a position that the blocks of positions and of games share.
@@ -72,15 +99,13 @@ pub fn put_findings(
 ) -> Result<(), NoMemory>
     ensures { OnOk result (text.new ≡ text.old ++ findings_text position.now white.now black.now) }
 {
-    text.append(b"fen: ")?;
-    text.append(write(alloc, position)?.items())?;
-    text.append(b"\nwhite: ")?;
-    put_verdict(alloc, white, text)?;
-    text.append(b"\nblack: ")?;
-    put_verdict(alloc, black, text)?;
-    text.append(b"\nstatus: ")?;
+    put_fen(alloc, position, text)?;
+    put_side(alloc, b"white: ", white, text)?;
+    put_side(alloc, b"black: ", black, text)?;
+    text.append(b"status: ")?;
     put_status(standing(position), white, black, text)?;
-    text.append(b"\n")
+    text.append(b"\n")?;
+    Ok(())
 }
 
 /// Appends the name of a fault of FEN.
@@ -94,4 +119,13 @@ pub fn put_fault(fault: FenFault, text: &mut Text) -> Result<(), NoMemory>
         FenFault::PawnRank => text.append(b"pawn rank"),
         FenFault::OpponentInCheck => text.append(b"opponent in check"),
     }
+}
+
+/// Appends a count behind its label.
+pub fn put_count(alloc: Global, label: &[u8], count: u64, text: &mut Text) -> Result<(), NoMemory>
+    ensures { OnOk result (text.new ≡ text.old ++ (label.now ++ decimal count)) }
+{
+    text.append(label)?;
+    put_number(alloc, count, text)?;
+    Ok(())
 }

@@ -3,7 +3,8 @@
 ghost use Rattle.std.specs.Prelude.{◌≡◌, IfOk};
 ghost use Rattle.flag_report.specs.Totals.{position_summary_text};
 
-use cha_list::{NoMemory, Text, text_of};
+use crate::pieces::put_count;
+use cha_list::{NoMemory, Text};
 use std::alloc::Global;
 
 /// What is counted over all items of the input.
@@ -19,15 +20,30 @@ pub struct Summary {
     pub undecided: u64,
 }
 
+impl Summary {
+    /// The summary of no items.
+    pub fn new() -> Summary
+        ensures { result ≡ record { items = 0; bad = 0; third = 0; undecided = 0 } }
+    {
+        Summary {
+            items: 0,
+            bad: 0,
+            third: 0,
+            undecided: 0,
+        }
+    }
+}
+
 /// The last line for positions, as `positions: 3, refused: 1, dead: 2, undecided: 0`.
 #[tactic(auto, unfolding(crate::specs::Totals::position_summary_text))]
 pub fn position_summary(alloc: Global, s: &Summary) -> Result<Text, NoMemory>
     ensures { IfOk result (λ text. text ≡ position_summary_text s.now) }
 {
-    let items = s.items;
-    let bad = s.bad;
-    let third = s.third;
-    let undecided = s.undecided;
-    let line = format!(in alloc; "positions: {items}, refused: {bad}, dead: {third}, undecided: {undecided}\n")?;
-    text_of(alloc, line.as_bytes())
+    let mut text = Text::new(alloc);
+    put_count(alloc, b"positions: ", s.items, &mut text)?;
+    put_count(alloc, b", refused: ", s.bad, &mut text)?;
+    put_count(alloc, b", dead: ", s.third, &mut text)?;
+    put_count(alloc, b", undecided: ", s.undecided, &mut text)?;
+    text.append(b"\n")?;
+    Ok(text)
 }

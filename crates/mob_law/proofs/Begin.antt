@@ -6,12 +6,15 @@ use Rattle.mob_law.specs.Closed.{IsClosed}
 use Rattle.mob_law.proofs.Facts.{FactsHold, AtFirst}
 
 pub facts_begin : (p : Board) (s : Sets) → IsClosed p s → FactsHold p s p
-facts_begin p s closed = (λ u. u, record {
-  each = λ u man found. record { first = man; stood = found; color = refl; kind = inl refl; reach = closed.begins u man found };
-  distinct = λ u v man other found found' same. same;
-  fixed = λ f h. (refl, refl);
-  second = λ u c pawn rank. refl;
-  short = λ c right. (right, refl, refl);
-  long = λ c right. (right, refl, refl);
-  target = λ t here. AtFirst here refl;
-})
+facts_begin p s closed = (
+  λ u. u,
+  record {
+    each = λ u man found. record { first = man; stood = found; color = refl; kind = inl refl; reach = closed.begins u man found };
+    distinct = λ u v man other found found' same. same;
+    fixed = λ f h. (refl, refl);
+    second = λ u c pawn rank. refl;
+    short = λ c right. (right, refl, refl);
+    long = λ c right. (right, refl, refl);
+    target = λ t here. AtFirst here refl;
+  },
+)

@@ -27,11 +27,11 @@ pub record Carries (p : Board) (s : Sets) (q : Board) (origin : ℕ → ℕ) (r 
   pub apart : (u v : ℕ) (man other : Man) → man_at r.men u ≡ Some man → man_at r.men v ≡ Some other → source u ≡ source v → u ≡ v
   pub fixed : (f : ℕ) → is_fixed p s f ≡ true → (man_at r.men f ≡ man_at q.men f) × (source f ≡ f)
   pub second : (u : ℕ) (c : Color) → is_man c Pawn (man_at r.men u) ≡ true → rank_of u ≡ second_rank c
-    → (is_man c Pawn (man_at q.men u) ≡ true) × (source u ≡ u)
+      → (is_man c Pawn (man_at q.men u) ≡ true) × (source u ≡ u)
   pub short : (c : Color) → has_short_right r.rights c ≡ true
-    → (has_short_right q.rights c ≡ true) × (source (home_of c) ≡ home_of c) × (source (home_of c + 3) ≡ home_of c + 3)
+      → (has_short_right q.rights c ≡ true) × (source (home_of c) ≡ home_of c) × (source (home_of c + 3) ≡ home_of c + 3)
   pub long : (c : Color) → has_long_right r.rights c ≡ true
-    → (has_long_right q.rights c ≡ true) × (source (home_of c) ≡ home_of c) × (source (home_of c - 4) ≡ home_of c - 4)
+      → (has_long_right q.rights c ≡ true) × (source (home_of c) ≡ home_of c) × (source (home_of c - 4) ≡ home_of c - 4)
   pub target : (t : ℕ) → is_target r.target t ≡ true → Passed p s r (λ u. origin (source u)) t
 
 -- what became a j, which became an i, became an i

@@ -19,12 +19,13 @@ use Rattle.mob_law.specs.Closed.{Castles, IsClosed}
 use Rattle.mob_law.proofs.Facts.{Facts, FactsHold}
 use Rattle.mob_law.proofs.Standing.{loose_unfixed, empty_not_fixed}
 use Rattle.mob_law.proofs.Carry.{Comes, Carries, carried}
-use Rattle.mob_law.proofs.Ordinary.{apart_fixed, target_now}
+use Rattle.mob_law.proofs.OneMan.{apart_fixed, target_now}
 
 -- the square from which the man on u came, where a king has gone from `from` to `to` and its rook from i to j
-pub back_both : ℕ → ℕ → ℕ → ℕ → ℕ → ℕ
+back_both : ℕ → ℕ → ℕ → ℕ → ℕ → ℕ
 back_both from to i j u = cond (u == to) from (cond (u == j) i u)
 
+-- the king came from `from`, the rook from i, and each other from its own square
 back_king : (from to i j u : ℕ) → u ≡ to → back_both from to i j u ≡ from
 unfolding back_both
 back_king from to i j u e = rw (eq-eqb u to e) refl
@@ -55,58 +56,13 @@ king_stays q m man new step king arrives =
     let other : same_kind man.kind Pawn ≡ false = rw king refl in
     some_inj man new (sym (stays_man q.side man m.to m.promotion step.may.well other) ∙ arrives)
 
--- each man after it stood somewhere before it, and is in reach where it stands
-castled_comes : (p : Board) (s : Sets) (q : Board) (origin : ℕ → ℕ) (m : Move) (man : Man) (i j : ℕ) → Facts p s q origin → Step q m man → CastlingMove p s q origin m man i j → (u : ℕ) (new : Man) → Castled q m man i j u new
-    → Comes s q origin new u (back_both m.from m.to i j u)
-castled_comes p s q origin m man i j facts step c u new (KingHere e arrives) =
-    let one = king_stays q m man new step c.king arrives in
-    let kind : King ≡ new.kind = sym c.king ∙ ap (λ (x : Man). x.kind) one in
-    let at : back_both m.from m.to i j u ≡ m.from = back_king m.from m.to i j u e in
-    let U : ℕ → Type 0 = λ x. s.has m.from King x ≡ true in
-    let K : Kind → Type 0 = λ k. s.has m.from k u ≡ true in
-    let O : ℕ → Type 0 = λ x. s.has x new.kind u ≡ true in
-    record {
-      old = man;
-      stood = ap (λ x. man_at q.men x) at ∙ step.may.found;
-      color = ap (λ (x : Man). x.color) one;
-      kind = inl (ap (λ (x : Man). x.kind) (sym one));
-      reach = subst O (sym (ap origin at ∙ c.king_origin)) (subst K kind (subst U (sym e) c.castles.king));
-    }
-castled_comes p s q origin m man i j facts step c u new (RookHere e arrives) =
-    let rook = man_of (man_at q.men i) q.side Rook c.move.rook in
-    let late : Man = record { color = q.side; kind = Rook } in
-    let one : late ≡ new = some_inj late new arrives in
-    let color : q.side ≡ new.color = ap (λ (x : Man). x.color) one in
-    let kind : Rook ≡ new.kind = ap (λ (x : Man). x.kind) one in
-    let nt : u ≢ m.to = λ f. c.move.j_to (sym e ∙ f) in
-    let at : back_both m.from m.to i j u ≡ i = back_rook m.from m.to i j u nt e in
-    let U : ℕ → Type 0 = λ x. s.has i Rook x ≡ true in
-    let K : Kind → Type 0 = λ k. s.has i k u ≡ true in
-    let O : ℕ → Type 0 = λ x. s.has x new.kind u ≡ true in
-    record {
-      old = rook.man;
-      stood = ap (λ x. man_at q.men x) at ∙ rook.found;
-      color = rook.color ∙ color;
-      kind = inl (sym kind ∙ sym rook.kind);
-      reach = subst O (sym (ap origin at ∙ c.rook_origin)) (subst K kind (subst U (sym e) c.castles.rook));
-    }
-castled_comes p s q origin m man i j facts step c u new (Others nf nt ni nj stays) =
-    let at : back_both m.from m.to i j u ≡ u = back_none m.from m.to i j u nt nj in
-    let O : ℕ → Type 0 = λ x. s.has (origin x) new.kind u ≡ true in
-    record {
-      old = new;
-      stood = ap (λ x. man_at q.men x) at ∙ stays;
-      color = refl;
-      kind = inl refl;
-      reach = subst O (sym at) (facts.each u new stays).reach;
-    }
-
 -- from which square the man on u came
 data Source (from to i j u x : ℕ) : Type 0 where
   OfKing : u ≡ to → x ≡ from → Source from to i j u x
   OfRook : u ≡ j → x ≡ i → Source from to i j u x
   OfOther : x ≡ u → u ≢ from → u ≢ i → Source from to i j u x
 
+-- `back_both` says from which
 source : (q : Board) (m : Move) (man : Man) (i j u : ℕ) (new : Man) → j ≢ m.to → Castled q m man i j u new → Source m.from m.to i j u (back_both m.from m.to i j u)
 source q m man i j u new jt (KingHere e a) = OfKing e (back_king m.from m.to i j u e)
 source q m man i j u new jt (RookHere e a) = OfRook e (back_rook m.from m.to i j u (λ f. jt (sym e ∙ f)) e)
@@ -124,51 +80,98 @@ one_source from to i j u v x y ne (OfOther a b c) (OfKing d f) e = absurd (b (sy
 one_source from to i j u v x y ne (OfOther a b c) (OfRook d f) e = absurd (c (sym a ∙ e ∙ f))
 one_source from to i j u v x y ne (OfOther a b c) (OfOther d f g) e = sym a ∙ e ∙ d
 
--- a pawn after a castling has not moved
-castled_second : (q : Board) (m : Move) (man : Man) (i j u : ℕ) (new : Man) (c : Color) → Step q m man → man.kind ≡ King → new.color ≡ c → new.kind ≡ Pawn → Castled q m man i j u new
-    → (is_man c Pawn (man_at q.men u) ≡ true) × (back_both m.from m.to i j u ≡ u)
-castled_second q m man i j u new c step king color kind (KingHere e arrives) =
-    let is : King ≡ Pawn = sym king ∙ ap (λ (x : Man). x.kind) (king_stays q m man new step king arrives) ∙ kind in
-    absurd cc
-castled_second q m man i j u new c step king color kind (RookHere e arrives) =
-    let late : Man = record { color = q.side; kind = Rook } in
-    let is : Rook ≡ Pawn = ap (λ (x : Man). x.kind) (some_inj late new arrives) ∙ kind in
-    absurd cc
-castled_second q m man i j u new c step king color kind (Others nf nt ni nj stays) =
-    (is_man_from (man_at q.men u) new c Pawn stays color kind, back_none m.from m.to i j u nt nj)
+-- A castling at a position where the facts hold:
+module _ (p : Board) (s : Sets) (q : Board) (origin : ℕ → ℕ) (m : Move) (man : Man) (closed : IsClosed p s) (facts : Facts p s q origin) (step : Step q m man)
+    (i j : ℕ) (c : CastlingMove p s q origin m man i j) where
+  -- each man after it stood somewhere before it, and is in reach where it stands
+  castled_comes : (u : ℕ) (new : Man) → Castled q m man i j u new → Comes s q origin new u (back_both m.from m.to i j u)
+  castled_comes u new (KingHere e arrives) =
+      let one = king_stays q m man new step c.king arrives in
+      let kind : King ≡ new.kind = sym c.king ∙ ap (λ (x : Man). x.kind) one in
+      let at : back_both m.from m.to i j u ≡ m.from = back_king m.from m.to i j u e in
+      let U : ℕ → Type 0 = λ x. s.has m.from King x ≡ true in
+      let K : Kind → Type 0 = λ k. s.has m.from k u ≡ true in
+      let O : ℕ → Type 0 = λ x. s.has x new.kind u ≡ true in
+      record {
+        old = man;
+        stood = ap (λ x. man_at q.men x) at ∙ step.may.found;
+        color = ap (λ (x : Man). x.color) one;
+        kind = inl (ap (λ (x : Man). x.kind) (sym one));
+        reach = subst O (sym (ap origin at ∙ c.king_origin)) (subst K kind (subst U (sym e) c.castles.king));
+      }
+  castled_comes u new (RookHere e arrives) =
+      let rook = man_of (man_at q.men i) q.side Rook c.move.rook in
+      let late : Man = record { color = q.side; kind = Rook } in
+      let one : late ≡ new = some_inj late new arrives in
+      let color : q.side ≡ new.color = ap (λ (x : Man). x.color) one in
+      let kind : Rook ≡ new.kind = ap (λ (x : Man). x.kind) one in
+      let nt : u ≢ m.to = λ f. c.move.j_to (sym e ∙ f) in
+      let at : back_both m.from m.to i j u ≡ i = back_rook m.from m.to i j u nt e in
+      let U : ℕ → Type 0 = λ x. s.has i Rook x ≡ true in
+      let K : Kind → Type 0 = λ k. s.has i k u ≡ true in
+      let O : ℕ → Type 0 = λ x. s.has x new.kind u ≡ true in
+      record {
+        old = rook.man;
+        stood = ap (λ x. man_at q.men x) at ∙ rook.found;
+        color = rook.color ∙ color;
+        kind = inl (sym kind ∙ sym rook.kind);
+        reach = subst O (sym (ap origin at ∙ c.rook_origin)) (subst K kind (subst U (sym e) c.castles.rook));
+      }
+  castled_comes u new (Others nf nt ni nj stays) =
+      let at : back_both m.from m.to i j u ≡ u = back_none m.from m.to i j u nt nj in
+      let O : ℕ → Type 0 = λ x. s.has (origin x) new.kind u ≡ true in
+      record {
+        old = new;
+        stood = ap (λ x. man_at q.men x) at ∙ stays;
+        color = refl;
+        kind = inl refl;
+        reach = subst O (sym at) (facts.each u new stays).reach;
+      }
 
--- a fixed square is none of the four
-castled_fixed : (p : Board) (s : Sets) (q : Board) (origin : ℕ → ℕ) (m : Move) (man : Man) (i j : ℕ) → CastlingMove p s q origin m man i j → (f : ℕ) → is_fixed p s f ≡ true
-    → (man_at (men_after q m) f ≡ man_at q.men f) × (back_both m.from m.to i j f ≡ f)
-castled_fixed p s q origin m man i j c f h =
-    let nf = apart_fixed p s m.from f (loose_unfixed p s m.from c.castles.king_leaves) h in
-    let ni = apart_fixed p s i f (loose_unfixed p s i c.castles.rook_leaves) h in
-    let nt = apart_fixed p s m.to f c.to_free h in
-    let nj = apart_fixed p s j f c.rook_free h in
-    let a = arriving (man_at q.men m.from) m.promotion in
-    (ap (λ (xs : List (Option Man)). man_at xs f) c.move.men ∙ moved_other (men_moved q m) i j (rook_of q.side) f ni nj ∙ moved_other q.men m.from m.to a f nf nt,
-        back_none m.from m.to i j f nt nj)
+  -- a pawn after a castling has not moved
+  castled_second : (u : ℕ) (new : Man) (d : Color) → new.color ≡ d → new.kind ≡ Pawn → Castled q m man i j u new
+      → (is_man d Pawn (man_at q.men u) ≡ true) × (back_both m.from m.to i j u ≡ u)
+  castled_second u new d color kind (KingHere e arrives) =
+      let is : King ≡ Pawn = sym c.king ∙ ap (λ (x : Man). x.kind) (king_stays q m man new step c.king arrives) ∙ kind in
+      absurd cc
+  castled_second u new d color kind (RookHere e arrives) =
+      let late : Man = record { color = q.side; kind = Rook } in
+      let is : Rook ≡ Pawn = ap (λ (x : Man). x.kind) (some_inj late new arrives) ∙ kind in
+      absurd cc
+  castled_second u new d color kind (Others nf nt ni nj stays) =
+      (is_man_from (man_at q.men u) new d Pawn stays color kind, back_none m.from m.to i j u nt nj)
 
--- so a castling carries the facts along
-castling_carries : (p : Board) (s : Sets) (q : Board) (origin : ℕ → ℕ) (m : Move) (man : Man) (i j : ℕ) → IsClosed p s → Facts p s q origin → Step q m man → CastlingMove p s q origin m man i j
-    → Carries p s q origin (after q m) (back_both m.from m.to i j)
-unfolding after
-castling_carries p s q origin m man i j closed facts step c = record {
-  comes = λ u new found. castled_comes p s q origin m man i j facts step c u new (castled q m man i j step c.move u new found);
-  apart = λ u v new other found found' same. one_source m.from m.to i j u v (back_both m.from m.to i j u) (back_both m.from m.to i j v) c.move.i_from
-    (source q m man i j u new c.move.j_to (castled q m man i j step c.move u new found)) (source q m man i j v other c.move.j_to (castled q m man i j step c.move v other found')) same;
-  fixed = λ f h. castled_fixed p s q origin m man i j c f h;
-  second = λ u d pawn rank. (
-      let k = man_of (man_at (men_after q m) u) d Pawn pawn in
-      castled_second q m man i j u k.man d step c.king k.color k.kind (castled q m man i j step c.move u k.man k.found));
-  short = λ d right. (
-      let k = short_after q.rights m d right in
-      (k.0, back_none m.from m.to i j (home_of d) (λ e. k.1.1 (sym e)) (c.homes d).0, back_none m.from m.to i j (home_of d + 3) (λ e. k.2.1 (sym e)) (c.homes d).1));
-  long = λ d right. (
-      let k = long_after q.rights m d right in
-      (k.0, back_none m.from m.to i j (home_of d) (λ e. k.1.1 (sym e)) (c.homes d).0, back_none m.from m.to i j (home_of d - 4) (λ e. k.2.1 (sym e)) (c.homes d).2));
-  target = λ t here. target_now p s q origin m man (back_both m.from m.to i j) closed facts step (back_king m.from m.to i j m.to refl) t here;
-}
+  -- a fixed square is none of the four that king and rook leave and enter
+  castled_fixed : (f : ℕ) → is_fixed p s f ≡ true → (man_at (men_after q m) f ≡ man_at q.men f) × (back_both m.from m.to i j f ≡ f)
+  castled_fixed f h =
+      let nf = apart_fixed p s m.from f (loose_unfixed p s m.from c.castles.king_leaves) h in
+      let ni = apart_fixed p s i f (loose_unfixed p s i c.castles.rook_leaves) h in
+      let nt = apart_fixed p s m.to f c.to_free h in
+      let nj = apart_fixed p s j f c.rook_free h in
+      let a = arriving (man_at q.men m.from) m.promotion in (
+        ap (λ (xs : List (Option Man)). man_at xs f) c.move.men ∙ moved_other (men_moved q m) i j (rook_of q.side) f ni nj ∙ moved_other q.men m.from m.to a f nf nt,
+        back_none m.from m.to i j f nt nj,
+      )
+
+  -- so a castling carries the facts along
+  castling_carries : Carries p s q origin (after q m) (back_both m.from m.to i j)
+  unfolding after
+  castling_carries = record {
+    comes = λ u new found. castled_comes u new (castled q m man i j step c.move u new found);
+    apart = λ u v new other found found' same. one_source m.from m.to i j u v (back_both m.from m.to i j u) (back_both m.from m.to i j v) c.move.i_from
+        (source q m man i j u new c.move.j_to (castled q m man i j step c.move u new found)) (source q m man i j v other c.move.j_to (castled q m man i j step c.move v other found')) same;
+    fixed = λ f h. castled_fixed f h;
+    second = λ u d pawn rank. (
+        let k = man_of (man_at (men_after q m) u) d Pawn pawn in
+        castled_second u k.man d k.color k.kind (castled q m man i j step c.move u k.man k.found));
+    short = λ d right. (
+        let k = short_after q.rights m d right in
+        (k.0, back_none m.from m.to i j (home_of d) (λ e. k.1.1 (sym e)) (c.homes d).0, back_none m.from m.to i j (home_of d + 3) (λ e. k.2.1 (sym e)) (c.homes d).1));
+    long = λ d right. (
+        let k = long_after q.rights m d right in
+        (k.0, back_none m.from m.to i j (home_of d) (λ e. k.1.1 (sym e)) (c.homes d).0, back_none m.from m.to i j (home_of d - 4) (λ e. k.2.1 (sym e)) (c.homes d).2));
+    target = λ t here. target_now p s q origin m man closed facts step (back_both m.from m.to i j) (back_king m.from m.to i j m.to refl) t here;
+  }
 
 -- no rook castles to a home
 short_homes_apart : (side c : Color) → (home_of c ≢ home_of side + 1) × (home_of c + 3 ≢ home_of side + 1) × (home_of c - 4 ≢ home_of side + 1)
@@ -183,61 +186,63 @@ long_homes_apart White Black = (λ e. omega (arith, e), λ e. omega (arith, e), 
 long_homes_apart Black White = (λ e. omega (arith, e), λ e. omega (arith, e), λ e. omega (arith, e))
 long_homes_apart Black Black = (λ e. omega (arith, e), λ e. omega (arith, e), λ e. omega (arith, e))
 
--- after a castling on the king's side the facts hold
-pub short_held : (p : Board) (s : Sets) (q : Board) (origin : ℕ → ℕ) (m : Move) (man : Man) → IsClosed p s → Facts p s q origin → Step q m man → castles_short q (man_at q.men m.from) m.from m.to ≡ true
-    → men_after q m ≡ moved (men_moved q m) (home_of q.side + 3) (home_of q.side + 1) (rook_of q.side) → FactsHold p s (after q m)
-short_held p s q origin m man closed facts step h men =
-    let both = and_parts (is_man q.side King (man_at q.men m.from)) (is_short_castling q m.from m.to) h in
-    let tests = short_tests q m.from m.to both.1 in
-    let right = facts.short q.side tests.right in
-    let free = empty_not_fixed p s q origin facts (home_of q.side + 1) tests.free in
-    let free_to = empty_not_fixed p s q origin facts (home_of q.side + 2) tests.free_to in
-    let castles = closed.kings_castle_short q.side right.0 free free_to in
-    let king = man_of (man_at q.men m.from) q.side King both.0 in
-    let i = home_of q.side + 3 in
-    let j = home_of q.side + 1 in
-    let F : ℕ → Type 0 = λ x. Castles s x (home_of q.side + 2) i j in
-    let T : ℕ → Type 0 = λ x. Castles s m.from x i j in
-    let O : ℕ → Type 0 = λ x. origin x ≡ x in
-    let X : ℕ → Type 0 = λ x. is_fixed p s x ≡ false in
-    let c : CastlingMove p s q origin m man i j = record {
-      move = short_castling q m step.valid h men;
-      king = ap (λ (x : Man). x.kind) (some_inj man king.man (sym step.may.found ∙ king.found)) ∙ king.kind;
-      castles = subst T (sym tests.two_files) (subst F (sym tests.from_home) castles);
-      king_origin = subst O (sym tests.from_home) right.1;
-      rook_origin = right.2;
-      to_free = subst X (sym tests.two_files) free_to;
-      rook_free = free;
-      homes = short_homes_apart q.side;
-    } in
-    ((λ u. origin (back_both m.from m.to i j u)), carried p s q origin (after q m) (back_both m.from m.to i j) facts (castling_carries p s q origin m man i j closed facts step c))
+-- The two castlings, by the facts on rights and the rules on castling:
+module _ (p : Board) (s : Sets) (q : Board) (origin : ℕ → ℕ) (m : Move) (man : Man) (closed : IsClosed p s) (facts : Facts p s q origin) (step : Step q m man) where
+  -- after a castling on the king's side the facts hold
+  pub short_held : castles_short q (man_at q.men m.from) m.from m.to ≡ true
+      → men_after q m ≡ moved (men_moved q m) (home_of q.side + 3) (home_of q.side + 1) (rook_of q.side) → FactsHold p s (after q m)
+  short_held h men =
+      let both = and_parts (is_man q.side King (man_at q.men m.from)) (is_short_castling q m.from m.to) h in
+      let tests = short_tests q m.from m.to both.1 in
+      let right = facts.short q.side tests.right in
+      let free = empty_not_fixed p s q origin facts (home_of q.side + 1) tests.free in
+      let free_to = empty_not_fixed p s q origin facts (home_of q.side + 2) tests.free_to in
+      let castles = closed.kings_castle_short q.side right.0 free free_to in
+      let king = man_of (man_at q.men m.from) q.side King both.0 in
+      let i = home_of q.side + 3 in
+      let j = home_of q.side + 1 in
+      let F : ℕ → Type 0 = λ x. Castles s x (home_of q.side + 2) i j in
+      let T : ℕ → Type 0 = λ x. Castles s m.from x i j in
+      let O : ℕ → Type 0 = λ x. origin x ≡ x in
+      let X : ℕ → Type 0 = λ x. is_fixed p s x ≡ false in
+      let c : CastlingMove p s q origin m man i j = record {
+        move = short_castling q m step.valid h men;
+        king = ap (λ (x : Man). x.kind) (some_inj man king.man (sym step.may.found ∙ king.found)) ∙ king.kind;
+        castles = subst T (sym tests.two_files) (subst F (sym tests.from_home) castles);
+        king_origin = subst O (sym tests.from_home) right.1;
+        rook_origin = right.2;
+        to_free = subst X (sym tests.two_files) free_to;
+        rook_free = free;
+        homes = short_homes_apart q.side;
+      } in
+      ((λ u. origin (back_both m.from m.to i j u)), carried p s q origin (after q m) (back_both m.from m.to i j) facts (castling_carries p s q origin m man closed facts step i j c))
 
--- and after one on the queen's side
-pub long_held : (p : Board) (s : Sets) (q : Board) (origin : ℕ → ℕ) (m : Move) (man : Man) → IsClosed p s → Facts p s q origin → Step q m man → castles_long q (man_at q.men m.from) m.from m.to ≡ true
-    → men_after q m ≡ moved (men_moved q m) (home_of q.side - 4) (home_of q.side - 1) (rook_of q.side) → FactsHold p s (after q m)
-long_held p s q origin m man closed facts step h men =
-    let both = and_parts (is_man q.side King (man_at q.men m.from)) (is_long_castling q m.from m.to) h in
-    let tests = long_tests q m.from m.to both.1 in
-    let right = facts.long q.side tests.right in
-    let free = empty_not_fixed p s q origin facts (home_of q.side - 1) tests.free in
-    let free_to = empty_not_fixed p s q origin facts (home_of q.side - 2) tests.free_to in
-    let free_way = empty_not_fixed p s q origin facts (home_of q.side - 3) tests.free_way in
-    let castles = closed.kings_castle_long q.side right.0 free free_to free_way in
-    let king = man_of (man_at q.men m.from) q.side King both.0 in
-    let i = home_of q.side - 4 in
-    let j = home_of q.side - 1 in
-    let F : ℕ → Type 0 = λ x. Castles s x (home_of q.side - 2) i j in
-    let T : ℕ → Type 0 = λ x. Castles s m.from x i j in
-    let O : ℕ → Type 0 = λ x. origin x ≡ x in
-    let X : ℕ → Type 0 = λ x. is_fixed p s x ≡ false in
-    let c : CastlingMove p s q origin m man i j = record {
-      move = long_castling q m step.valid h men;
-      king = ap (λ (x : Man). x.kind) (some_inj man king.man (sym step.may.found ∙ king.found)) ∙ king.kind;
-      castles = subst T (sym tests.two_files) (subst F (sym tests.from_home) castles);
-      king_origin = subst O (sym tests.from_home) right.1;
-      rook_origin = right.2;
-      to_free = subst X (sym tests.two_files) free_to;
-      rook_free = free;
-      homes = long_homes_apart q.side;
-    } in
-    ((λ u. origin (back_both m.from m.to i j u)), carried p s q origin (after q m) (back_both m.from m.to i j) facts (castling_carries p s q origin m man i j closed facts step c))
+  -- and after one on the queen's side
+  pub long_held : castles_long q (man_at q.men m.from) m.from m.to ≡ true
+      → men_after q m ≡ moved (men_moved q m) (home_of q.side - 4) (home_of q.side - 1) (rook_of q.side) → FactsHold p s (after q m)
+  long_held h men =
+      let both = and_parts (is_man q.side King (man_at q.men m.from)) (is_long_castling q m.from m.to) h in
+      let tests = long_tests q m.from m.to both.1 in
+      let right = facts.long q.side tests.right in
+      let free = empty_not_fixed p s q origin facts (home_of q.side - 1) tests.free in
+      let free_to = empty_not_fixed p s q origin facts (home_of q.side - 2) tests.free_to in
+      let free_way = empty_not_fixed p s q origin facts (home_of q.side - 3) tests.free_way in
+      let castles = closed.kings_castle_long q.side right.0 free free_to free_way in
+      let king = man_of (man_at q.men m.from) q.side King both.0 in
+      let i = home_of q.side - 4 in
+      let j = home_of q.side - 1 in
+      let F : ℕ → Type 0 = λ x. Castles s x (home_of q.side - 2) i j in
+      let T : ℕ → Type 0 = λ x. Castles s m.from x i j in
+      let O : ℕ → Type 0 = λ x. origin x ≡ x in
+      let X : ℕ → Type 0 = λ x. is_fixed p s x ≡ false in
+      let c : CastlingMove p s q origin m man i j = record {
+        move = long_castling q m step.valid h men;
+        king = ap (λ (x : Man). x.kind) (some_inj man king.man (sym step.may.found ∙ king.found)) ∙ king.kind;
+        castles = subst T (sym tests.two_files) (subst F (sym tests.from_home) castles);
+        king_origin = subst O (sym tests.from_home) right.1;
+        rook_origin = right.2;
+        to_free = subst X (sym tests.two_files) free_to;
+        rook_free = free;
+        homes = long_homes_apart q.side;
+      } in
+      ((λ u. origin (back_both m.from m.to i j u)), carried p s q origin (after q m) (back_both m.from m.to i j) facts (castling_carries p s q origin m man closed facts step i j c))

@@ -24,25 +24,26 @@ pub record ComesFrom (p : Board) (s : Sets) (man : Man) (u o : ℕ) : Type 0 whe
 pub data Passed (p : Board) (s : Sets) (q : Board) (origin : ℕ → ℕ) (t : ℕ) : Type 0 where
   AtFirst : is_target p.target t ≡ true → q.side ≡ p.side → Passed p s q origin t
   JustNow : rank_of (origin (victim_of q.side t)) ≡ second_rank (other_color q.side)
-    → s.has (origin (victim_of q.side t)) Pawn t ≡ true → Passed p s q origin t
+      → s.has (origin (victim_of q.side t)) Pawn t ≡ true → Passed p s q origin t
 
--- The six facts of a position q that moves have reached from p. Of each square with a man, origin says on which square of
+-- The six facts of a position q that moves have reached from p. Of each square with a man, `origin` says on which square of
 -- p that man stood; of empty squares it says nothing.
---   each, distinct (1 and 2): each man comes from where a man of its colour stood, it is in reach where it stands, and no
---     two men come from one square;
---   fixed (3): on a fixed square stands what stood there at first, and it is its own origin;
---   second (4): a pawn on its own second rank has not moved;
---   short, long (5): a right to castle was there at first, and its king and its rook have not moved;
---   target (6): a target is the first position's, or a pawn has just passed over it.
 pub record Facts (p : Board) (s : Sets) (q : Board) (origin : ℕ → ℕ) : Type 0 where
+  -- 1: each man comes from where a man of its colour stood, of its kind or a pawn before its promotion, and the sets have it
+  -- in reach where it stands
   pub each : (u : ℕ) (man : Man) → man_at q.men u ≡ Some man → ComesFrom p s man u (origin u)
+  -- 2: no two men come from one square
   pub distinct : (u v : ℕ) (man other : Man) → man_at q.men u ≡ Some man → man_at q.men v ≡ Some other → origin u ≡ origin v → u ≡ v
+  -- 3: on a fixed square stands what stood there at first, and it is its own origin
   pub fixed : (f : ℕ) → is_fixed p s f ≡ true → (man_at q.men f ≡ man_at p.men f) × (origin f ≡ f)
+  -- 4: a pawn on its own second rank has not moved
   pub second : (u : ℕ) (c : Color) → is_man c Pawn (man_at q.men u) ≡ true → rank_of u ≡ second_rank c → origin u ≡ u
+  -- 5: a right to castle was there at first, and its king and its rook have not moved: on the king's side, on the queen's
   pub short : (c : Color) → has_short_right q.rights c ≡ true
-    → (has_short_right p.rights c ≡ true) × (origin (home_of c) ≡ home_of c) × (origin (home_of c + 3) ≡ home_of c + 3)
+      → (has_short_right p.rights c ≡ true) × (origin (home_of c) ≡ home_of c) × (origin (home_of c + 3) ≡ home_of c + 3)
   pub long : (c : Color) → has_long_right q.rights c ≡ true
-    → (has_long_right p.rights c ≡ true) × (origin (home_of c) ≡ home_of c) × (origin (home_of c - 4) ≡ home_of c - 4)
+      → (has_long_right p.rights c ≡ true) × (origin (home_of c) ≡ home_of c) × (origin (home_of c - 4) ≡ home_of c - 4)
+  -- 6: a target is the first position's, or a pawn has just passed over it
   pub target : (t : ℕ) → is_target q.target t ≡ true → Passed p s q origin t
 
 -- the facts hold, with some origins

@@ -59,13 +59,23 @@ pawn_table White = refl
 pawn_table Black = refl
 
 -- no man aims at its own square
-self_test : Color → ℕ → Bool
-self_test c s = not (aims_at c Pawn s s) && not (aims_at c Knight s s) && not (aims_at c Bishop s s) && not (aims_at c Rook s s) && not (aims_at c Queen s s) && not (aims_at c King s s)
+self_test : Color → Kind → ℕ → Bool
+self_test c k s = not (aims_at c k s s)
 
-self_table : (c : Color) → list_all (self_test c) squares ≡ true
+self_table : (c : Color) (k : Kind) → list_all (self_test c k) squares ≡ true
 unfolding self_test aims_at is_rank_ahead is_straight is_diagonal is_line steps_apart files_apart ranks_apart squares
-self_table White = refl
-self_table Black = refl
+self_table White Pawn = refl
+self_table White Knight = refl
+self_table White Bishop = refl
+self_table White Rook = refl
+self_table White Queen = refl
+self_table White King = refl
+self_table Black Pawn = refl
+self_table Black Knight = refl
+self_table Black Bishop = refl
+self_table Black Rook = refl
+self_table Black Queen = refl
+self_table Black King = refl
 
 -- what a step of one square is
 pub record Near (s t : ℕ) : Type 0 where
@@ -94,30 +104,11 @@ pub king_aims_from : (c : Color) (s t : ℕ) → (steps_apart s t == 1) ≡ true
 unfolding aims_at
 king_aims_from c s t h = h
 
-by_kind : (c : Color) (k : Kind) (s : ℕ) → not (aims_at c Pawn s s) ≡ true → not (aims_at c Knight s s) ≡ true → not (aims_at c Bishop s s) ≡ true
-    → not (aims_at c Rook s s) ≡ true → not (aims_at c Queen s s) ≡ true → not (aims_at c King s s) ≡ true → aims_at c k s s ≡ false
-by_kind c Pawn s p n b r q k = not-true _ p
-by_kind c Knight s p n b r q k = not-true _ n
-by_kind c Bishop s p n b r q k = not-true _ b
-by_kind c Rook s p n b r q k = not-true _ r
-by_kind c Queen s p n b r q k = not-true _ q
-by_kind c King s p n b r q k = not-true _ k
-
--- six truth values that are all false, by kind
-no_aim : (c : Color) (k : Kind) (s : ℕ) → (not (aims_at c Pawn s s) && not (aims_at c Knight s s) && not (aims_at c Bishop s s) && not (aims_at c Rook s s) && not (aims_at c Queen s s) && not (aims_at c King s s)) ≡ true → aims_at c k s s ≡ false
-no_aim c k s h =
-    let e = and_parts _ (not (aims_at c King s s)) h in
-    let d = and_parts _ (not (aims_at c Queen s s)) e.0 in
-    let r = and_parts _ (not (aims_at c Rook s s)) d.0 in
-    let b = and_parts _ (not (aims_at c Bishop s s)) r.0 in
-    let n = and_parts (not (aims_at c Pawn s s)) (not (aims_at c Knight s s)) b.0 in
-    by_kind c k s n.0 n.1 b.1 r.1 d.1 e.1
-
 -- no man aims at the square on which it stands
 pub aims_at_self : (c : Color) (k : Kind) (s : ℕ) → s < 64 → aims_at c k s s ≡ false
 unfolding self_test
 aims_at_self c k s small =
-    no_aim c k s (all_squares_at (self_test c) s (self_table c) small)
+    not-true (aims_at c k s s) (all_squares_at (self_test c k) s (self_table c k) small)
 
 -- a pawn aims one step away
 pawn_near : (c : Color) (s t : ℕ) → s < 64 → t < 64 → aims_at c Pawn s t ≡ true → (steps_apart s t == 1) ≡ true
@@ -138,7 +129,7 @@ leap_clear c Bishop s t small small' aims leap = (near s t small small' leap).cl
 leap_clear c Rook s t small small' aims leap = (near s t small small' leap).clear
 leap_clear c Queen s t small small' aims leap = (near s t small small' leap).clear
 
--- a castling is no step of one square
+-- a castling takes the king two squares away, and so is no step
 pub two_far : (c : Color) → ((steps_apart (home_of c) (home_of c + 2) == 1) ≡ false) × ((steps_apart (home_of c) (home_of c - 2) == 1) ≡ false)
 unfolding steps_apart files_apart ranks_apart
 two_far White = (refl, refl)

@@ -13,27 +13,10 @@ use Rattle.mob_law.specs.Reach.{Sets}
 use Rattle.mob_law.specs.Closed.{IsClosed}
 use Rattle.mob_law.proofs.Facts.{Facts, FactsHold}
 use Rattle.mob_law.proofs.Carry.{carried}
-use Rattle.mob_law.proofs.Ordinary.{back, Lands, ordinary, ordinary_carries}
-use Rattle.mob_law.proofs.Walkers.{walker_lands}
+use Rattle.mob_law.proofs.OneMan.{back, Lands, one_moved, one_carries}
+use Rattle.mob_law.proofs.Pieces.{piece_lands}
 use Rattle.mob_law.proofs.Pawns.{pawn_lands}
 use Rattle.mob_law.proofs.Castles.{short_held, long_held}
-
--- what a move of one man needs, a pawn or another
-one_lands : (p : Board) (s : Sets) (q : Board) (origin : ℕ → ℕ) (m : Move) (man : Man) → IsClosed p s → Facts p s q origin → Step q m man → in_check (men_after q m) q.side ≡ false
-    → castles_short q (man_at q.men m.from) m.from m.to ≡ false → castles_long q (man_at q.men m.from) m.from m.to ≡ false → Lands p s q origin m man
-one_lands p s q origin m man closed facts step safe no_short no_long =
-    elim (cases_Bool (same_kind man.kind Pawn)) [
-      | inl h ↦ pawn_lands p s q origin m man closed facts step (same_kind_equal man.kind Pawn h)
-      | inr h ↦ walker_lands p s q origin m man closed facts step safe h no_short no_long
-    ]
-
--- a move of one man keeps the facts
-one_held : (p : Board) (s : Sets) (q : Board) (origin : ℕ → ℕ) (m : Move) (man : Man) → IsClosed p s → Facts p s q origin → Step q m man → in_check (men_after q m) q.side ≡ false
-    → castles_short q (man_at q.men m.from) m.from m.to ≡ false → castles_long q (man_at q.men m.from) m.from m.to ≡ false → FactsHold p s (after q m)
-one_held p s q origin m man closed facts step safe no_short no_long =
-    let lands = one_lands p s q origin m man closed facts step safe no_short no_long in
-    let ord = ordinary p s q m man step no_short no_long lands.victim in
-    ((λ u. origin (back m.from m.to u)), carried p s q origin (after q m) (back m.from m.to) facts (ordinary_carries p s q origin m man closed facts step lands ord))
 
 -- a capture en passant is no castling, since a pawn is no king
 no_castling : (q : Board) (o : Option Man) (s t : ℕ) → captures_en_passant q o s t ≡ true → (castles_short q o s t ≡ false) × (castles_long q o s t ≡ false)
@@ -42,19 +25,36 @@ no_castling q o s t passes =
     let no_king = one_kind q.side q.side Pawn King o refl pawn in
     (and_left (is_man q.side King o) (is_short_castling q s t) no_king, and_left (is_man q.side King o) (is_long_castling q s t) no_king)
 
--- each kind of move does
-held_after : (p : Board) (s : Sets) (q : Board) (origin : ℕ → ℕ) (m : Move) (man : Man) → IsClosed p s → Facts p s q origin → Step q m man → in_check (men_after q m) q.side ≡ false → FactsHold p s (after q m)
-held_after p s q origin m man closed facts step safe =
-    elim (makes q m) [
-      | Plainly a no_short no_long e ↦ one_held p s q origin m man closed facts step safe no_short no_long
-      | Passing passes e ↦ (
-          let apart = no_castling q (man_at q.men m.from) m.from m.to passes in
-          one_held p s q origin m man closed facts step safe apart.0 apart.1)
-      | Shortly short e ↦ short_held p s q origin m man closed facts step short e
-      | Longly long e ↦ long_held p s q origin m man closed facts step long e
-    ]
+-- A legal move at a position where the facts hold:
+module _ (p : Board) (s : Sets) (q : Board) (origin : ℕ → ℕ) (m : Move) (man : Man) (closed : IsClosed p s) (facts : Facts p s q origin) (step : Step q m man) (safe : in_check (men_after q m) q.side ≡ false) where
+  -- a move of one man, of a pawn or of another man, lands as the facts need it
+  one_lands : castles_short q (man_at q.men m.from) m.from m.to ≡ false → castles_long q (man_at q.men m.from) m.from m.to ≡ false → Lands p s q origin m man
+  one_lands no_short no_long =
+      elim (cases_Bool (same_kind man.kind Pawn)) [
+        | inl h ↦ pawn_lands p s q origin m man closed facts step (same_kind_equal man.kind Pawn h)
+        | inr h ↦ piece_lands p s q origin m man closed facts step safe h no_short no_long
+      ]
 
--- each legal move keeps the facts
+  -- a move of one man keeps the facts
+  one_held : castles_short q (man_at q.men m.from) m.from m.to ≡ false → castles_long q (man_at q.men m.from) m.from m.to ≡ false → FactsHold p s (after q m)
+  one_held no_short no_long =
+      let lands = one_lands no_short no_long in
+      let moved = one_moved p s q m man step no_short no_long lands.victim in
+      ((λ u. origin (back m.from m.to u)), carried p s q origin (after q m) (back m.from m.to) facts (one_carries p s q origin m man closed facts step lands moved))
+
+  -- and so does each kind of move: of one man, en passant, and the two castlings
+  held_after : FactsHold p s (after q m)
+  held_after =
+      elim (makes q m) [
+        | Plainly a no_short no_long e ↦ one_held no_short no_long
+        | Passing passes e ↦ (
+            let apart = no_castling q (man_at q.men m.from) m.from m.to passes in
+            one_held apart.0 apart.1)
+        | Shortly short e ↦ short_held p s q origin m man closed facts step short e
+        | Longly long e ↦ long_held p s q origin m man closed facts step long e
+      ]
+
+-- so each legal move keeps the facts
 pub facts_kept : (p : Board) (s : Sets) (q : Board) (m : Move) → IsClosed p s → IsValid q → m.from < 64 → m.to < 64 → is_legal_in q m ≡ true → FactsHold p s q → FactsHold p s (after q m)
 unfolding is_legal_in
 facts_kept p s q m closed valid from to legal held =

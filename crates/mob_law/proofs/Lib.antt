@@ -6,11 +6,13 @@ pub mod Attackers
 pub mod Standing
 pub mod Begin
 pub mod Carry
+pub mod KingSteps
 pub mod Mating
-pub mod Ordinary
-pub mod Walkers
+pub mod OneMan
+pub mod Pieces
 pub mod Pawns
 pub mod Castles
 pub mod Keeping
 pub mod Law
 pub mod Growing
+pub mod Widest

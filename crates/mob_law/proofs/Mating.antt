@@ -1,27 +1,27 @@
 -- A mate where the facts hold is a threat in the sets.
-use Rattle.std.proofs.Common.{◌≡◌, ◌≢◌, ℕ, ◌<◌, true, false, not, ◌&&◌, ◌||◌, ◌==◌, ◌⊎◌, List, [], length, Option, Some, None, Contains, refl, sym, subst, ap, ◌∙◌, arith, inl, inr}
-use Rattle.std.proofs.lemmas.Bool.{and_parts, and_from, or_left, or_right, both_ways, false_from_ne_true, true_from_ne_false, not-true, cases_Bool, cases_eq, eq-eqb}
+use Rattle.std.proofs.Common.{◌≡◌, ◌≢◌, ℕ, ◌<◌, true, false, not, ◌||◌, ◌==◌, ◌⊎◌, List, [], length, Option, Some, None, Contains, refl, sym, subst, ap, ◌∙◌, arith, inl, inr}
+use Rattle.std.proofs.lemmas.Bool.{and_from, or_left, or_right, both_ways, false_from_ne_true, true_from_ne_false, not-true, cases_Bool, cases_eq, eq-eqb}
 use Rattle.cha_board.specs.declared.men.Color.{Color}
-use Rattle.cha_board.specs.declared.men.Kind.{Kind}
-use Rattle.cha_board.specs.declared.men.Kind.TheVariants.{Pawn, King}
+use Rattle.cha_board.specs.declared.men.Kind.TheVariants.{King}
 use Rattle.cha_board.specs.declared.men.Man.{Man}
 use Rattle.cha_board.specs.Men.{other_color, same_color, same_kind, is_man}
 use Rattle.cha_board.specs.Squares.{steps_apart, aims_at, between}
 use Rattle.cha_board.specs.Board.{Board, man_at, is_empty, is_clear, attacked, king_of, in_check, has_one_king, IsValid}
 use Rattle.cha_board.proofs.Sightings.{attacked_from}
 use Rattle.cha_moves.specs.Step.{Move}
-use Rattle.cha_moves.specs.Moves.{goes, is_short_castling, is_long_castling, promotes_well, may_enter, is_pseudo_legal, is_pseudo_legal_as, moved, is_en_passant, men_after, is_legal_in}
+use Rattle.cha_moves.specs.Moves.{may_enter, is_pseudo_legal, moved, men_after, is_legal_in}
 use Rattle.cha_moves.specs.Ends.{IsMated}
-use Rattle.cha_moves.proofs.Identity.{other_other, same_color_self, same_color_equal, same_kind_equal, ManOf, man_of, is_man_from, one_kind, none_some, some_inj, on_board}
-use Rattle.cha_moves.proofs.Kept.{short_tests, long_tests, kings_kept}
-use Rattle.cha_moves.proofs.Made.{may_gives, length-moved, moved_to, moved_from, moved_other, men_moved, makes, Plainly, Passing, Shortly, Longly}
+use Rattle.cha_moves.proofs.Identity.{other_other, same_color_self, same_color_equal, same_kind_equal, ManOf, man_of, is_man_from, none_some, some_inj, on_board}
+use Rattle.cha_moves.proofs.Kept.{kings_kept}
+use Rattle.cha_moves.proofs.Made.{may_gives, length-moved, moved_to, moved_from, moved_other}
 use Rattle.cha_moves.proofs.Listed.{listed}
 use Rattle.mob_law.specs.Reach.{Sets, is_fixed, is_open_through}
 use Rattle.mob_law.specs.Threats.{Checks, Covered, Blocked, NextToKing, Attacked, Threat}
 use Rattle.mob_law.proofs.Facts.{Facts, FactsHold}
 use Rattle.mob_law.proofs.Men.{either_color, not_of_other, may_enter_enemy}
-use Rattle.mob_law.proofs.Geometry.{near, king_aims, king_aims_from, two_far}
+use Rattle.mob_law.proofs.Geometry.{near, king_aims, king_aims_from}
 use Rattle.mob_law.proofs.Standing.{all_weaker, empty_not_fixed, open_from, king_on, non_king_on, origin_is_non_king}
+use Rattle.mob_law.proofs.KingSteps.{king_may, step_plain}
 use Rattle.mob_law.proofs.Attackers.{some_attacker, attacks_by, clear_near}
 use Rattle.mob_law.proofs.Kings.{king_is_one, king_stands}
 
@@ -64,29 +64,6 @@ kings_far q w a b small small' place safe king step =
     let seen : attacked q.men (other_color w) (king_of q.men w) ≡ true = rw place at (attacked_from q.men (other_color w) b a small hit) in
     both_ways (attacked q.men (other_color w) (king_of q.men w)) safe seen
 
-stand : (p : Board) (s : Sets) (q : Board) (w : Color) (origin : ℕ → ℕ) → Scene p s q w origin → Stand q w
-stand p s q w origin scene =
-    let valid = scene.valid in
-    let loser_is = king_stands q.men (other_color w) (valid.kings (other_color w)) in
-    let winner_is = king_stands q.men w (valid.kings w) in
-    let loser = man_of (man_at q.men (loser_on q w)) (other_color w) King loser_is in
-    let winner = man_of (man_at q.men (winner_on q w)) w King winner_is in
-    let loser_small : loser_on q w < 64 = rw valid.size at (on_board q.men (loser_on q w) loser.man loser.found) in
-    let winner_small : winner_on q w < 64 = rw valid.size at (on_board q.men (winner_on q w) winner.man winner.found) in
-    let S : Color → Type 0 = λ c. in_check q.men (other_color c) ≡ false in
-    let safe : in_check q.men (other_color (other_color w)) ≡ false = subst S scene.mate.to_move (not-true (in_check q.men (other_color q.side)) valid.opponent) in
-    let S' : Color → Type 0 = λ c. in_check q.men c ≡ false in
-    let safe' : in_check q.men w ≡ false = subst S' (other_other w) safe in
-    record {
-      loser = loser;
-      loser_is = loser_is;
-      winner_is = winner_is;
-      loser_small = loser_small;
-      winner_small = winner_small;
-      far = false_from_ne_true (steps_apart (loser_on q w) (winner_on q w) == 1) (λ step.
-        kings_far q w (loser_on q w) (winner_on q w) loser_small winner_small refl safe' loser_is step);
-    }
-
 -- the man that gives check
 record Checker (p : Board) (s : Sets) (q : Board) (w : Color) (origin : ℕ → ℕ) : Type 0 where
   square : ℕ
@@ -96,179 +73,174 @@ record Checker (p : Board) (s : Sets) (q : Board) (w : Color) (origin : ℕ → 
   other : same_kind man.kind King ≡ false
   checks : Checks p s w (loser_on q w) man.kind square
 
-checker : (p : Board) (s : Sets) (q : Board) (w : Color) (origin : ℕ → ℕ) → Scene p s q w origin → Stand q w → Checker p s q w origin
-unfolding in_check
-checker p s q w origin scene st =
-    let seen : attacked q.men w (loser_on q w) ≡ true = rw other_other at scene.mate.check in
-    let from = some_attacker q.men w (loser_on q w) seen in
-    let u = from.0 in
-    let a = from.2 in
-    let size = scene.valid.size in
-    let none : same_kind a.man.kind King ≡ false = false_from_ne_true (same_kind a.man.kind King) (λ h.
-    let e = same_kind_equal a.man.kind King h in
-    let place = king_is_one q.men w u (scene.valid.kings w) (omega (arith, from.1, size)) (is_man_from (man_at q.men u) a.man w King a.found (same_color_equal a.man.color w a.own) e) in
-    let step : (steps_apart u (loser_on q w) == 1) ≡ true = king_aims w u (loser_on q w) (rw e at a.aims) in
-    let back = (near u (loser_on q w) from.1 st.loser_small step).back in
-    both_ways _ st.far (rw place back)) in
-    record {
-      square = u;
-      man = a.man;
-      found = a.found;
-      own = a.own;
-      other = none;
-      checks = record {
-        checker = non_king_on p s q origin scene.valid scene.facts w u a.man a.found a.own none;
-        other = λ e. not_of_other w King (man_at q.men u) a.man a.found a.own (rw e st.loser_is);
-        aims = a.aims;
-        open_way = open_from p s q origin scene.facts u (loser_on q w) a.clear;
-      };
-    }
+-- At a mate where the facts hold:
+module _ (p : Board) (s : Sets) (q : Board) (w : Color) (origin : ℕ → ℕ) (scene : Scene p s q w origin) where
+  -- where the two kings stand
+  stand : Stand q w
+  stand =
+      let valid = scene.valid in
+      let loser_is = king_stands q.men (other_color w) (valid.kings (other_color w)) in
+      let winner_is = king_stands q.men w (valid.kings w) in
+      let loser = man_of (man_at q.men (loser_on q w)) (other_color w) King loser_is in
+      let winner = man_of (man_at q.men (winner_on q w)) w King winner_is in
+      let loser_small : loser_on q w < 64 = rw valid.size at (on_board q.men (loser_on q w) loser.man loser.found) in
+      let winner_small : winner_on q w < 64 = rw valid.size at (on_board q.men (winner_on q w) winner.man winner.found) in
+      let S : Color → Type 0 = λ c. in_check q.men (other_color c) ≡ false in
+      let safe : in_check q.men (other_color (other_color w)) ≡ false = subst S scene.mate.to_move (not-true (in_check q.men (other_color q.side)) valid.opponent) in
+      let S' : Color → Type 0 = λ c. in_check q.men c ≡ false in
+      let safe' : in_check q.men w ≡ false = subst S' (other_other w) safe in
+      record {
+        loser = loser;
+        loser_is = loser_is;
+        winner_is = winner_is;
+        loser_small = loser_small;
+        winner_small = winner_small;
+        far = false_from_ne_true (steps_apart (loser_on q w) (winner_on q w) == 1) (λ step.
+            kings_far q w (loser_on q w) (winner_on q w) loser_small winner_small refl safe' loser_is step);
+      }
 
--- a king may step to a square next to it that it may enter
-king_may : (q : Board) (m : Move) (man : Man) (o : Option Man) → o ≡ Some man → man.color ≡ q.side → man.kind ≡ King → m.promotion ≡ None → may_enter q.side (man_at q.men m.to) ≡ true → (steps_apart m.from m.to == 1) ≡ true
-    → is_pseudo_legal_as q m o ≡ true
-unfolding is_pseudo_legal_as goes promotes_well
-king_may q m man o found color kind plain enter step =
-    let P : Option Man → Type 0 = λ x. is_pseudo_legal_as q m x ≡ true in
-    let K : Kind → Type 0 = λ k. goes q k m.from m.to ≡ true in
-    let way : goes q man.kind m.from m.to ≡ true = subst K (sym kind) (or_left (aims_at q.side King m.from m.to || is_short_castling q m.from m.to) (is_long_castling q m.from m.to) (or_left (aims_at q.side King m.from m.to) (is_short_castling q m.from m.to) (king_aims_from q.side m.from m.to step))) in
-    let well : promotes_well q.side man.kind m.to m.promotion ≡ true = rw (kind, plain) refl in
-    let own : same_color man.color q.side ≡ true = rw color (same_color_self q.side) in
-    subst P (sym found) (and_from (same_color man.color q.side && may_enter q.side (man_at q.men m.to) && goes q man.kind m.from m.to) (promotes_well q.side man.kind m.to m.promotion)
-        (and_from (same_color man.color q.side && may_enter q.side (man_at q.men m.to)) (goes q man.kind m.from m.to)
-            (and_from (same_color man.color q.side) (may_enter q.side (man_at q.men m.to)) own enter) way) well)
+-- With the two kings:
+module _ (p : Board) (s : Sets) (q : Board) (w : Color) (origin : ℕ → ℕ) (scene : Scene p s q w origin) (st : Stand q w) where
+  -- the man that gives check is in reach where it stands, and it is no king
+  checker : Checker p s q w origin
+  unfolding in_check
+  checker =
+      let seen : attacked q.men w (loser_on q w) ≡ true = rw other_other at scene.mate.check in
+      let from = some_attacker q.men w (loser_on q w) seen in
+      let u = from.0 in
+      let a = from.2 in
+      let size = scene.valid.size in
+      let none : same_kind a.man.kind King ≡ false = false_from_ne_true (same_kind a.man.kind King) (λ h.
+      let e = same_kind_equal a.man.kind King h in
+      let place = king_is_one q.men w u (scene.valid.kings w) (omega (arith, from.1, size)) (is_man_from (man_at q.men u) a.man w King a.found (same_color_equal a.man.color w a.own) e) in
+      let step : (steps_apart u (loser_on q w) == 1) ≡ true = king_aims w u (loser_on q w) (rw e at a.aims) in
+      let back = (near u (loser_on q w) from.1 st.loser_small step).back in
+      both_ways _ st.far (rw place back)) in
+      record {
+        square = u;
+        man = a.man;
+        found = a.found;
+        own = a.own;
+        other = none;
+        checks = record {
+          checker = non_king_on p s q origin scene.facts scene.valid w u a.man a.found a.own none;
+          other = λ e. not_of_other w King (man_at q.men u) a.man a.found a.own (rw e st.loser_is);
+          aims = a.aims;
+          open_way = open_from p s q origin scene.facts u (loser_on q w) a.clear;
+        };
+      }
 
--- a king's step of one square moves one man
-pub step_plain : (q : Board) (m : Move) → is_man q.side King (man_at q.men m.from) ≡ true → (steps_apart m.from m.to == 1) ≡ true → men_after q m ≡ men_moved q m
-step_plain q m king step =
-    elim (makes q m) [
-      | Plainly a b c e ↦ e
-      | Passing t e ↦ (
-          let pawn = (and_parts (is_man q.side Pawn (man_at q.men m.from)) (is_en_passant q m.from m.to) t).0 in
-          absurd (both_ways (is_man q.side King (man_at q.men m.from)) (one_kind q.side q.side Pawn King (man_at q.men m.from) refl pawn) king))
-      | Shortly t e ↦ (
-          let tests = short_tests q m.from m.to (and_parts (is_man q.side King (man_at q.men m.from)) (is_short_castling q m.from m.to) t).1 in
-          let from = tests.from_home in
-          let to = tests.two_files in
-          absurd (both_ways (steps_apart m.from m.to == 1) (rw (from, to) (two_far q.side).0) step))
-      | Longly t e ↦ (
-          let tests = long_tests q m.from m.to (and_parts (is_man q.side King (man_at q.men m.from)) (is_long_castling q m.from m.to) t).1 in
-          let from = tests.from_home in
-          let to = tests.two_files in
-          absurd (both_ways (steps_apart m.from m.to == 1) (rw (from, to) (two_far q.side).1) step))
-    ]
+  -- since the loser has no legal move, its king would be attacked on n
+  hop_checked : (n : ℕ) → n < 64 → is_pseudo_legal q (hop q w n) ≡ true
+      → in_check (men_after q (hop q w n)) (other_color w) ≡ true
+  unfolding is_legal_in
+  hop_checked n small may =
+      true_from_ne_false (in_check (men_after q (hop q w n)) (other_color w)) (λ safe.
+      let C : Color → Type 0 = λ c. in_check (men_after q (hop q w n)) c ≡ false in
+      let safe' : in_check (men_after q (hop q w n)) q.side ≡ false = subst C (sym scene.mate.to_move) safe in
+      let fine : is_legal_in q (hop q w n) ≡ true = and_from (is_pseudo_legal q (hop q w n)) (not (in_check (men_after q (hop q w n)) q.side)) may (ap not safe') in
+      let there = listed q (hop q w n) st.loser_small small fine in
+      let L : List Move → Type 0 = λ ms. Contains ms (hop q w n) in
+      let nowhere : Contains [] (hop q w n) = subst L scene.mate.stuck there in
+      omega (arith, nowhere.1))
 
--- since the loser has no legal move, its king would be attacked on n
-hop_checked : (p : Board) (s : Sets) (q : Board) (w : Color) (origin : ℕ → ℕ) → Scene p s q w origin → Stand q w → (n : ℕ) → n < 64 → is_pseudo_legal q (hop q w n) ≡ true
-    → in_check (men_after q (hop q w n)) (other_color w) ≡ true
-unfolding is_legal_in
-hop_checked p s q w origin scene st n small may =
-    true_from_ne_false (in_check (men_after q (hop q w n)) (other_color w)) (λ safe.
-    let C : Color → Type 0 = λ c. in_check (men_after q (hop q w n)) c ≡ false in
-    let safe' : in_check (men_after q (hop q w n)) q.side ≡ false = subst C (sym scene.mate.to_move) safe in
-    let fine : is_legal_in q (hop q w n) ≡ true = and_from (is_pseudo_legal q (hop q w n)) (not (in_check (men_after q (hop q w n)) q.side)) may (ap not safe') in
-    let there = listed q (hop q w n) st.loser_small small fine in
-    let L : List Move → Type 0 = λ ms. Contains ms (hop q w n) in
-    let nowhere : Contains [] (hop q w n) = subst L scene.mate.stuck there in
-    omega (arith, nowhere.1))
-
--- what attacks n once the loser's king has gone there
-covered_from : (p : Board) (s : Sets) (q : Board) (w : Color) (origin : ℕ → ℕ) (scene : Scene p s q w origin) (st : Stand q w) (c : Checker p s q w origin) (n : ℕ) → n < 64 → (steps_apart (loser_on q w) n == 1) ≡ true
-    → is_pseudo_legal q (hop q w n) ≡ true → Covered p s w (loser_on q w) (winner_on q w) n c.man.kind c.square
-unfolding in_check is_clear is_open_through
-covered_from p s q w origin scene st c n small step may_go =
-    let k = loser_on q w in
-    let valid = scene.valid in
-    let size = valid.size in
-    let side = scene.mate.to_move in
-    let mover = may_gives q (hop q w n) may_go in
-    let king : is_man q.side King (man_at q.men k) ≡ true = rw side st.loser_is in
-    let plain = step_plain q (hop q w n) king step in
-    let a = man_at q.men k in
-    let men : List (Option Man) = moved q.men k n a in
-    let same : men_after q (hop q w n) ≡ men = plain in
-    let in_k : k < length q.men = omega (arith, st.loser_small, size) in
-    let in_n : n < length q.men = omega (arith, small, size) in
-    let ne = (near k n st.loser_small small step).other in
-    let arrived : man_at men n ≡ a = moved_to q.men k n a in_n in
-    let left : man_at men k ≡ None = moved_from q.men k n a in_k ne in
-    let kings : has_one_king men (other_color w) ≡ true = rw same at (kings_kept q (hop q w n) mover.0 (record { valid = valid; from = st.loser_small; to = small; may = mover.1 }) (other_color w)) in
-    let place : king_of men (other_color w) ≡ n = king_is_one men (other_color w) n kings (rw (length-moved q.men k n a) in_n) (rw arrived st.loser_is) in
-    let check : attacked men (other_color (other_color w)) (king_of men (other_color w)) ≡ true = rw same at (hop_checked p s q w origin scene st n small may_go) in
-    let check' : attacked men w n ≡ true = rw (other_other, place) at check in
-    let from = some_attacker men w n check' in
-    let u = from.0 in
-    let e = from.2 in
-    let not_there : u ≢ n = λ f. not_of_other w King (man_at men u) e.man e.found e.own (rw (f, arrived) st.loser_is) in
-    let other : u ≢ k = λ f. none_some (man_at men u) e.man (rw f left) e.found in
-    let stood : man_at q.men u ≡ Some e.man = sym (moved_other q.men k n a u other not_there) ∙ e.found in
-    elim (cases_Bool (same_kind e.man.kind King)) [
-      | inl h ↦ (
-          let f = same_kind_equal e.man.kind King h in
-          let spot = king_is_one q.men w u (valid.kings w) (omega (arith, from.1, size)) (is_man_from (man_at q.men u) e.man w King stood (same_color_equal e.man.color w e.own) f) in
-          let near_by : (steps_apart u n == 1) ≡ true = king_aims w u n (rw f at e.aims) in
-          NextToKing (rw spot near_by))
-      | inr h ↦ Attacked e.man.kind u (record {
-        attacker = non_king_on p s q origin valid scene.facts w u e.man stood e.own h;
-        not_there = not_there;
-        other = other;
-        aims = e.aims;
-        open_way = all_weaker (λ v. is_empty men v) (λ v. (v == k) || not (is_fixed p s v)) (between u n) (λ v free.
-            elim (cases_eq v k) [
-              | inl f ↦ or_left (v == k) (not (is_fixed p s v)) (eq-eqb v k f)
-              | inr f ↦ elim (cases_eq v n) [
-                | inl g ↦ (
-                    let full : is_empty men v ≡ false = rw (g, arrived, st.loser.found) refl in
-                    absurd (both_ways (is_empty men v) full free))
-                | inr g ↦ (
-                    let free' : is_empty q.men v ≡ true = rw (moved_other q.men k n a v f g) at free in
-                    or_right (v == k) (not (is_fixed p s v)) (rw (empty_not_fixed p s q origin scene.facts v free') refl))
-              ]
-            ]) e.clear;
-      }) (λ lone.
-          let first = origin_is_non_king p s q origin scene.facts w u e.man stood e.own h in
-          let second = origin_is_non_king p s q origin scene.facts w c.square c.man c.found c.own c.other in
-          let together = scene.facts.distinct u c.square e.man c.man stood c.found (lone (origin u) (origin c.square) first second) in
-          let one = some_inj e.man c.man (sym stood ∙ (rw together c.found)) in
-          (ap (λ (x : Man). x.kind) one, together))
-    ]
-
--- no king stands next to the loser's
-blocked_at : (p : Board) (s : Sets) (q : Board) (w : Color) (origin : ℕ → ℕ) (scene : Scene p s q w origin) (st : Stand q w) (n : ℕ) → n < 64 → (steps_apart (loser_on q w) n == 1) ≡ true
-    → (c : Color) → is_man c King (man_at q.men n) ≡ true → (c ≡ w) ⊎ (c ≡ other_color w) → ⊥
-blocked_at p s q w origin scene st n small step c king (inl e) =
-    let size = scene.valid.size in
-    let K : Color → Type 0 = λ x. is_man x King (man_at q.men n) ≡ true in
-    let place = king_is_one q.men w n (scene.valid.kings w) (omega (arith, small, size)) (subst K e king) in
-    both_ways (steps_apart (loser_on q w) (winner_on q w) == 1) st.far (rw place step)
-blocked_at p s q w origin scene st n small step c king (inr e) =
-    let size = scene.valid.size in
-    let K : Color → Type 0 = λ x. is_man x King (man_at q.men n) ≡ true in
-    let place = king_is_one q.men (other_color w) n (scene.valid.kings (other_color w)) (omega (arith, small, size)) (subst K e king) in
-    (near (loser_on q w) n st.loser_small small step).other place
-
--- each square next to the loser's king is covered: by a man of its own there, or by what attacks it
-covered_at : (p : Board) (s : Sets) (q : Board) (w : Color) (origin : ℕ → ℕ) (scene : Scene p s q w origin) (st : Stand q w) (c : Checker p s q w origin) (n : ℕ) → n < 64 → (steps_apart (loser_on q w) n == 1) ≡ true
-    → (o : Option Man) → man_at q.men n ≡ o → Covered p s w (loser_on q w) (winner_on q w) n c.man.kind c.square
-covered_at p s q w origin scene st c n small step None there =
-    let color = st.loser.color ∙ sym scene.mate.to_move in
-    covered_from p s q w origin scene st c n small step
-        (king_may q (hop q w n) st.loser.man (man_at q.men (loser_on q w)) st.loser.found color st.loser.kind refl (rw there refl) step)
-covered_at p s q w origin scene st c n small step (Some man) there =
-    let side = scene.mate.to_move in
-    elim (cases_Bool (same_kind man.kind King)) [
-      | inl h ↦ absurd (blocked_at p s q w origin scene st n small step man.color (is_man_from (man_at q.men n) man man.color King there refl (same_kind_equal man.kind King h)) (either_color man.color w))
-      | inr h ↦ elim (cases_Bool (same_color man.color (other_color w))) [
-        | inl own ↦ Blocked man.kind (non_king_on p s q origin scene.valid scene.facts (other_color w) n man there own h)
-        | inr enemy ↦ (
-            let color = st.loser.color ∙ sym scene.mate.to_move in
-            let E : Color → Type 0 = λ x. may_enter x (man_at q.men n) ≡ true in
-            let M : Option Man → Type 0 = λ x. may_enter (other_color w) x ≡ true in
-            let enter = subst E (sym side) (subst M (sym there) (may_enter_enemy (other_color w) man enemy h)) in
-            covered_from p s q w origin scene st c n small step
-                (king_may q (hop q w n) st.loser.man (man_at q.men (loser_on q w)) st.loser.found color st.loser.kind refl enter step))
+-- With the man that gives check, and a square n next to the loser's king:
+module _ (p : Board) (s : Sets) (q : Board) (w : Color) (origin : ℕ → ℕ) (scene : Scene p s q w origin) (st : Stand q w) (c : Checker p s q w origin) (n : ℕ) (small : n < 64)
+    (step : (steps_apart (loser_on q w) n == 1) ≡ true) where
+  -- what attacks n once the loser's king has gone there
+  covered_from : is_pseudo_legal q (hop q w n) ≡ true → Covered p s w (loser_on q w) (winner_on q w) n c.man.kind c.square
+  unfolding in_check is_clear is_open_through
+  covered_from may_go =
+      let k = loser_on q w in
+      let valid = scene.valid in
+      let size = valid.size in
+      let side = scene.mate.to_move in
+      let mover = may_gives q (hop q w n) may_go in
+      let king : is_man q.side King (man_at q.men k) ≡ true = rw side st.loser_is in
+      let plain = step_plain q (hop q w n) king step in
+      let a = man_at q.men k in
+      let men : List (Option Man) = moved q.men k n a in
+      let same : men_after q (hop q w n) ≡ men = plain in
+      let in_k : k < length q.men = omega (arith, st.loser_small, size) in
+      let in_n : n < length q.men = omega (arith, small, size) in
+      let ne = (near k n st.loser_small small step).other in
+      let arrived : man_at men n ≡ a = moved_to q.men k n a in_n in
+      let left : man_at men k ≡ None = moved_from q.men k n a in_k ne in
+      let kings : has_one_king men (other_color w) ≡ true = rw same at (kings_kept q (hop q w n) mover.0 (record { valid = valid; from = st.loser_small; to = small; may = mover.1 }) (other_color w)) in
+      let place : king_of men (other_color w) ≡ n = king_is_one men (other_color w) n kings (rw (length-moved q.men k n a) in_n) (rw arrived st.loser_is) in
+      let check : attacked men (other_color (other_color w)) (king_of men (other_color w)) ≡ true = rw same at (hop_checked p s q w origin scene st n small may_go) in
+      let check' : attacked men w n ≡ true = rw (other_other, place) at check in
+      let from = some_attacker men w n check' in
+      let u = from.0 in
+      let e = from.2 in
+      let not_there : u ≢ n = λ f. not_of_other w King (man_at men u) e.man e.found e.own (rw (f, arrived) st.loser_is) in
+      let other : u ≢ k = λ f. none_some (man_at men u) e.man (rw f left) e.found in
+      let stood : man_at q.men u ≡ Some e.man = sym (moved_other q.men k n a u other not_there) ∙ e.found in
+      elim (cases_Bool (same_kind e.man.kind King)) [
+        | inl h ↦ (
+            let f = same_kind_equal e.man.kind King h in
+            let spot = king_is_one q.men w u (valid.kings w) (omega (arith, from.1, size)) (is_man_from (man_at q.men u) e.man w King stood (same_color_equal e.man.color w e.own) f) in
+            let near_by : (steps_apart u n == 1) ≡ true = king_aims w u n (rw f at e.aims) in
+            NextToKing (rw spot near_by))
+        | inr h ↦ Attacked e.man.kind u (record {
+          attacker = non_king_on p s q origin scene.facts valid w u e.man stood e.own h;
+          not_there = not_there;
+          other = other;
+          aims = e.aims;
+          open_way = all_weaker (λ v. is_empty men v) (λ v. (v == k) || not (is_fixed p s v)) (between u n) (λ v free.
+              elim (cases_eq v k) [
+                | inl f ↦ or_left (v == k) (not (is_fixed p s v)) (eq-eqb v k f)
+                | inr f ↦ elim (cases_eq v n) [
+                  | inl g ↦ (
+                      let full : is_empty men v ≡ false = rw (g, arrived, st.loser.found) refl in
+                      absurd (both_ways (is_empty men v) full free))
+                  | inr g ↦ (
+                      let free' : is_empty q.men v ≡ true = rw (moved_other q.men k n a v f g) at free in
+                      or_right (v == k) (not (is_fixed p s v)) (rw (empty_not_fixed p s q origin scene.facts v free') refl))
+                ]
+              ]) e.clear;
+        }) (λ lone.
+            let first = origin_is_non_king p s q origin scene.facts w u e.man stood e.own h in
+            let second = origin_is_non_king p s q origin scene.facts w c.square c.man c.found c.own c.other in
+            let together = scene.facts.distinct u c.square e.man c.man stood c.found (lone (origin u) (origin c.square) first second) in
+            let one = some_inj e.man c.man (sym stood ∙ (rw together c.found)) in
+            (ap (λ (x : Man). x.kind) one, together))
       ]
-    ]
+
+  -- no king stands next to the loser's
+  blocked_at : (d : Color) → is_man d King (man_at q.men n) ≡ true → (d ≡ w) ⊎ (d ≡ other_color w) → ⊥
+  blocked_at d king (inl e) =
+      let size = scene.valid.size in
+      let K : Color → Type 0 = λ x. is_man x King (man_at q.men n) ≡ true in
+      let place = king_is_one q.men w n (scene.valid.kings w) (omega (arith, small, size)) (subst K e king) in
+      both_ways (steps_apart (loser_on q w) (winner_on q w) == 1) st.far (rw place step)
+  blocked_at d king (inr e) =
+      let size = scene.valid.size in
+      let K : Color → Type 0 = λ x. is_man x King (man_at q.men n) ≡ true in
+      let place = king_is_one q.men (other_color w) n (scene.valid.kings (other_color w)) (omega (arith, small, size)) (subst K e king) in
+      (near (loser_on q w) n st.loser_small small step).other place
+
+  -- each square next to the loser's king is covered: by a man of its own there, or by what attacks it
+  covered_at : (o : Option Man) → man_at q.men n ≡ o → Covered p s w (loser_on q w) (winner_on q w) n c.man.kind c.square
+  covered_at None there =
+      let color = st.loser.color ∙ sym scene.mate.to_move in
+      covered_from
+      (king_may q (hop q w n) st.loser.man (man_at q.men (loser_on q w)) st.loser.found color st.loser.kind refl (rw there refl) step)
+  covered_at (Some man) there =
+      let side = scene.mate.to_move in
+      elim (cases_Bool (same_kind man.kind King)) [
+        | inl h ↦ absurd (blocked_at man.color (is_man_from (man_at q.men n) man man.color King there refl (same_kind_equal man.kind King h)) (either_color man.color w))
+        | inr h ↦ elim (cases_Bool (same_color man.color (other_color w))) [
+          | inl own ↦ Blocked man.kind (non_king_on p s q origin scene.facts scene.valid (other_color w) n man there own h)
+          | inr enemy ↦ (
+              let color = st.loser.color ∙ sym scene.mate.to_move in
+              let E : Color → Type 0 = λ x. may_enter x (man_at q.men n) ≡ true in
+              let M : Option Man → Type 0 = λ x. may_enter (other_color w) x ≡ true in
+              let enter = subst E (sym side) (subst M (sym there) (may_enter_enemy (other_color w) man enemy h)) in
+              covered_from
+              (king_may q (hop q w n) st.loser.man (man_at q.men (loser_on q w)) st.loser.found color st.loser.kind refl enter step))
+        ]
+      ]
 
 -- a mate is a threat
 pub mate_threatens : (p : Board) (s : Sets) (q : Board) (w : Color) → IsValid q → FactsHold p s q → IsMated q (other_color w) → (ks : ℕ) × (wk : ℕ) × Threat p s w ks wk
@@ -278,14 +250,17 @@ mate_threatens p s q w valid held mate =
     let st = stand p s q w origin scene in
     let c = checker p s q w origin scene st in
     let k = loser_on q w in
-    let h = winner_on q w in
-    (k, h, record {
-      loser = king_on p s q origin valid held.1 (other_color w) k st.loser_is;
-      winner = king_on p s q origin valid held.1 w h st.winner_is;
-      distinct = λ e. not_of_other (other_color w) King (man_at q.men k) st.loser.man st.loser.found (let color = st.loser.color in rw color (same_color_self (other_color w))) (rw (other_other, ← e) st.winner_is);
-      far = st.far;
-      kind = c.man.kind;
-      square = c.square;
-      checks = c.checks;
-      covered = λ n small step. covered_at p s q w origin scene st c n small step (man_at q.men n) refl;
-    })
+    let h = winner_on q w in (
+      k,
+      h,
+      record {
+        loser = king_on p s q origin held.1 valid (other_color w) k st.loser_is;
+        winner = king_on p s q origin held.1 valid w h st.winner_is;
+        distinct = λ e. not_of_other (other_color w) King (man_at q.men k) st.loser.man st.loser.found (let color = st.loser.color in rw color (same_color_self (other_color w))) (rw (other_other, ← e) st.winner_is);
+        far = st.far;
+        kind = c.man.kind;
+        square = c.square;
+        checks = c.checks;
+        covered = λ n small step. covered_at p s q w origin scene st c n small step (man_at q.men n) refl;
+      },
+    )

@@ -6,7 +6,7 @@ use Rattle.cha_board.specs.declared.men.Color.TheVariants.{White, Black}
 use Rattle.cha_board.specs.declared.men.Kind.{Kind}
 use Rattle.cha_board.specs.declared.men.Kind.TheVariants.{King}
 use Rattle.cha_board.specs.declared.men.Man.{Man}
-use Rattle.cha_board.specs.Men.{other_color, same_color, same_kind, is_vacant, is_man, is_non_king}
+use Rattle.cha_board.specs.Men.{other_color, same_color, same_kind, is_man, is_non_king}
 use Rattle.cha_moves.specs.Moves.{may_enter}
 use Rattle.cha_moves.proofs.Identity.{one_color}
 
@@ -17,6 +17,7 @@ either_color White Black = inr refl
 either_color Black White = inr refl
 either_color Black Black = inl refl
 
+-- who is not of a side is of the other
 pub other_color_of : (a c : Color) → same_color a c ≡ false → same_color a (other_color c) ≡ true
 other_color_of White Black h = refl
 other_color_of Black White h = refl
@@ -34,10 +35,6 @@ not_of_other c k o man found own other =
 pub is_non_king_from : (c : Color) (man : Man) → same_color man.color c ≡ true → same_kind man.kind King ≡ false → is_non_king c (Some man) ≡ true
 is_non_king_from c man own other = and_from (same_color man.color c) (not (same_kind man.kind King)) own (ap not other)
 
-pub not_vacant : (o : Option Man) (man : Man) → o ≡ Some man → is_vacant o ≡ false
-not_vacant o man e = ap is_vacant e
-
 -- an enemy that is no king may be captured
 pub may_enter_enemy : (c : Color) (man : Man) → same_color man.color c ≡ false → same_kind man.kind King ≡ false → may_enter c (Some man) ≡ true
 may_enter_enemy c man enemy other = and_from (not (same_color man.color c)) (not (same_kind man.kind King)) (ap not enemy) (ap not other)
-

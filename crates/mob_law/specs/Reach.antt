@@ -10,8 +10,8 @@ use Rattle.cha_board.specs.Squares.{squares, aims_at, steps_apart, between}
 use Rattle.cha_board.specs.Board.{Board, man_at, is_empty}
 
 -- Sets of squares that each man may ever reach. A man is named by its origin, the square on which it stands in the
--- position: `has o k u` says that the man of o may ever stand on u as a k, and `loose o` that it may ever leave o, become
--- another kind there, or be captured there (this project).
+-- position: `has o k u` says that the man of o may ever stand on u as a k, and `loose o` that it may ever leave o or be
+-- captured there (this project).
 pub record Sets : Type 0 where
   pub has : ℕ → Kind → ℕ → Bool
   pub loose : ℕ → Bool

@@ -43,12 +43,13 @@ pub record Attacks (p : Board) (s : Sets) (w : Color) (ks n : ℕ) (k : Kind) (u
   pub aims : aims_at w k u n ≡ true
   pub open_way : is_open_through p s ks u n ≡ true
 
--- The king on ks may be kept from n while a k on u gives check: a man of its own is in its way, the winner's king on wk is
--- next to n, or some man of the winner attacks n. Where the winner has one man beside its king, that is the man that gives
--- check.
+-- The king on ks may be kept from n, a square next to it, while a k on u gives check:
 pub data Covered (p : Board) (s : Sets) (w : Color) (ks wk n : ℕ) (k : Kind) (u : ℕ) : Type 0 where
+  -- a man of its own may stand there,
   Blocked : (j : Kind) → NonKingOn p s (other_color w) j n → Covered p s w ks wk n k u
+  -- or the winner's king on wk is next to n,
   NextToKing : (steps_apart wk n == 1) ≡ true → Covered p s w ks wk n k u
+  -- or a man of the winner may attack n; where the winner has one man beside its king, that is the one that gives check
   Attacked : (j : Kind) (v : ℕ) → Attacks p s w ks n j v → (HasAtMostOneMan p w → (j ≡ k) × (v ≡ u)) → Covered p s w ks wk n k u
 
 -- A mate is not excluded with the loser's king on ks and the winner's on wk: some man may give check, and the king may be

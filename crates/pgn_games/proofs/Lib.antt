@@ -1,0 +1,4 @@
+pub mod Cuts
+pub mod Outsides
+pub mod Chains
+pub mod Taken

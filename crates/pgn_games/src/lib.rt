@@ -10,6 +10,7 @@ mod movetext;
 mod played;
 mod slices;
 mod tag_pairs;
+mod taking;
 mod turns;
 
 pub use faults::GameFault;

@@ -1,13 +1,14 @@
 //! The game of its tokens.
 
 ghost use Rattle.std.specs.Prelude.{◌≡◌, min, length, IfOk};
+ghost use Rattle.std.specs.List.{list_any};
 ghost use Rattle.pgn_games.specs.Fields.{is_unclosed, move_words};
 ghost use Rattle.pgn_games.specs.Games.{is_open, fault_of, game_of};
 
 use crate::faults::GameFault;
 use crate::movetext::{bad_place, left_open, result_of, words_of};
 use crate::played::Game;
-use crate::tag_pairs::{forfeited, other_game, start_refused, started, value_of, was_cut};
+use crate::tag_pairs::{forfeited, other_game, some_cut, start_refused, started, value_of};
 use cha_list::NoMemory;
 use pgn_lex::{Placed, Token};
 use std::alloc::Global;
@@ -26,12 +27,19 @@ fn unclosed(token: &Token) -> bool
     }
 }
 
+/// Whether the end of the input cuts off a comment.
+fn some_unclosed(slice: &[Placed]) -> bool
+    ensures { result ≡ list_any (λ t. is_unclosed t.token) slice.now }
+{
+    slice.iter().any(|placed| unclosed(&placed.token))
+}
+
 /// Whether a comment or a variation is open where the game ends.
 #[tactic(auto, unfolding(crate::specs::Games::is_open))]
 fn still_open(slice: &[Placed]) -> bool
     ensures { result ≡ is_open slice.now }
 {
-    if slice.iter().any(|placed| unclosed(&placed.token)) {
+    if some_unclosed(slice) {
         return true;
     }
     left_open(slice) > 0
@@ -49,7 +57,7 @@ fn first_fault(slice: &[Placed], words: usize) -> Option<GameFault>
     if still_open(slice) {
         return Some(GameFault::Unclosed);
     }
-    if slice.iter().any(|placed| was_cut(&placed.token)) {
+    if some_cut(slice) {
         return Some(GameFault::ValueTooLong);
     }
     if other_game(value_of(b"Variant", slice)) {

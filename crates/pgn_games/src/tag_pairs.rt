@@ -1,6 +1,7 @@
 //! What the tag pairs of a game say.
 
 ghost use Rattle.std.specs.Prelude.{◌≡◌, not};
+ghost use Rattle.std.specs.List.{list_any};
 ghost use Rattle.std.specs.Option.{option_copied};
 ghost use Rattle.std.specs.Str.{str_eq_ignore_ascii_case};
 ghost use Rattle.pgn_games.specs.Fields.{value_named, tag_value, is_cut, says_forfeit, says_chess, passes};
@@ -46,13 +47,20 @@ pub fn value_of<'a>(name: &[u8], slice: &'a [Placed]) -> Option<&'a [u8]>
 
 /// Whether the value of a tag pair is longer than what is kept of it.
 #[tactic(auto, unfolding(crate::specs::Fields::is_cut))]
-pub fn was_cut(token: &Token) -> bool
+fn was_cut(token: &Token) -> bool
     ensures { result ≡ is_cut token.now }
 {
     match token {
         Token::Tag { cut, .. } => *cut,
         _ => false,
     }
+}
+
+/// Whether some value is longer than what is kept of it.
+pub fn some_cut(slice: &[Placed]) -> bool
+    ensures { result ≡ list_any (λ t. is_cut t.token) slice.now }
+{
+    slice.iter().any(|placed| was_cut(&placed.token))
 }
 
 /// Whether two texts are the same but for the case of ASCII letters.
@@ -77,7 +85,7 @@ fn lost_on_time(value: &[u8]) -> bool
 
 /// Whether the Termination tag says that the game was lost on time.
 pub fn forfeited(termination: Option<&[u8]>) -> bool
-    ensures { result ≡ passes says_forfeit (option_copied termination) }
+    ensures { result ≡ passes says_forfeit (option_copied termination.entry) }
 {
     match termination {
         Some(value) => lost_on_time(value),
@@ -98,7 +106,7 @@ fn means_chess(value: &[u8]) -> bool
 
 /// Whether the Variant tag names another game than chess.
 pub fn other_game(variant: Option<&[u8]>) -> bool
-    ensures { result ≡ passes (λ value. not (says_chess value)) (option_copied variant) }
+    ensures { result ≡ passes (λ value. not (says_chess value)) (option_copied variant.entry) }
 {
     match variant {
         Some(value) => !means_chess(value),
@@ -109,7 +117,7 @@ pub fn other_game(variant: Option<&[u8]>) -> bool
 /// Where a game starts, by its FEN tag.
 #[tactic(auto, unfolding(crate::specs::Games::start_of))]
 pub fn started(fen: Option<&[u8]>) -> Position
-    ensures { result ≡ start_of (option_copied fen) }
+    ensures { result ≡ start_of (option_copied fen.entry) }
 {
     match fen {
         Some(value) => match read(value) {
@@ -131,7 +139,7 @@ fn first_position() -> Position
 /// The fault of a FEN tag.
 #[tactic(auto, unfolding(crate::specs::Games::start_fault))]
 pub fn start_refused(fen: Option<&[u8]>) -> Option<GameFault>
-    ensures { result ≡ start_fault (option_copied fen) }
+    ensures { result ≡ start_fault (option_copied fen.entry) }
 {
     match fen {
         Some(value) => match read(value) {

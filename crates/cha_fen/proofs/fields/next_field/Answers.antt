@@ -1,4 +1,4 @@
-use Rattle.std.proofs.Common.{◌≡◌, ℕ, ◌≤◌, arith, length, length-drop, ap}
+use Rattle.std.proofs.Common.{arith, length, length-drop, ap}
 use Rattle.cha_fen.proofs.Splitting.{first_field, no_field, is_nothing, is_something}
 use Rattle.cha_fen.proofs.fields.next_field.Goals as goal
 

@@ -1,4 +1,4 @@
-use Rattle.std.proofs.Common.{◌≡◌, ℕ, ◌+◌, ◌-◌, ◌*◌, ◌∙◌, arith}
+use Rattle.std.proofs.Common.{◌≡◌, ◌+◌, ◌-◌, ◌*◌, ◌∙◌, arith}
 use Rattle.cha_fen.proofs.Writing.{one_more_rank, last_rank, no_rank}
 use Rattle.cha_fen.proofs.written.put_ranks.Goals as goal
 

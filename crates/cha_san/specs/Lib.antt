@@ -1,0 +1,5 @@
+pub mod Backwards
+pub mod Forms
+pub mod Fitting
+pub mod Resolving
+pub mod Playing

@@ -1,0 +1,33 @@
+-- The positions of a game.
+use Rattle.std.specs.Prelude.{◌≡◌, ℕ, ◌+◌, List, [], ◌∷◌, Result, Ok, Err}
+use Rattle.cha_board.specs.Board.{Board}
+use Rattle.cha_moves.specs.Step.{Move}
+use Rattle.cha_moves.specs.Moves.{after}
+use Rattle.cha_san.specs.declared.faults.SanFault.{SanFault}
+use Rattle.cha_san.specs.declared.faults.SanFault.TheVariants.{NoMemory}
+use Rattle.cha_san.specs.declared.faults.PlayFault.{PlayFault}
+use Rattle.cha_san.specs.Resolving.{resolved}
+
+-- a position in front of those that follow, if these can be told
+abbrev pub onto : Board → Result (List Board) PlayFault → Result (List Board) PlayFault
+onto q (Ok rest) = Ok (q ∷ rest)
+onto q (Err fault) = Err fault
+
+-- a position and those that follow the move of the next word, which has this number
+abbrev pub onward : ℕ → Board → Result Move SanFault → (Board → Result (List Board) PlayFault) → Result (List Board) PlayFault
+onward ply q (Ok m) rest = onto q (rest (after q m))
+onward ply q (Err fault) rest = Err (record { ply = ply; fault = fault })
+
+-- a position and the one after each word, where the first word has this number; or the first word that names no move
+unfoldable pub positions_from : ℕ → Board → List (List ℕ) → Result (List Board) PlayFault
+positions_from ply q [] = Ok (q ∷ [])
+positions_from ply q (word ∷ words) = onward ply q (resolved q word) (λ next. positions_from (ply + 1) next words)
+
+-- the positions of a game, from its start to its end; words are counted from 1
+abbrev pub positions : Board → List (List ℕ) → Result (List Board) PlayFault
+positions start words = positions_from 1 start words
+
+-- there was no memory
+abbrev pub LacksMemory : Result (List Board) PlayFault → Type 0
+LacksMemory (Ok qs) = ⊥
+LacksMemory (Err fault) = fault.fault ≡ NoMemory

@@ -1,0 +1,62 @@
+//! What the letters and digits of a move word mean (PGN standard, 8.2.3.1 to 8.2.3.3).
+
+ghost use Rattle.std.specs.Prelude.{◌≡◌, ◌<◌, IfSome};
+ghost use Rattle.cha_san.specs.Forms.{kind_named, promotion_named, file_named, rank_named};
+
+use cha_board::Kind;
+
+/// The kind of man that a letter names.
+#[tactic(auto, unfolding(crate::specs::Forms::kind_named))]
+pub fn kind_of(letter: u8) -> Option<Kind>
+    ensures { result ≡ kind_named letter }
+{
+    match letter {
+        b'K' => Some(Kind::King),
+        b'Q' => Some(Kind::Queen),
+        b'R' => Some(Kind::Rook),
+        b'B' => Some(Kind::Bishop),
+        b'N' => Some(Kind::Knight),
+        b'P' => Some(Kind::Pawn),
+        _ => None,
+    }
+}
+
+/// What a pawn becomes by a letter.
+#[tactic(auto, unfolding(crate::specs::Forms::promotion_named))]
+pub fn promotion_of(letter: u8) -> Option<Kind>
+    ensures { result ≡ promotion_named letter }
+{
+    match letter {
+        b'Q' => Some(Kind::Queen),
+        b'R' => Some(Kind::Rook),
+        b'B' => Some(Kind::Bishop),
+        b'N' => Some(Kind::Knight),
+        _ => None,
+    }
+}
+
+/// The file of a letter, from 0 for the a-file.
+#[tactic(auto, unfolding(crate::specs::Forms::file_named))]
+pub fn file_of(letter: u8) -> Option<u8>
+    ensures value { result ≡ file_named letter }
+    ensures bound { IfSome result (λ file. file < 8) }
+{
+    if b'a' <= letter && letter <= b'h' {
+        Some(letter - b'a')
+    } else {
+        None
+    }
+}
+
+/// The rank of a digit, from 0 for the first rank.
+#[tactic(auto, unfolding(crate::specs::Forms::rank_named))]
+pub fn rank_of(digit: u8) -> Option<u8>
+    ensures value { result ≡ rank_named digit }
+    ensures bound { IfSome result (λ rank. rank < 8) }
+{
+    if b'1' <= digit && digit <= b'8' {
+        Some(digit - b'1')
+    } else {
+        None
+    }
+}

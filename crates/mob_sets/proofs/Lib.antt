@@ -1,0 +1,5 @@
+pub mod Order
+pub mod Entries
+pub mod Keeping
+pub mod Entering
+pub mod Canonical

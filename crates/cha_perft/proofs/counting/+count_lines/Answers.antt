@@ -1,4 +1,4 @@
-use Rattle.std.proofs.Common.{◌≡◌, ◌≤◌, ◌+◌, ◌-◌, ◌^◌, refl, ◌∙◌, ap, arith}
+use Rattle.std.proofs.Common.{◌≡◌, ◌+◌, ◌-◌, ◌^◌, refl, ◌∙◌, ap, arith}
 use Rattle.cha_moves.specs.Moves.{after}
 use Rattle.cha_perft.specs.Counts.{lines_from}
 use Rattle.cha_perft.proofs.Sums.{more_lines, some_lines}

@@ -1,13 +1,13 @@
 -- Worked texts, computed from the definitions.
-use Rattle.std.proofs.Common.{◌≡◌, ℕ, suc, Bool, false, true, List, [], ◌∷◌, ◌++◌, Option, Some, None, map, refl}
+use Rattle.std.proofs.Common.{◌≡◌, ℕ, suc, false, true, List, [], ◌∷◌, ◌++◌, Some, map, refl}
 use Rattle.std.specs.Prelude.{codes}
 use Rattle.pgn_lex.specs.declared.kinds.Token.{Token}
-use Rattle.pgn_lex.specs.declared.kinds.Token.TheVariants.{Tag, BadTag, Word, Star, Enter, Leave, Bad, Unclosed}
+use Rattle.pgn_lex.specs.declared.kinds.Token.TheVariants.{Tag, BadTag, Word, Star, Enter, Leave, Bad}
 use Rattle.pgn_lex.specs.declared.kinds.Placed.{Placed}
 use Rattle.pgn_games.specs.declared.marks.ResultMark.TheVariants as result
 use Rattle.pgn_games.specs.declared.turns.Place.TheVariants.{Before}
 use Rattle.pgn_games.specs.Cutting.{mark_of, is_tag, depth_after, turn, cut}
-use Rattle.pgn_games.specs.Fields.{outside, value_named, tag_value, recorded_in, move_word, move_words, is_bad, first_bad, is_unclosed, is_cut, says_forfeit, says_chess}
+use Rattle.pgn_games.specs.Fields.{outside, value_named, tag_value, recorded_in, move_word, move_words, is_bad, first_bad, is_unclosed, says_forfeit, says_chess}
 use Rattle.pgn_games.specs.Games.{is_open}
 
 -- tokens in a row, each of a byte

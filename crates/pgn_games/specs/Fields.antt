@@ -1,5 +1,5 @@
 -- What the tokens of one game say.
-use Rattle.std.specs.Prelude.{ℕ, ◌-◌, ◌==◌, Bool, true, false, not, ◌||◌, if◌then◌else◌, List, [], ◌∷◌, ◌++◌, length, drop, fold, filter_map, Option, Some, None, is_some, slice_get, codes}
+use Rattle.std.specs.Prelude.{ℕ, ◌-◌, ◌==◌, Bool, true, false, ◌||◌, if◌then◌else◌, List, [], ◌∷◌, ◌++◌, length, drop, fold, filter_map, Option, Some, None, is_some, slice_get, codes}
 use Rattle.std.specs.Option.{unwrap_or}
 use Rattle.std.specs.Str.{bytes_eq, str_eq_ignore_ascii_case}
 use Rattle.pgn_lex.specs.declared.kinds.Token.{Token}
@@ -27,7 +27,7 @@ unfoldable pub value_named : List ℕ → Token → Option (List ℕ)
 value_named name (Tag n value cut) = if bytes_eq n name then Some value else None
 value_named name _ = None
 
--- the value of the first tag pair of a name: names are told apart by case (PGN standard, 8.1.1)
+-- the value of the first tag pair of a name: names are compared with their case (this project)
 unfoldable pub tag_value : List ℕ → List Placed → Option (List ℕ)
 tag_value name slice = slice_get (filter_map (λ t. value_named name t.token) slice) 0
 

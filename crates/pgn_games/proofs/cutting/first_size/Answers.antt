@@ -1,4 +1,4 @@
-use Rattle.std.proofs.Common.{◌≡◌, ℕ, ◌≤◌, length, refl, sym, ◌∙◌, arith}
+use Rattle.std.proofs.Common.{◌≡◌, length, refl, sym, ◌∙◌, arith}
 use Rattle.pgn_games.proofs.Cuts.{cut_begins, goes_on, ends_here, begins_here, first_begins_none, nothing_left, opens}
 use Rattle.pgn_games.proofs.cutting.first_size.Goals as goal
 

@@ -1,4 +1,4 @@
-use Rattle.std.proofs.Common.{◌≡◌, length, ◌∙◌, sym, ap, arith}
+use Rattle.std.proofs.Common.{length, ◌∙◌, sym, ap}
 use Rattle.std.specs.Option.{option_copied}
 use Rattle.pgn_games.proofs.Outsides.{no_more_words, no_word_inside, no_word, words_at}
 use Rattle.pgn_games.proofs.movetext.add_word.Goals as goal

@@ -1,4 +1,4 @@
-use Rattle.std.proofs.Common.{◌∙◌, refl, sym, ap, arith}
+use Rattle.std.proofs.Common.{◌∙◌, sym, ap, arith}
 use Rattle.std.specs.Option.{unwrap_or}
 use Rattle.pgn_games.specs.declared.marks.ResultMark.TheVariants.{Unknown}
 use Rattle.pgn_games.specs.Cutting.{mark_of}

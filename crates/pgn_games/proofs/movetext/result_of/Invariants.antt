@@ -1,6 +1,4 @@
 use Rattle.std.proofs.Common.{◌≡◌, ◌≤◌, drop}
-use Rattle.std.specs.Option.{unwrap_or}
-use Rattle.pgn_games.specs.declared.marks.ResultMark.TheVariants.{Unknown}
 use Rattle.pgn_games.specs.Cutting.{mark_of}
 use Rattle.pgn_games.specs.Fields.{outside}
 use Rattle.pgn_games.proofs.Outsides.{first}

@@ -1,6 +1,5 @@
-use Rattle.std.proofs.Common.{◌≡◌, ◌∙◌, sym, ap, true, false, drop, subst}
+use Rattle.std.proofs.Common.{◌∙◌, sym, ap, drop}
 use Rattle.pgn_games.specs.Reading.{ReaderState}
-use Rattle.pgn_games.specs.Games.{games}
 use Rattle.pgn_games.proofs.Giving.{game_here, no_game, one_more}
 use Rattle.pgn_games.proofs.reading.Reader.give.Goals as goal
 

@@ -240,7 +240,7 @@ fn words_of_255_bytes(rt: HostRuntime) -> Result<(), Fail> {
     ] {
         let mut word = Text::new(rt.alloc());
         word.append(front.as_bytes())?;
-        while word.items().len() < 255 {
+        for _more in front.len()..255 {
             word.push(byte)?;
         }
         assert_eq!(rt;

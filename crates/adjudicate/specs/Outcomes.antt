@@ -39,9 +39,13 @@ line_item text = if nat_lt most_line_bytes (length text) then RefusedLine Shape 
 unfoldable pub counts : List ℕ → Bool
 counts text = not (list_all (in_class Blank) text)
 
+-- the items of a text of positions: its lines that count, in order
+unfoldable pub position_items : List ℕ → List Item
+position_items bytes = map line_item (filter counts (lines bytes))
+
 -- the items of an input, in order
-unfoldable pub items_of : Order → List ℕ → List Item
-items_of JudgePositions bytes = map line_item (filter counts (lines bytes))
+abbrev pub items_of : Order → List ℕ → List Item
+items_of JudgePositions bytes = position_items bytes
 
 -- an item, and the verdicts on its position if it has one
 pub record Outcome : Type 0 where
@@ -77,30 +81,31 @@ unfoldable pub blocks : ℕ → List Outcome → List ℕ
 blocks number [] = []
 blocks number (o ∷ os) = block number o ++ blocks (number + 1) os
 
--- an item that is unreadable or refused
-unfoldable pub is_bad : Outcome → Bool
-is_bad o = is_bad_item o.item
-  where
-    abbrev is_bad_item : Item → Bool
-    is_bad_item (PositionLine q) = false
-    is_bad_item (RefusedLine fault) = true
+-- an item that is refused
+abbrev pub is_bad_item : Item → Bool
+is_bad_item (PositionLine q) = false
+is_bad_item (RefusedLine fault) = true
 
 -- a position whose state is dead
-unfoldable pub is_third : Outcome → Bool
-is_third o = third_of o.item o.decision
-  where
-    abbrev third_of : Item → Option Decision → Bool
-    third_of (PositionLine q) (Some d) = has_dead_status q d.white d.black
-    third_of (PositionLine q) None = false
-    third_of (RefusedLine fault) d = false
+abbrev pub is_third_item : Item → Option Decision → Bool
+is_third_item (PositionLine q) (Some d) = has_dead_status q d.white d.black
+is_third_item (PositionLine q) None = false
+is_third_item (RefusedLine fault) d = false
 
--- an item with a side of which nothing was shown
+-- a side of which nothing was shown
+abbrev pub has_open_side : Option Decision → Bool
+has_open_side None = false
+has_open_side (Some d) = is_undecided d.white || is_undecided d.black
+
+-- the same of outcomes
+unfoldable pub is_bad : Outcome → Bool
+is_bad o = is_bad_item o.item
+
+unfoldable pub is_third : Outcome → Bool
+is_third o = is_third_item o.item o.decision
+
 unfoldable pub is_open : Outcome → Bool
-is_open o = open_of o.decision
-  where
-    abbrev open_of : Option Decision → Bool
-    open_of None = false
-    open_of (Some d) = is_undecided d.white || is_undecided d.black
+is_open o = has_open_side o.decision
 
 -- what is counted over outcomes
 abbrev pub summary_of : List Outcome → Summary

@@ -1,5 +1,5 @@
 -- What the judging of one item gives, and what was written so far.
-use Rattle.std.specs.Prelude.{◌≡◌, ℕ, ◌+◌, ◌^◌, ◌<◌, Bool, if◌then◌else◌, List, map, Option}
+use Rattle.std.specs.Prelude.{◌≡◌, ℕ, ◌+◌, ◌^◌, ◌<◌, Bool, if◌then◌else◌, List, ◌++◌, map, Option}
 use Rattle.std.specs.Io.KnownBytes.{Appends}
 use Rattle.flag_report.specs.declared.totals.Summary.{Summary}
 use Rattle.cha_decide.specs.declared.decided.Decision.{Decision}
@@ -37,3 +37,7 @@ Judges item s judged =
 -- these items have sound outcomes whose blocks were written and whose totals are these
 abbrev pub Wrote : List Item → Option (List ℕ) → Option (List ℕ) → Summary → Type 0
 Wrote items old new s = (os : List Outcome) × (map (λ o. o.item) os ≡ items) × AllSound os × Appends old new (blocks 1 os) × (s ≡ summary_of os)
+
+-- of all items, those before these have sound outcomes whose blocks were written and whose totals are these
+abbrev pub WroteUpTo : List Item → List Item → Option (List ℕ) → Option (List ℕ) → Summary → Type 0
+WroteUpTo all later old new s = (done : List Item) × (all ≡ done ++ later) × Wrote done old new s

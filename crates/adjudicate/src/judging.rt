@@ -1,6 +1,7 @@
 //! What is found about one item of the input.
 
-ghost use Rattle.std.specs.Prelude.{◌≡◌, IfOk};
+ghost use Rattle.std.specs.Prelude.{◌≡◌, ◌||◌, IfOk};
+ghost use Rattle.flag_report.specs.Verdicts.{is_undecided as is_undecided_verdict};
 ghost use Rattle.adjudicate.specs.Outcomes.{line_item};
 ghost use Rattle.adjudicate.specs.Outcomes.Item.{PositionLine, RefusedLine};
 ghost use Rattle.adjudicate.specs.Steps.{Judges, HasRoom, counted_as};
@@ -9,9 +10,7 @@ use cha_board::{Color, Position};
 use cha_decide::decide;
 use cha_fen::{FenFault, read};
 use cha_list::{NoMemory, Text};
-use flag_report::{
-    Summary, has_dead_state, is_undecided, position_block, refused_block,
-};
+use flag_report::{Summary, Verdict, has_dead_state, is_undecided, position_block, refused_block};
 use std::alloc::Global;
 
 /// The block of an item, and what it adds to the last line.
@@ -39,11 +38,7 @@ pub fn judge_line(alloc: Global, line: &[u8], totals: &Summary) -> Result<Judged
 }
 
 /// Judges a position.
-fn judge_position(
-    alloc: Global,
-    position: &Position,
-    totals: &Summary,
-) -> Result<Judged, NoMemory>
+fn judge_position(alloc: Global, position: &Position, totals: &Summary) -> Result<Judged, NoMemory>
     requires { HasRoom totals.now }
     ensures { IfOk result (Judges (PositionLine position.now) totals.now) }
 {
@@ -52,11 +47,17 @@ fn judge_position(
     let black = &decision.black;
     let block = position_block(alloc, totals.items + 1, position, white, black)?;
     let dead = has_dead_state(position, white, black);
-    let open = is_undecided(white) || is_undecided(black);
     Ok(Judged {
         block,
-        totals: with_one(totals, false, dead, open),
+        totals: with_one(totals, false, dead, some_undecided(white, black)),
     })
+}
+
+/// Whether nothing was shown about one of the sides.
+fn some_undecided(white: &Verdict, black: &Verdict) -> bool
+    ensures { result ≡ (is_undecided_verdict white.now || is_undecided_verdict black.now) }
+{
+    is_undecided(white) || is_undecided(black)
 }
 
 /// Refuses a line that is no position.
@@ -71,14 +72,14 @@ fn refuse(alloc: Global, fault: FenFault, totals: &Summary) -> Result<Judged, No
 }
 
 /// The totals with one more item, which is bad, counted third or open.
-fn with_one(totals: &Summary, bad: bool, third: bool, open: bool) -> Summary
+fn with_one(totals: &Summary, bad: bool, third: bool, undecided: bool) -> Summary
     requires { HasRoom totals.now }
-    ensures { result ≡ counted_as totals.now bad third open }
+    ensures { result ≡ counted_as totals.now bad third undecided }
 {
     Summary {
         items: totals.items + 1,
         bad: totals.bad + u64::from(bad),
         third: totals.third + u64::from(third),
-        undecided: totals.undecided + u64::from(open),
+        undecided: totals.undecided + u64::from(undecided),
     }
 }

@@ -1,6 +1,6 @@
 //! A whole input of positions, one on each line.
 
-ghost use Rattle.std.specs.Prelude.{◌≡◌, ◌≤◌, ◌<◌, length};
+ghost use Rattle.std.specs.Prelude.{◌≡◌, ◌≤◌, ◌<◌, ◌^◌, length};
 ghost use Rattle.cha_outside.specs.Faults.{Rose};
 ghost use Rattle.adjudicate.specs.declared.orders.Order.TheVariants.{JudgePositions};
 ghost use Rattle.adjudicate.specs.Report.{IsReport, HasBegun, HasWholeBlocks};

@@ -1,7 +1,6 @@
 //! The one call that the program makes.
 
-ghost use Rattle.std.specs.Prelude.{◌≡◌, ◌≤◌, ◌<◌, ◌↔◌, ◌⊎◌, ℕ, List, length, IsSome, IsNone, Some};
-ghost use Rattle.std.specs.Io.KnownBytes.{Consumes};
+ghost use Rattle.std.specs.Prelude.{◌≡◌, ◌≢◌, ◌≤◌, ◌<◌, ◌↔◌, ◌⊎◌, ℕ, List, length, IsNone, Some};
 ghost use Rattle.cha_outside.specs.Faults.{Rose};
 ghost use Rattle.cha_outside.specs.Gathering.{Took};
 ghost use Rattle.adjudicate.specs.Words.{order};
@@ -15,7 +14,8 @@ use crate::positions::judge_positions;
 use crate::writing::Reported;
 use cha_outside::{MOST_BYTES, ReadEnd, Sink, Source, read_all};
 use std::alloc::Global;
-use std::process::{Threads, Wait};
+use std::sync::Wait;
+use std::thread::Threads;
 
 /// Does what the words order: reads the source to its end, and writes the report of what it gave to the sink. The words
 /// leave out the program's name.
@@ -37,21 +37,27 @@ pub fn run<R: Threads + Wait + Sync, S: Source, K: Sink, G: Gate + Sync>(
     ensures usage { (result ≡ Status.Usage) ↔ IsNone (order words.now) }
     ensures untouched { result ≡ Status.Usage → (source.new ≡ source.old) × (sink.new ≡ sink.old) }
 
-    // The source failed; whole blocks were written.
+    // The source failed. What was written is whole blocks.
     ensures read_fault { result ≡ Status.ReadFault → Rose (S.faults source.old) (S.faults source.new) }
     ensures read_begun { result ≡ Status.ReadFault → (o : Orders) → order words.now ≡ Some o → BeginsWhole o (S.left source.old) (S.left source.new) (K.written sink.old) (K.written sink.new) }
 
-    // The sink failed; what it took is the front of a report.
+    // The sink failed. What was written is a front of a report.
     ensures write_fault { result ≡ Status.WriteFault → Rose (K.faults sink.old) (K.faults sink.new) }
     ensures write_begun { result ≡ Status.WriteFault → (o : Orders) → order words.now ≡ Some o → Begins o (S.left source.old) (S.left source.new) (K.written sink.old) (K.written sink.new) }
 
-    // The source gave too many bytes; whole blocks were written.
+    // More bytes were taken than an input may have, and otherwise no more. What was written is whole blocks.
     ensures too_long { result ≡ Status.TooLong → Took (S.left source.old) (S.left source.new) (λ taken. MOST_BYTES < length taken) }
-    ensures too_long_told { (bytes : List ℕ) → S.left source.old ≡ Some bytes → MOST_BYTES < length bytes → IsSome (order words.now) → (result ≡ Status.TooLong) ⊎ ((result ≡ Status.ReadFault) ⊎ (result ≡ Status.NoMemory)) }
+    ensures not_too_long { result ≢ Status.TooLong → result ≢ Status.NoMemory → Took (S.left source.old) (S.left source.new) (λ taken. length taken ≤ MOST_BYTES) }
     ensures too_long_begun { result ≡ Status.TooLong → (o : Orders) → order words.now ≡ Some o → BeginsWhole o (S.left source.old) (S.left source.new) (K.written sink.old) (K.written sink.new) }
 
-    // Want of memory; whole blocks were written.
+    // Want of memory. What was written is whole blocks.
     ensures memory_begun { result ≡ Status.NoMemory → (o : Orders) → order words.now ≡ Some o → BeginsWhole o (S.left source.old) (S.left source.new) (K.written sink.old) (K.written sink.new) }
+
+    // With words of the language, an input that is not too long and nothing that fails, the report is written or memory
+    // was refused.
+    ensures complete { (o : Orders) → order words.now ≡ Some o → (bytes : List ℕ) → S.left source.old ≡ Some bytes → length bytes ≤ MOST_BYTES
+        → ¬ Rose (S.faults source.old) (S.faults source.new) → ¬ Rose (K.faults sink.old) (K.faults sink.new)
+        → (result ≡ Status.Done) ⊎ (result ≡ Status.NoMemory) }
 
     // Counts of faults never fall.
     ensures source_later { S.faults source.old ≤ S.faults source.new }

@@ -1,5 +1,5 @@
 -- The lists of moves that mate are exactly the mating lines.
-use Rattle.std.proofs.Common.{◌≡◌, ℕ, zero, suc, ◌+◌, ◌-◌, ◌%◌, ◌==◌, ◌≤◌, ◌<◌, Bool, true, false, not, ◌&&◌, if◌then◌else◌, List, [], ◌∷◌, length, map, flat_map, Contains, IsTrue, slice_get, get_or, drop, Some, None, inl, inr, sym, ap, ◌∙◌, subst, refl, arith, sub-one, lt_of_not-le}
+use Rattle.std.proofs.Common.{◌≡◌, ℕ, zero, suc, ◌+◌, ◌-◌, ◌%◌, ◌==◌, ◌≤◌, ◌<◌, Bool, true, false, not, ◌&&◌, if◌then◌else◌, List, [], ◌∷◌, length, map, flat_map, Contains, slice_get, get_or, drop, Some, None, inl, inr, sym, ap, ◌∙◌, subst, refl, arith, sub-one, lt_of_not-le}
 use mathlib.Core.Bool.{beq}
 use Rattle.std.specs.Bool.{OnFalse}
 use Rattle.std.proofs.lemmas.Bool.Decides.{nat_tests}

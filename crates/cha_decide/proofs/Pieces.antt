@@ -1,5 +1,5 @@
 -- Lists put together from pieces: what they contain, and what they begin with.
-use Rattle.std.proofs.Common.{◌≡◌, ℕ, zero, suc, ◌+◌, ◌<◌, ◌≤◌, List, [], ◌∷◌, ◌++◌, ◌⊎◌, length, map, drop, get_or, flat_map, Contains, slice_get, slice_index_or, Option, Some, None, sym, ap, ◌∙◌, subst, inl, inr, refl, arith, add-one, drop-cons, drop_of_length-le}
+use Rattle.std.proofs.Common.{◌≡◌, ℕ, zero, suc, ◌+◌, ◌<◌, ◌≤◌, List, [], ◌∷◌, ◌++◌, ◌⊎◌, length, map, drop, get_or, flat_map, Contains, slice_get, Some, None, sym, ap, ◌∙◌, subst, inl, inr, refl, arith, add-one, drop-cons, drop_of_length-le}
 use Rattle.std.proofs.lemmas.List.Elements.{Contains-append_left, Contains-append_right, Contains-append_cases}
 
 module _ {X : Type 0} where

@@ -6,15 +6,37 @@ use cha_outside::{ReadFrom, WriteTo};
 use std::env;
 use std::process::ExitCode;
 
+/// What the program says to standard error of how it ended.
+fn said_of(status: Status) -> Option<&'static str> {
+    match status {
+        Status::Done => None,
+        Status::Usage => Some("usage: cha position"),
+        Status::ReadFault => Some("cannot read the input"),
+        Status::WriteFault => Some("cannot write the output"),
+        Status::TooLong => Some("the input is longer than 268435456 bytes"),
+        Status::NoMemory => Some("out of memory"),
+    }
+}
+
 fn main(rt: HostRuntime) -> ExitCode {
     let alloc = rt.alloc();
-    let status = match words_of(&rt, alloc) {
-        Some(words) => {
-            let mut source = ReadFrom::new(rt.stdin());
-            let mut sink = WriteTo::new(rt.stdout());
-            run(&rt, alloc, words.as_slice(), &mut source, &mut sink, &OpenGate)
-        }
-        None => Status::NoMemory,
+    let status = match env::args(&rt) {
+        Ok(args) => match args.skip(1).collect::<Vec<String>>(alloc) {
+            Ok(words) => {
+                let mut source = ReadFrom::new(rt.stdin());
+                let mut sink = WriteTo::new(rt.stdout());
+                run(
+                    &rt,
+                    alloc,
+                    words.as_slice(),
+                    &mut source,
+                    &mut sink,
+                    &OpenGate,
+                )
+            }
+            Err(_) => Status::NoMemory,
+        },
+        Err(_) => Status::Usage,
     };
     if let Some(line) = said_of(status) {
         let _ = eprintln!(rt; "{line}");

@@ -1,27 +1,23 @@
 -- A side that has only its king never mates.
-use Rattle.std.proofs.Common.{◌≡◌, ◌≢◌, ℕ, ◌+◌, ◌-◌, ◌<◌, ◌==◌, Bool, true, false, not, ◌&&◌, cond, List, [], ◌∷◌, map, length, Option, Some, None, ◌⊎◌, inl, inr, refl, sym, ◌∙◌, ap, subst, arith}
-use Rattle.std.specs.List.{list_all, list_any, range_with_len, Contains}
-use Rattle.std.specs.Int.{abs_diff}
-use Rattle.std.proofs.lemmas.Bool.{and_parts, and_from, both_ways, eqb-true, eq-eqb, not-true, not_from_false, false_from_ne_true, cases_Bool}
-use Rattle.std.proofs.lemmas.List.Folds.{list_any_none}
+use Rattle.std.proofs.Common.{◌≡◌, ℕ, ◌<◌, ◌==◌, true, false, not, ◌&&◌, List, [], ◌∷◌, Option, Some, None, inl, inr, refl, sym, ◌∙◌, ap, arith}
+use Rattle.std.proofs.lemmas.Bool.{and_parts, and_from, both_ways, eqb-true, not-true, false_from_ne_true, cases_Bool}
 use Rattle.cha_board.specs.declared.men.Color.{Color}
-use Rattle.cha_board.specs.declared.men.Kind.{Kind}
-use Rattle.cha_board.specs.declared.men.Kind.TheVariants.{Pawn, Rook, King}
+use Rattle.cha_board.specs.declared.men.Kind.TheVariants.{Rook, King}
 use Rattle.cha_board.specs.declared.men.Man.{Man}
-use Rattle.cha_board.specs.Men.{other_color, same_color, same_kind, is_vacant, is_man, is_non_king}
-use Rattle.cha_board.specs.Squares.{squares, files_apart, ranks_apart, steps_apart, is_line, aims_at, between}
+use Rattle.cha_board.specs.Men.{other_color, same_color, same_kind, is_man, is_non_king}
+use Rattle.cha_board.specs.Squares.{files_apart, ranks_apart, steps_apart, is_line, aims_at, between}
 use Rattle.cha_board.specs.Board.{Board, IsValid, man_at, is_clear, attacks_as, attacked, king_of, in_check, has_non_king}
 use Rattle.cha_board.proofs.Scans.{any_square_at, no_square}
 use Rattle.cha_board.proofs.Sightings.{way, between_is_way, attacked_from, attacked_by_none}
 use Rattle.cha_board.proofs.Kings.{some_king}
 use Rattle.cha_moves.specs.Step.{Move}
-use Rattle.cha_moves.specs.Moves.{arriving, rook_of, after, legal, men_after, is_pseudo_legal, is_legal_in}
-use Rattle.cha_moves.specs.Ends.{IsMated, IsMatingLine, IsUnwinnable}
-use Rattle.cha_moves.proofs.Identity.{same_color_equal, same_color_self, same_kind_equal, other_other, some_inj, ManOf, man_of, is_man_from}
+use Rattle.cha_moves.specs.Moves.{after, men_after, is_pseudo_legal, is_legal_in}
+use Rattle.cha_moves.specs.Ends.{IsMated, IsUnwinnable}
+use Rattle.cha_moves.proofs.Identity.{same_color_equal, same_color_self, same_kind_equal, other_other, some_inj, man_of, is_man_from}
 use Rattle.cha_moves.proofs.Made.{may_gives, Step}
-use Rattle.cha_moves.proofs.Kept.{Becomes, arrived_is, Castling, king_place}
+use Rattle.cha_moves.proofs.Kept.{arrived_is, king_place}
 use Rattle.cha_moves.proofs.Validity.{Stands, Arrived, Rooked, Stayed, stands, after_is_valid}
-use Rattle.cha_moves.proofs.Listed.{IsListed, is_listed}
+use Rattle.cha_moves.proofs.Listed.{is_listed}
 
 pub non_king_at : (men : List (Option Man)) (c : Color) (s : ℕ) → s < 64 → is_non_king c (man_at men s) ≡ true → has_non_king men c ≡ true
 unfolding has_non_king

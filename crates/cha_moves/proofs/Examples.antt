@@ -1,12 +1,10 @@
 -- Known positions, computed: the definitions give what the Laws of Chess and published counts say.
-use Rattle.std.proofs.Common.{◌≡◌, ℕ, Bool, true, false, List, [], ◌∷◌, length, Option, Some, None, refl}
-use Rattle.cha_board.specs.declared.men.Color.{Color}
+use Rattle.std.proofs.Common.{◌≡◌, true, false, [], ◌∷◌, length, Option, Some, None, refl}
 use Rattle.cha_board.specs.declared.men.Color.TheVariants.{White, Black}
 use Rattle.cha_board.specs.declared.men.Kind.TheVariants.{Pawn, Knight, Bishop, Rook, Queen, King}
 use Rattle.cha_board.specs.declared.men.Man.{Man}
 use Rattle.cha_board.specs.Squares.{squares, files_apart, ranks_apart, steps_apart, is_straight, is_diagonal, is_line, is_rank_ahead, aims_at, is_within, lies_between, between}
 use Rattle.cha_board.specs.Board.{Board, man_at, is_clear, attacks_as, attacked, king_of, in_check}
-use Rattle.cha_moves.specs.Step.{Move}
 use Rattle.cha_moves.specs.Moves.{is_step, is_double_step, is_pawn_capture, is_en_passant, is_short_castling, is_long_castling, goes, promotes_well, is_pseudo_legal_as, men_after, rights_after, target_after, after, is_legal_in, moves_from, all_moves, legal}
 use Rattle.cha_moves.specs.Ends.{IsMated, IsStalemated}
 use Rattle.cha_moves.specs.Texts.{square_text, promotion_text, move_bytes}
@@ -54,14 +52,14 @@ bK = Some (record { color = Black; kind = King })
 abbrev opening : Board
 opening = record {
   men =
-    wR ∷ wN ∷ wB ∷ wQ ∷ wK ∷ wB ∷ wN ∷ wR ∷
-    wP ∷ wP ∷ wP ∷ wP ∷ wP ∷ wP ∷ wP ∷ wP ∷
-    __ ∷ __ ∷ __ ∷ __ ∷ __ ∷ __ ∷ __ ∷ __ ∷
-    __ ∷ __ ∷ __ ∷ __ ∷ __ ∷ __ ∷ __ ∷ __ ∷
-    __ ∷ __ ∷ __ ∷ __ ∷ __ ∷ __ ∷ __ ∷ __ ∷
-    __ ∷ __ ∷ __ ∷ __ ∷ __ ∷ __ ∷ __ ∷ __ ∷
-    bP ∷ bP ∷ bP ∷ bP ∷ bP ∷ bP ∷ bP ∷ bP ∷
-    bR ∷ bN ∷ bB ∷ bQ ∷ bK ∷ bB ∷ bN ∷ bR ∷ [];
+      wR ∷ wN ∷ wB ∷ wQ ∷ wK ∷ wB ∷ wN ∷ wR ∷
+      wP ∷ wP ∷ wP ∷ wP ∷ wP ∷ wP ∷ wP ∷ wP ∷
+      __ ∷ __ ∷ __ ∷ __ ∷ __ ∷ __ ∷ __ ∷ __ ∷
+      __ ∷ __ ∷ __ ∷ __ ∷ __ ∷ __ ∷ __ ∷ __ ∷
+      __ ∷ __ ∷ __ ∷ __ ∷ __ ∷ __ ∷ __ ∷ __ ∷
+      __ ∷ __ ∷ __ ∷ __ ∷ __ ∷ __ ∷ __ ∷ __ ∷
+      bP ∷ bP ∷ bP ∷ bP ∷ bP ∷ bP ∷ bP ∷ bP ∷
+      bR ∷ bN ∷ bB ∷ bQ ∷ bK ∷ bB ∷ bN ∷ bR ∷ [];
   side = White;
   rights = record { white_king = true; white_queen = true; black_king = true; black_queen = true };
   target = None;
@@ -75,14 +73,14 @@ twenty_moves = refl
 abbrev kiwipete : Board
 kiwipete = record {
   men =
-    wR ∷ __ ∷ __ ∷ __ ∷ wK ∷ __ ∷ __ ∷ wR ∷
-    wP ∷ wP ∷ wP ∷ wB ∷ wB ∷ wP ∷ wP ∷ wP ∷
-    __ ∷ __ ∷ wN ∷ __ ∷ __ ∷ wQ ∷ __ ∷ bP ∷
-    __ ∷ bP ∷ __ ∷ __ ∷ wP ∷ __ ∷ __ ∷ __ ∷
-    __ ∷ __ ∷ __ ∷ wP ∷ wN ∷ __ ∷ __ ∷ __ ∷
-    bB ∷ bN ∷ __ ∷ __ ∷ bP ∷ bN ∷ bP ∷ __ ∷
-    bP ∷ __ ∷ bP ∷ bP ∷ bQ ∷ bP ∷ bB ∷ __ ∷
-    bR ∷ __ ∷ __ ∷ __ ∷ bK ∷ __ ∷ __ ∷ bR ∷ [];
+      wR ∷ __ ∷ __ ∷ __ ∷ wK ∷ __ ∷ __ ∷ wR ∷
+      wP ∷ wP ∷ wP ∷ wB ∷ wB ∷ wP ∷ wP ∷ wP ∷
+      __ ∷ __ ∷ wN ∷ __ ∷ __ ∷ wQ ∷ __ ∷ bP ∷
+      __ ∷ bP ∷ __ ∷ __ ∷ wP ∷ __ ∷ __ ∷ __ ∷
+      __ ∷ __ ∷ __ ∷ wP ∷ wN ∷ __ ∷ __ ∷ __ ∷
+      bB ∷ bN ∷ __ ∷ __ ∷ bP ∷ bN ∷ bP ∷ __ ∷
+      bP ∷ __ ∷ bP ∷ bP ∷ bQ ∷ bP ∷ bB ∷ __ ∷
+      bR ∷ __ ∷ __ ∷ __ ∷ bK ∷ __ ∷ __ ∷ bR ∷ [];
   side = White;
   rights = record { white_king = true; white_queen = true; black_king = true; black_queen = true };
   target = None;
@@ -96,14 +94,14 @@ forty_eight_moves = refl
 abbrev fools_mate : Board
 fools_mate = record {
   men =
-    wR ∷ wN ∷ wB ∷ wQ ∷ wK ∷ wB ∷ wN ∷ wR ∷
-    wP ∷ wP ∷ wP ∷ wP ∷ wP ∷ __ ∷ __ ∷ wP ∷
-    __ ∷ __ ∷ __ ∷ __ ∷ __ ∷ wP ∷ __ ∷ __ ∷
-    __ ∷ __ ∷ __ ∷ __ ∷ __ ∷ __ ∷ wP ∷ bQ ∷
-    __ ∷ __ ∷ __ ∷ __ ∷ bP ∷ __ ∷ __ ∷ __ ∷
-    __ ∷ __ ∷ __ ∷ __ ∷ __ ∷ __ ∷ __ ∷ __ ∷
-    bP ∷ bP ∷ bP ∷ bP ∷ __ ∷ bP ∷ bP ∷ bP ∷
-    bR ∷ bN ∷ bB ∷ __ ∷ bK ∷ bB ∷ bN ∷ bR ∷ [];
+      wR ∷ wN ∷ wB ∷ wQ ∷ wK ∷ wB ∷ wN ∷ wR ∷
+      wP ∷ wP ∷ wP ∷ wP ∷ wP ∷ __ ∷ __ ∷ wP ∷
+      __ ∷ __ ∷ __ ∷ __ ∷ __ ∷ wP ∷ __ ∷ __ ∷
+      __ ∷ __ ∷ __ ∷ __ ∷ __ ∷ __ ∷ wP ∷ bQ ∷
+      __ ∷ __ ∷ __ ∷ __ ∷ bP ∷ __ ∷ __ ∷ __ ∷
+      __ ∷ __ ∷ __ ∷ __ ∷ __ ∷ __ ∷ __ ∷ __ ∷
+      bP ∷ bP ∷ bP ∷ bP ∷ __ ∷ bP ∷ bP ∷ bP ∷
+      bR ∷ bN ∷ bB ∷ __ ∷ bK ∷ bB ∷ bN ∷ bR ∷ [];
   side = White;
   rights = record { white_king = true; white_queen = true; black_king = true; black_queen = true };
   target = None;
@@ -117,14 +115,14 @@ fools_mate_mates = record { to_move = refl; check = refl; stuck = refl }
 abbrev cornered : Board
 cornered = record {
   men =
-    __ ∷ __ ∷ __ ∷ __ ∷ __ ∷ __ ∷ __ ∷ __ ∷
-    __ ∷ __ ∷ __ ∷ __ ∷ __ ∷ __ ∷ __ ∷ __ ∷
-    __ ∷ __ ∷ __ ∷ __ ∷ __ ∷ __ ∷ __ ∷ __ ∷
-    __ ∷ __ ∷ __ ∷ __ ∷ __ ∷ __ ∷ __ ∷ __ ∷
-    __ ∷ __ ∷ __ ∷ __ ∷ __ ∷ __ ∷ __ ∷ __ ∷
-    __ ∷ __ ∷ __ ∷ __ ∷ __ ∷ __ ∷ wK ∷ __ ∷
-    __ ∷ __ ∷ __ ∷ __ ∷ __ ∷ wQ ∷ __ ∷ __ ∷
-    __ ∷ __ ∷ __ ∷ __ ∷ __ ∷ __ ∷ __ ∷ bK ∷ [];
+      __ ∷ __ ∷ __ ∷ __ ∷ __ ∷ __ ∷ __ ∷ __ ∷
+      __ ∷ __ ∷ __ ∷ __ ∷ __ ∷ __ ∷ __ ∷ __ ∷
+      __ ∷ __ ∷ __ ∷ __ ∷ __ ∷ __ ∷ __ ∷ __ ∷
+      __ ∷ __ ∷ __ ∷ __ ∷ __ ∷ __ ∷ __ ∷ __ ∷
+      __ ∷ __ ∷ __ ∷ __ ∷ __ ∷ __ ∷ __ ∷ __ ∷
+      __ ∷ __ ∷ __ ∷ __ ∷ __ ∷ __ ∷ wK ∷ __ ∷
+      __ ∷ __ ∷ __ ∷ __ ∷ __ ∷ wQ ∷ __ ∷ __ ∷
+      __ ∷ __ ∷ __ ∷ __ ∷ __ ∷ __ ∷ __ ∷ bK ∷ [];
   side = Black;
   rights = record { white_king = false; white_queen = false; black_king = false; black_queen = false };
   target = None;
@@ -138,14 +136,14 @@ cornered_is_stalemated = record { free = refl; stuck = refl }
 abbrev guarded_way : Board
 guarded_way = record {
   men =
-    wR ∷ __ ∷ __ ∷ __ ∷ wK ∷ __ ∷ __ ∷ wR ∷
-    __ ∷ __ ∷ __ ∷ __ ∷ __ ∷ __ ∷ __ ∷ __ ∷
-    __ ∷ __ ∷ __ ∷ __ ∷ __ ∷ __ ∷ __ ∷ __ ∷
-    __ ∷ __ ∷ __ ∷ __ ∷ __ ∷ __ ∷ __ ∷ __ ∷
-    __ ∷ __ ∷ __ ∷ __ ∷ __ ∷ __ ∷ __ ∷ __ ∷
-    __ ∷ __ ∷ __ ∷ __ ∷ __ ∷ __ ∷ __ ∷ __ ∷
-    __ ∷ __ ∷ __ ∷ __ ∷ __ ∷ __ ∷ __ ∷ __ ∷
-    __ ∷ bR ∷ __ ∷ __ ∷ bK ∷ bR ∷ __ ∷ __ ∷ [];
+      wR ∷ __ ∷ __ ∷ __ ∷ wK ∷ __ ∷ __ ∷ wR ∷
+      __ ∷ __ ∷ __ ∷ __ ∷ __ ∷ __ ∷ __ ∷ __ ∷
+      __ ∷ __ ∷ __ ∷ __ ∷ __ ∷ __ ∷ __ ∷ __ ∷
+      __ ∷ __ ∷ __ ∷ __ ∷ __ ∷ __ ∷ __ ∷ __ ∷
+      __ ∷ __ ∷ __ ∷ __ ∷ __ ∷ __ ∷ __ ∷ __ ∷
+      __ ∷ __ ∷ __ ∷ __ ∷ __ ∷ __ ∷ __ ∷ __ ∷
+      __ ∷ __ ∷ __ ∷ __ ∷ __ ∷ __ ∷ __ ∷ __ ∷
+      __ ∷ bR ∷ __ ∷ __ ∷ bK ∷ bR ∷ __ ∷ __ ∷ [];
   side = White;
   rights = record { white_king = true; white_queen = true; black_king = false; black_queen = false };
   target = None;
@@ -165,14 +163,14 @@ castling_past_an_attacked_rook_way = refl
 abbrev pinned : Board
 pinned = record {
   men =
-    __ ∷ __ ∷ __ ∷ __ ∷ bK ∷ __ ∷ __ ∷ __ ∷
-    __ ∷ __ ∷ __ ∷ __ ∷ __ ∷ __ ∷ __ ∷ __ ∷
-    __ ∷ __ ∷ __ ∷ __ ∷ __ ∷ __ ∷ __ ∷ __ ∷
-    __ ∷ __ ∷ __ ∷ __ ∷ __ ∷ __ ∷ __ ∷ __ ∷
-    wK ∷ __ ∷ __ ∷ bP ∷ wP ∷ __ ∷ __ ∷ bR ∷
-    __ ∷ __ ∷ __ ∷ __ ∷ __ ∷ __ ∷ __ ∷ __ ∷
-    __ ∷ __ ∷ __ ∷ __ ∷ __ ∷ __ ∷ __ ∷ __ ∷
-    __ ∷ __ ∷ __ ∷ __ ∷ __ ∷ __ ∷ __ ∷ __ ∷ [];
+      __ ∷ __ ∷ __ ∷ __ ∷ bK ∷ __ ∷ __ ∷ __ ∷
+      __ ∷ __ ∷ __ ∷ __ ∷ __ ∷ __ ∷ __ ∷ __ ∷
+      __ ∷ __ ∷ __ ∷ __ ∷ __ ∷ __ ∷ __ ∷ __ ∷
+      __ ∷ __ ∷ __ ∷ __ ∷ __ ∷ __ ∷ __ ∷ __ ∷
+      wK ∷ __ ∷ __ ∷ bP ∷ wP ∷ __ ∷ __ ∷ bR ∷
+      __ ∷ __ ∷ __ ∷ __ ∷ __ ∷ __ ∷ __ ∷ __ ∷
+      __ ∷ __ ∷ __ ∷ __ ∷ __ ∷ __ ∷ __ ∷ __ ∷
+      __ ∷ __ ∷ __ ∷ __ ∷ __ ∷ __ ∷ __ ∷ __ ∷ [];
   side = White;
   rights = record { white_king = false; white_queen = false; black_king = false; black_queen = false };
   target = Some 43;
@@ -186,14 +184,14 @@ no_capture_that_opens_the_king = refl
 abbrev unpinned : Board
 unpinned = record {
   men =
-    __ ∷ __ ∷ __ ∷ __ ∷ bK ∷ __ ∷ __ ∷ __ ∷
-    __ ∷ __ ∷ __ ∷ __ ∷ __ ∷ __ ∷ __ ∷ __ ∷
-    __ ∷ __ ∷ __ ∷ __ ∷ __ ∷ __ ∷ __ ∷ __ ∷
-    __ ∷ __ ∷ __ ∷ __ ∷ __ ∷ __ ∷ __ ∷ __ ∷
-    wK ∷ __ ∷ __ ∷ bP ∷ wP ∷ __ ∷ __ ∷ __ ∷
-    __ ∷ __ ∷ __ ∷ __ ∷ __ ∷ __ ∷ __ ∷ __ ∷
-    __ ∷ __ ∷ __ ∷ __ ∷ __ ∷ __ ∷ __ ∷ __ ∷
-    __ ∷ __ ∷ __ ∷ __ ∷ __ ∷ __ ∷ __ ∷ bR ∷ [];
+      __ ∷ __ ∷ __ ∷ __ ∷ bK ∷ __ ∷ __ ∷ __ ∷
+      __ ∷ __ ∷ __ ∷ __ ∷ __ ∷ __ ∷ __ ∷ __ ∷
+      __ ∷ __ ∷ __ ∷ __ ∷ __ ∷ __ ∷ __ ∷ __ ∷
+      __ ∷ __ ∷ __ ∷ __ ∷ __ ∷ __ ∷ __ ∷ __ ∷
+      wK ∷ __ ∷ __ ∷ bP ∷ wP ∷ __ ∷ __ ∷ __ ∷
+      __ ∷ __ ∷ __ ∷ __ ∷ __ ∷ __ ∷ __ ∷ __ ∷
+      __ ∷ __ ∷ __ ∷ __ ∷ __ ∷ __ ∷ __ ∷ __ ∷
+      __ ∷ __ ∷ __ ∷ __ ∷ __ ∷ __ ∷ __ ∷ bR ∷ [];
   side = White;
   rights = record { white_king = false; white_queen = false; black_king = false; black_queen = false };
   target = Some 43;
@@ -212,14 +210,14 @@ captured_pawn_leaves = refl
 abbrev last_step : Board
 last_step = record {
   men =
-    __ ∷ __ ∷ __ ∷ __ ∷ wK ∷ __ ∷ __ ∷ __ ∷
-    __ ∷ __ ∷ __ ∷ __ ∷ __ ∷ __ ∷ __ ∷ __ ∷
-    __ ∷ __ ∷ __ ∷ __ ∷ __ ∷ __ ∷ __ ∷ __ ∷
-    __ ∷ __ ∷ __ ∷ __ ∷ __ ∷ __ ∷ __ ∷ __ ∷
-    __ ∷ __ ∷ __ ∷ __ ∷ __ ∷ __ ∷ __ ∷ __ ∷
-    __ ∷ __ ∷ __ ∷ __ ∷ __ ∷ __ ∷ __ ∷ __ ∷
-    wP ∷ __ ∷ __ ∷ __ ∷ __ ∷ __ ∷ __ ∷ __ ∷
-    __ ∷ __ ∷ __ ∷ __ ∷ bK ∷ __ ∷ __ ∷ __ ∷ [];
+      __ ∷ __ ∷ __ ∷ __ ∷ wK ∷ __ ∷ __ ∷ __ ∷
+      __ ∷ __ ∷ __ ∷ __ ∷ __ ∷ __ ∷ __ ∷ __ ∷
+      __ ∷ __ ∷ __ ∷ __ ∷ __ ∷ __ ∷ __ ∷ __ ∷
+      __ ∷ __ ∷ __ ∷ __ ∷ __ ∷ __ ∷ __ ∷ __ ∷
+      __ ∷ __ ∷ __ ∷ __ ∷ __ ∷ __ ∷ __ ∷ __ ∷
+      __ ∷ __ ∷ __ ∷ __ ∷ __ ∷ __ ∷ __ ∷ __ ∷
+      wP ∷ __ ∷ __ ∷ __ ∷ __ ∷ __ ∷ __ ∷ __ ∷
+      __ ∷ __ ∷ __ ∷ __ ∷ bK ∷ __ ∷ __ ∷ __ ∷ [];
   side = White;
   rights = record { white_king = false; white_queen = false; black_king = false; black_queen = false };
   target = None;
@@ -246,14 +244,14 @@ double_step_sets_the_target = refl
 abbrev rooks : Board
 rooks = record {
   men =
-    wR ∷ __ ∷ __ ∷ __ ∷ wK ∷ __ ∷ __ ∷ wR ∷
-    __ ∷ __ ∷ __ ∷ __ ∷ __ ∷ __ ∷ __ ∷ __ ∷
-    __ ∷ __ ∷ __ ∷ __ ∷ __ ∷ __ ∷ __ ∷ __ ∷
-    __ ∷ __ ∷ __ ∷ __ ∷ __ ∷ __ ∷ __ ∷ __ ∷
-    __ ∷ __ ∷ __ ∷ __ ∷ __ ∷ __ ∷ __ ∷ __ ∷
-    __ ∷ __ ∷ __ ∷ __ ∷ __ ∷ __ ∷ __ ∷ __ ∷
-    __ ∷ __ ∷ __ ∷ __ ∷ __ ∷ __ ∷ __ ∷ __ ∷
-    bR ∷ __ ∷ __ ∷ __ ∷ bK ∷ __ ∷ __ ∷ bR ∷ [];
+      wR ∷ __ ∷ __ ∷ __ ∷ wK ∷ __ ∷ __ ∷ wR ∷
+      __ ∷ __ ∷ __ ∷ __ ∷ __ ∷ __ ∷ __ ∷ __ ∷
+      __ ∷ __ ∷ __ ∷ __ ∷ __ ∷ __ ∷ __ ∷ __ ∷
+      __ ∷ __ ∷ __ ∷ __ ∷ __ ∷ __ ∷ __ ∷ __ ∷
+      __ ∷ __ ∷ __ ∷ __ ∷ __ ∷ __ ∷ __ ∷ __ ∷
+      __ ∷ __ ∷ __ ∷ __ ∷ __ ∷ __ ∷ __ ∷ __ ∷
+      __ ∷ __ ∷ __ ∷ __ ∷ __ ∷ __ ∷ __ ∷ __ ∷
+      bR ∷ __ ∷ __ ∷ __ ∷ bK ∷ __ ∷ __ ∷ bR ∷ [];
   side = White;
   rights = record { white_king = true; white_queen = true; black_king = true; black_queen = true };
   target = None;

@@ -1,5 +1,5 @@
 -- What the man that moves becomes, the squares of a castling and of a capture en passant, and that each side keeps its king.
-use Rattle.std.proofs.Common.{◌≡◌, ◌≢◌, ℕ, ◌+◌, ◌-◌, ◌<◌, ◌≤◌, ◌==◌, Bool, true, false, not, ◌&&◌, ◌||◌, cond, List, length, Option, Some, None, is_none, slice_set, ◌⊎◌, inl, inr, refl, sym, ◌∙◌, ap, subst, arith}
+use Rattle.std.proofs.Common.{◌≡◌, ◌≢◌, ℕ, ◌+◌, ◌-◌, ◌<◌, ◌≤◌, ◌==◌, Bool, true, false, not, ◌&&◌, cond, List, length, Option, Some, None, is_none, slice_set, ◌⊎◌, inl, inr, refl, sym, ◌∙◌, ap, arith}
 use Rattle.std.specs.List.{count_by}
 use Rattle.std.proofs.lemmas.Bool.{and_parts, both_ways, eqb-true, eq-eqb, not-true, cases_eq, false_from_ne_true}
 use Rattle.std.proofs.lemmas.List.{length-set}
@@ -9,14 +9,14 @@ use Rattle.cha_board.specs.declared.men.Color.TheVariants.{White, Black}
 use Rattle.cha_board.specs.declared.men.Kind.{Kind}
 use Rattle.cha_board.specs.declared.men.Kind.TheVariants.{Pawn, Knight, Bishop, Rook, Queen, King}
 use Rattle.cha_board.specs.declared.men.Man.{Man}
-use Rattle.cha_board.specs.Men.{other_color, same_color, same_kind, is_vacant, is_man}
+use Rattle.cha_board.specs.Men.{other_color, same_color, same_kind, is_man}
 use Rattle.cha_board.specs.Squares.{rank_of}
 use Rattle.cha_board.specs.Board.{Board, IsValid, man_at, is_empty, home_of, king_of, has_one_king, has_short_right, has_long_right, rights_fit, are_at_home, target_fits, target_is_good}
 use Rattle.cha_board.proofs.Kings.{king_is}
 use Rattle.cha_moves.specs.Step.{Move}
 use Rattle.cha_moves.specs.Moves.{last_rank, is_promotion, promotes_well, may_enter, arriving, is_target, is_en_passant, victim_of, is_short_castling, is_long_castling, moved, castles_short, castles_long, captures_en_passant, rook_of, men_after}
-use Rattle.cha_moves.proofs.Identity.{same_color_equal, same_kind_equal, side_other, one_color, two_kinds, one_kind, empty_no_man, empty_is_none, none_some, some_inj, on_board, ManOf, man_of, is_man_from, five_of_eight, six_of_nine, all_four, if_at}
-use Rattle.cha_moves.proofs.Made.{Mover, Step, put, put_other, length-moved, moved_to, moved_from, moved_other, men_moved, Makes, Plainly, Passing, Shortly, Longly, makes}
+use Rattle.cha_moves.proofs.Identity.{same_color_equal, same_kind_equal, side_other, two_kinds, one_kind, empty_no_man, empty_is_none, none_some, some_inj, on_board, man_of, five_of_eight, six_of_nine, all_four, if_at}
+use Rattle.cha_moves.proofs.Made.{Mover, Step, put_other, length-moved, moved_other, men_moved, Plainly, Passing, Shortly, Longly, makes}
 
 -- the mover's own man bars a square
 own_bars : (c : Color) (o : Option Man) (man : Man) → o ≡ Some man → same_color man.color c ≡ true → may_enter c o ≡ true → ⊥

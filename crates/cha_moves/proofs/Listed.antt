@@ -1,5 +1,5 @@
 -- Which moves are in the list of legal moves.
-use Rattle.std.proofs.Common.{◌≡◌, ℕ, ◌<◌, Bool, true, false, not, ◌&&◌, List, [], ◌∷◌, ◌++◌, append-nil, Option, Some, None, ◌⊎◌, ◌↔◌, IsTrue, inl, inr, refl, sym, ◌∙◌, ap, arith}
+use Rattle.std.proofs.Common.{◌≡◌, ℕ, ◌<◌, Bool, true, false, not, List, [], ◌∷◌, ◌++◌, append-nil, Option, Some, None, ◌⊎◌, ◌↔◌, IsTrue, inl, inr, refl, sym, ◌∙◌, ap, arith}
 use Rattle.std.specs.List.{Contains, filter}
 use Rattle.std.proofs.lemmas.Bool.{and_parts, and_from, and_left, false_from_ne_true, both_ways}
 use Rattle.std.proofs.lemmas.List.Elements.{All-contains, All-map}

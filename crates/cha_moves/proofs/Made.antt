@@ -1,17 +1,12 @@
 -- What a move does to the men: which man stands where afterwards.
-use Rattle.std.proofs.Common.{◌≡◌, ◌≢◌, ℕ, ◌+◌, ◌-◌, ◌<◌, ◌≤◌, Bool, true, false, not, ◌&&◌, ◌||◌, cond, List, length, Option, Some, None, slice_set, refl, sym, ◌∙◌, ap, arith, get_or-set_other, get_or-set_same}
-use Rattle.std.proofs.lemmas.Bool.{and_parts, both_ways, cases_eq}
+use Rattle.std.proofs.Common.{◌≡◌, ◌≢◌, ℕ, ◌+◌, ◌-◌, ◌<◌, Bool, true, false, cond, List, length, Option, Some, None, slice_set, refl, ◌∙◌, get_or-set_other, get_or-set_same}
 use Rattle.std.proofs.lemmas.List.{length-set}
-use Rattle.cha_board.specs.declared.men.Color.{Color}
-use Rattle.cha_board.specs.declared.men.Color.TheVariants.{White, Black}
-use Rattle.cha_board.specs.declared.men.Kind.{Kind}
-use Rattle.cha_board.specs.declared.men.Kind.TheVariants.{Pawn, Knight, Bishop, Rook, Queen, King}
 use Rattle.cha_board.specs.declared.men.Man.{Man}
-use Rattle.cha_board.specs.Men.{other_color, same_color, same_kind, is_vacant, is_man}
-use Rattle.cha_board.specs.Board.{Board, IsValid, man_at, is_empty, home_of}
+use Rattle.cha_board.specs.Men.{same_color}
+use Rattle.cha_board.specs.Board.{Board, IsValid, man_at, home_of}
 use Rattle.cha_moves.specs.Step.{Move}
 use Rattle.cha_moves.specs.Moves.{goes, promotes_well, may_enter, is_pseudo_legal, is_pseudo_legal_as, arriving, victim_of, moved, castles_short, castles_long, captures_en_passant, rook_of, men_after}
-use Rattle.cha_moves.proofs.Identity.{all_four, none_some}
+use Rattle.cha_moves.proofs.Identity.{all_four}
 
 -- what is known of the man that may make a move
 pub record Mover (q : Board) (m : Move) (man : Man) : Type 0 where

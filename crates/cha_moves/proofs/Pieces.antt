@@ -1,6 +1,6 @@
 -- Filters of lists that are joined of pieces, one for each square.
-use Rattle.std.proofs.Common.{◌≡◌, ◌≢◌, ℕ, zero, suc, ◌+◌, ◌<◌, Bool, true, false, cond, List, [], ◌∷◌, ◌++◌, length, get_or, map, ◌⊎◌, inl, inr, refl, sym, ◌∙◌, ap, subst, arith, append_assoc}
-use Rattle.std.specs.List.{All, Contains, filter, flat_map, range_with_len}
+use Rattle.std.proofs.Common.{◌≡◌, ◌≢◌, ℕ, zero, suc, ◌+◌, ◌<◌, Bool, true, false, cond, List, [], ◌∷◌, ◌++◌, ◌⊎◌, inl, inr, refl, sym, ◌∙◌, ap, subst, arith, append_assoc}
+use Rattle.std.specs.List.{Contains, filter, flat_map, range_with_len}
 use Rattle.std.proofs.lemmas.List.{flat_map_more}
 use Rattle.std.proofs.lemmas.List.Elements.{All-contains, All-filter, All-contains_itself, filter-append, filter_passes, Contains-append_cases, Contains-append_left, Contains-append_right, Contains-push, Contains-push_cases}
 use Rattle.cha_board.specs.Squares.{squares}

@@ -1,11 +1,10 @@
 -- The position after a legal move is valid.
-use Rattle.std.proofs.Common.{◌≡◌, ◌≢◌, ℕ, ◌+◌, ◌-◌, ◌*◌, ◌/◌, ◌%◌, ◌<◌, ◌≤◌, ◌==◌, Bool, true, false, not, ◌&&◌, ◌||◌, List, length, Option, Some, None, slice_set, ◌⊎◌, inl, inr, refl, sym, ◌∙◌, ap, subst, arith}
+use Rattle.std.proofs.Common.{◌≡◌, ◌≢◌, ℕ, ◌+◌, ◌-◌, ◌%◌, ◌<◌, ◌==◌, true, false, not, ◌&&◌, ◌||◌, List, length, Option, Some, None, slice_set, ◌⊎◌, inl, inr, refl, sym, ◌∙◌, ap, subst, arith}
 use Rattle.std.proofs.lemmas.Bool.{and_parts, and_from, or_cases, or_parts, both_ways, eqb-true, eqb-false, eq-eqb, not-true, ne_eqb, cases_eq, cases_Bool, false_from_ne_true, or_left, or_right}
-use Rattle.std.specs.Int.{abs_diff}
 use Rattle.cha_board.specs.declared.men.Color.{Color}
 use Rattle.cha_board.specs.declared.men.Color.TheVariants.{White, Black}
 use Rattle.cha_board.specs.declared.men.Kind.{Kind}
-use Rattle.cha_board.specs.declared.men.Kind.TheVariants.{Pawn, Knight, Bishop, Rook, Queen, King}
+use Rattle.cha_board.specs.declared.men.Kind.TheVariants.{Pawn, Rook, King}
 use Rattle.cha_board.specs.declared.men.Man.{Man}
 use Rattle.cha_board.specs.declared.position.Rights.{Rights}
 use Rattle.cha_board.specs.Men.{other_color, same_color, same_kind, is_vacant, is_man, is_pawn}
@@ -13,10 +12,10 @@ use Rattle.cha_board.specs.Squares.{rank_of, files_apart, is_rank_ahead, aims_at
 use Rattle.cha_board.specs.Board.{Board, IsValid, man_at, is_empty, home_of, in_check, is_pawn_at_end, has_pawn_at_end, has_short_right, has_long_right, rights_fit, are_at_home, target_fits, target_is_good}
 use Rattle.cha_board.proofs.Builds.{pawn_at, pawn_nowhere}
 use Rattle.cha_moves.specs.Step.{Move}
-use Rattle.cha_moves.specs.Moves.{second_rank, fourth_rank, last_rank, middle, is_step, is_double_step, is_pawn_capture, is_en_passant, is_short_castling, is_long_castling, goes, is_promotion, is_target, arriving, victim_of, moved, captures_en_passant, rook_of, men_after, touches, rights_after, target_after, after, is_pseudo_legal, is_legal_in}
-use Rattle.cha_moves.proofs.Identity.{all_five, same_color_equal, same_kind_equal, same_kind_self, other_other, two_kinds, one_kind, none_some, some_inj, ManOf, man_of, is_man_from, pawn_of, if_from}
-use Rattle.cha_moves.proofs.Made.{Mover, may_gives, Step, put, put_other, length-moved, moved_to, moved_from, moved_other, men_moved, Makes, Plainly, Passing, Shortly, Longly, makes}
-use Rattle.cha_moves.proofs.Kept.{from_to, Becomes, promoted, arrived_is, Victim, victim_of_move, short_homes, long_homes, Castling, short_castling, long_castling, length_after, kings_kept}
+use Rattle.cha_moves.specs.Moves.{second_rank, fourth_rank, last_rank, middle, is_step, is_double_step, is_pawn_capture, is_en_passant, is_short_castling, is_long_castling, goes, is_promotion, is_target, arriving, victim_of, moved, rook_of, men_after, touches, rights_after, target_after, after, is_pseudo_legal, is_legal_in}
+use Rattle.cha_moves.proofs.Identity.{all_five, same_color_equal, same_kind_equal, other_other, one_kind, none_some, some_inj, man_of, is_man_from, pawn_of, if_from}
+use Rattle.cha_moves.proofs.Made.{may_gives, Step, put, put_other, length-moved, moved_to, moved_from, moved_other, men_moved, Plainly, Passing, Shortly, Longly, makes}
+use Rattle.cha_moves.proofs.Kept.{from_to, promoted, arrived_is, Victim, victim_of_move, short_homes, long_homes, Castling, short_castling, long_castling, length_after, kings_kept}
 
 -- the man that stands on u after a move: the one that moved, the rook of a castling, or one that stayed
 pub data Stands (q : Board) (m : Move) (man : Man) (u : ℕ) (new : Man) : Type 0 where

@@ -11,6 +11,8 @@ mod list;
 mod lone;
 mod makes;
 mod step;
+#[cfg(test)]
+mod tests;
 mod text;
 
 pub use ends::{Standing, state};

@@ -27,6 +27,7 @@ fn men_kept(position: &Position, m: Move) -> [Option<Man>; 64]
     ensures kings { (c : Side) → IsTrue (has_one_king result c) }
 {
     m.known();
+    // What is said of the men rests on the position being valid, of which `men` tells.
     let _valid = position.men();
     men_made(position, m)
 }
@@ -116,6 +117,7 @@ pub fn after(position: &Position, m: Move) -> Position
     requires { Contains (legal_moves position.now) m }
     ensures { result ≡ position_after position.now m }
 {
+    // The position is valid, of which `men` tells, and so is what a legal move leaves.
     let _valid = position.men();
     Position::of_parts(
         men_made(position, m),
@@ -125,6 +127,18 @@ pub fn after(position: &Position, m: Move) -> Position
     )
 }
 
+/// Whether the Laws allow a move from one square to another with this promotion.
+fn allows(position: &Position, from: Square, to: Square, promotion: Option<Kind>) -> bool
+    ensures { result ≡ is_legal_in position.now (record { from = from; to = to; promotion = promotion }) }
+{
+    let m = Move {
+        from,
+        to,
+        promotion,
+    };
+    is_allowed(position, m)
+}
+
 /// Whether some move between two squares is legal.
 #[tactic(auto, using(crate::proofs::Listed::none_between))]
 fn any_between(position: &Position, from: Square, to: Square) -> bool
@@ -132,42 +146,11 @@ fn any_between(position: &Position, from: Square, to: Square) -> bool
     ensures none { OnFalse result (filter (is_legal_in position.now) (moves_between from to) ≡ []) }
 {
     can_go(position, from, to)
-        && (is_allowed(
-            position,
-            Move {
-                from,
-                to,
-                promotion: None,
-            },
-        ) || is_allowed(
-            position,
-            Move {
-                from,
-                to,
-                promotion: Some(Kind::Queen),
-            },
-        ) || is_allowed(
-            position,
-            Move {
-                from,
-                to,
-                promotion: Some(Kind::Rook),
-            },
-        ) || is_allowed(
-            position,
-            Move {
-                from,
-                to,
-                promotion: Some(Kind::Bishop),
-            },
-        ) || is_allowed(
-            position,
-            Move {
-                from,
-                to,
-                promotion: Some(Kind::Knight),
-            },
-        ))
+        && (allows(position, from, to, None)
+            || allows(position, from, to, Some(Kind::Queen))
+            || allows(position, from, to, Some(Kind::Rook))
+            || allows(position, from, to, Some(Kind::Bishop))
+            || allows(position, from, to, Some(Kind::Knight)))
 }
 
 /// Whether some move from a square is legal.

@@ -1,8 +1,7 @@
 -- The texts that are printed for positions (this project).
-use Rattle.std.specs.Prelude.{ℕ, Bool, false, ◌&&◌, ◌||◌, if◌then◌else◌, List, [], ◌∷◌, ◌++◌, length, codes, decimal}
+use Rattle.std.specs.Prelude.{ℕ, Bool, false, ◌||◌, if◌then◌else◌, List, [], ◌∷◌, ◌++◌, length, codes, decimal}
 use Rattle.cha_board.specs.Board.{Board}
 use Rattle.cha_fen.specs.declared.faults.FenFault.{FenFault}
-use Rattle.cha_fen.specs.declared.faults.FenFault.TheVariants.{Shape, Kings, PawnRank, OpponentInCheck}
 use Rattle.cha_fen.specs.Written.{fen_text}
 use Rattle.cha_moves.specs.Step.{Move}
 use Rattle.cha_moves.specs.Texts.{move_bytes}
@@ -11,7 +10,8 @@ use Rattle.cha_moves.specs.declared.ends.Standing.TheVariants.{Mate, Stalemate, 
 use Rattle.flag_report.specs.Ends.{standing_of}
 use Rattle.flag_report.specs.declared.found.Verdict.{Verdict}
 use Rattle.flag_report.specs.declared.found.Verdict.TheVariants.{Winnable, Unwinnable, Undecided, Skipped}
-use Rattle.flag_report.specs.Verdicts.{is_winnable, is_unwinnable}
+use Rattle.flag_report.specs.Verdicts.{is_winnable, are_dead}
+use Rattle.flag_report.specs.Reasons.{fen_fault_text}
 
 -- a line
 abbrev pub line : List ℕ → List ℕ
@@ -37,10 +37,6 @@ verdict_text (Winnable moves) = winnable_text moves
 verdict_text Unwinnable = codes "unwinnable"
 verdict_text (Undecided depth) = count_text (codes "undecided, depth ") depth
 verdict_text Skipped = codes "skipped"
-
--- neither side can mate
-abbrev pub are_dead : Verdict → Verdict → Bool
-are_dead white black = is_unwinnable white && is_unwinnable black
 
 -- the state of a position that is not at its end
 unfoldable pub open_status_text : Verdict → Verdict → List ℕ
@@ -70,20 +66,13 @@ findings_text q white black =
     ++ line (codes "status: " ++ status_text (standing_of q) white black)
 
 -- the first line of the block of a position
-unfoldable pub position_heading : ℕ → List ℕ
-position_heading number = line (codes "position " ++ decimal number)
+abbrev pub position_heading : ℕ → List ℕ
+position_heading number = line (count_text (codes "position ") number)
 
 -- the block of a position
 unfoldable pub position_text : ℕ → Board → Verdict → Verdict → List ℕ
 position_text number q white black = position_heading number ++ findings_text q white black
 
--- the name of a fault of FEN
-unfoldable pub fault_text : FenFault → List ℕ
-fault_text Shape = codes "shape"
-fault_text Kings = codes "kings"
-fault_text PawnRank = codes "pawn rank"
-fault_text OpponentInCheck = codes "opponent in check"
-
 -- the block of a line that is no position
 unfoldable pub refused_text : ℕ → FenFault → List ℕ
-refused_text number fault = position_heading number ++ line (codes "refused: " ++ fault_text fault)
+refused_text number fault = position_heading number ++ line (codes "refused: " ++ fen_fault_text fault)

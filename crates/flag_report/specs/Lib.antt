@@ -1,4 +1,7 @@
 pub mod Ends
 pub mod Verdicts
+pub mod Rulings
+pub mod Reasons
 pub mod Blocks
+pub mod Games
 pub mod Totals

@@ -1,5 +1,5 @@
 -- Kinds of verdicts.
-use Rattle.std.specs.Prelude.{Bool, true, false}
+use Rattle.std.specs.Prelude.{Bool, true, false, ◌&&◌}
 use Rattle.flag_report.specs.declared.found.Verdict.{Verdict}
 use Rattle.flag_report.specs.declared.found.Verdict.TheVariants.{Winnable, Unwinnable, Undecided, Skipped}
 
@@ -22,3 +22,7 @@ is_undecided _ = false
 abbrev pub is_skipped : Verdict → Bool
 is_skipped Skipped = true
 is_skipped _ = false
+
+-- neither side can mate (Laws of Chess, Article 5.2.2)
+abbrev pub are_dead : Verdict → Verdict → Bool
+are_dead white black = is_unwinnable white && is_unwinnable black

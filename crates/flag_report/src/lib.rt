@@ -1,16 +1,24 @@
-//! What the program prints: verdicts, blocks and summaries.
+//! What the program prints: the results of games, verdicts, blocks and summaries.
 //!
-//! `found` has what is found about a side, `status` in what state a position is, `pieces` what all blocks share,
-//! `positions` the blocks of positions, `totals` the last line.
+//! `found` has the verdicts on a side, `rulings` the result of a game, `status` the state of a position, `reasons` why an
+//! item cannot be read, `pieces` what all blocks share, `games` and `positions` the blocks, and `totals` the last line.
 #![tactic(auto)]
 
 mod found;
+mod games;
 mod pieces;
 mod positions;
+mod reasons;
+mod rulings;
 mod status;
+#[cfg(test)]
+mod tests;
 mod totals;
 
 pub use found::{Verdict, is_undecided, is_unwinnable, is_winnable};
+pub use games::{game_block, unreadable_block};
 pub use positions::{position_block, refused_block};
-pub use status::{has_dead_state, is_dead};
-pub use totals::{Summary, position_summary};
+pub use reasons::Unreadable;
+pub use rulings::{Cause, Judgment, changes_result, first_examined, ruling};
+pub use status::{has_dead_state, standing};
+pub use totals::{Summary, game_summary, position_summary};

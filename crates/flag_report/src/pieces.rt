@@ -1,13 +1,13 @@
 //! The texts that the blocks of positions and of games share.
 
 ghost use Rattle.std.specs.Prelude.{◌≡◌, ◌++◌, OnOk, decimal, codes};
-ghost use Rattle.flag_report.specs.Blocks.{line, count_text, moves_text, winnable_text, verdict_text, findings_text, fault_text};
+ghost use Rattle.flag_report.specs.Blocks.{line, count_text, moves_text, winnable_text, verdict_text, findings_text};
 ghost use Rattle.cha_fen.specs.Written.{fen_text};
 
 use crate::found::Verdict;
 use crate::status::{put_status, standing};
 use cha_board::Position;
-use cha_fen::{FenFault, write};
+use cha_fen::write;
 use cha_list::{NoMemory, Text};
 use cha_moves::{Move, move_text};
 use std::alloc::Global;
@@ -18,6 +18,29 @@ pub fn put_number(alloc: Global, number: u64, text: &mut Text) -> Result<(), NoM
 {
     let digits = format!(in alloc; "{number}")?;
     text.append(digits.as_bytes())
+}
+
+/// Appends a count behind its label.
+pub fn put_count(alloc: Global, label: &[u8], count: u64, text: &mut Text) -> Result<(), NoMemory>
+    ensures { OnOk result (text.new ≡ text.old ++ count_text label.now count) }
+{
+    text.append(label)?;
+    put_number(alloc, count, text)?;
+    Ok(())
+}
+
+/// Appends a line with a count behind its label.
+pub fn put_count_line(
+    alloc: Global,
+    label: &[u8],
+    count: u64,
+    text: &mut Text,
+) -> Result<(), NoMemory>
+    ensures { OnOk result (text.new ≡ text.old ++ line (count_text label.now count)) }
+{
+    put_count(alloc, label, count, text)?;
+    text.append(b"\n")?;
+    Ok(())
 }
 
 /// Appends the texts of moves, each behind a space.
@@ -105,27 +128,5 @@ pub fn put_findings(
     text.append(b"status: ")?;
     put_status(standing(position), white, black, text)?;
     text.append(b"\n")?;
-    Ok(())
-}
-
-/// Appends the name of a fault of FEN.
-#[tactic(auto, unfolding(crate::specs::Blocks::fault_text))]
-pub fn put_fault(fault: FenFault, text: &mut Text) -> Result<(), NoMemory>
-    ensures { OnOk result (text.new ≡ text.old ++ fault_text fault) }
-{
-    match fault {
-        FenFault::Shape => text.append(b"shape"),
-        FenFault::Kings => text.append(b"kings"),
-        FenFault::PawnRank => text.append(b"pawn rank"),
-        FenFault::OpponentInCheck => text.append(b"opponent in check"),
-    }
-}
-
-/// Appends a count behind its label.
-pub fn put_count(alloc: Global, label: &[u8], count: u64, text: &mut Text) -> Result<(), NoMemory>
-    ensures { OnOk result (text.new ≡ text.old ++ (label.now ++ decimal count)) }
-{
-    text.append(label)?;
-    put_number(alloc, count, text)?;
     Ok(())
 }

@@ -1,15 +1,16 @@
-//! In what state a position is.
+//! The state of a position.
 
 ghost use Rattle.std.specs.Prelude.{◌≡◌, ◌++◌, OnOk};
-ghost use Rattle.flag_report.specs.Blocks.{are_dead, open_status_text, has_dead_status, status_text};
+ghost use Rattle.flag_report.specs.Blocks.{open_status_text, has_dead_status, status_text};
 ghost use Rattle.flag_report.specs.Ends.{standing_of};
+ghost use Rattle.flag_report.specs.Verdicts.{are_dead};
 
 use crate::found::{Verdict, is_unwinnable, is_winnable};
 use cha_board::Position;
 use cha_list::{NoMemory, Text};
 use cha_moves::{Standing, state};
 
-/// How a position stands, as a value that its legal moves and its check determine.
+/// How a position stands: mate, stalemate, or the game goes on.
 pub fn standing(position: &Position) -> Standing
     ensures { result ≡ standing_of position.now }
 {
@@ -23,7 +24,7 @@ pub fn is_dead(white: &Verdict, black: &Verdict) -> bool
     is_unwinnable(white) && is_unwinnable(black)
 }
 
-/// Whether the state of a position is `dead`: the game goes on, and neither side can mate.
+/// Whether the state of a position is `dead`: neither mate nor stalemate, and neither side can mate.
 #[tactic(auto, unfolding(crate::specs::Blocks::has_dead_status))]
 pub fn has_dead_state(position: &Position, white: &Verdict, black: &Verdict) -> bool
     ensures { result ≡ has_dead_status position.now white.now black.now }
@@ -35,7 +36,7 @@ pub fn has_dead_state(position: &Position, white: &Verdict, black: &Verdict) -> 
     }
 }
 
-/// Appends the state of a position in which the game goes on.
+/// Appends the state of a position with neither mate nor stalemate.
 #[tactic(auto, unfolding(crate::specs::Blocks::open_status_text))]
 fn put_open_status(white: &Verdict, black: &Verdict, text: &mut Text) -> Result<(), NoMemory>
     ensures { OnOk result (text.new ≡ text.old ++ open_status_text white.now black.now) }

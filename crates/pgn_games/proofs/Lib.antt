@@ -1,5 +1,6 @@
-pub mod Cuts
-pub mod Outsides
 pub mod Chains
-pub mod Taken
+pub mod Cuts
+pub mod Examples
 pub mod Giving
+pub mod Outsides
+pub mod Taken

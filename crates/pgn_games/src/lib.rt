@@ -13,6 +13,8 @@ mod reading;
 mod slices;
 mod tag_pairs;
 mod taking;
+#[cfg(test)]
+mod tests;
 mod turns;
 
 pub use cha_outside::ReadEnd;

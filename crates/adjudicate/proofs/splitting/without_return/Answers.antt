@@ -9,5 +9,6 @@ returns-then-line-end-eq13 c = c.split_at.ensures.front ∙ return_dropped c.arg
 pub returns-else-end-gt0 : goal.returns-else-end-gt0
 returns-else-end-gt0 c =
     elim c.else-end-gt0.branch [
-      else-end-gt0-via-then-end-gt0+else-line-end-eq13 w ↦ no_return c.args.line.now (length c.args.line.now - 1) (omega arith) w.if-line-end-eq13.false
-    | else-end-gt0-via-else-end-gt0 w ↦ empty_stays c.args.line.now (omega arith) ]
+      | else-end-gt0-via-then-end-gt0+else-line-end-eq13 w ↦ no_return c.args.line.now (length c.args.line.now - 1) (omega arith) w.if-line-end-eq13.false
+      | else-end-gt0-via-else-end-gt0 w ↦ empty_stays c.args.line.now (omega arith)
+    ]

@@ -1,4 +1,4 @@
-use Rattle.std.proofs.Common.{◌≡◌, ◌+◌, Some, None, slice_get, sym, ◌∙◌, arith, below_more}
+use Rattle.std.proofs.Common.{◌+◌, sym, ◌∙◌, arith, below_more}
 use Rattle.cha_decide.specs.MateLines.{mate_lines}
 use Rattle.cha_decide.proofs.Pieces.{empty_without_first}
 use Rattle.cha_decide.proofs.Lines.{shortest, none_within}

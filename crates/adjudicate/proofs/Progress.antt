@@ -1,0 +1,134 @@
+-- What is written so far, one item after another.
+use Rattle.std.proofs.Common.{◌≡◌, ℕ, ◌+◌, ◌^◌, ◌<◌, ◌≤◌, Bool, if◌then◌else◌, List, [], ◌∷◌, ◌++◌, length, map, take, drop, Option, refl, sym, ap, ◌∙◌, arith, append_assoc, append-nil, length-append, take-append-drop, zero-add, subst}
+use Rattle.std.specs.List.{count_by}
+use Rattle.std.specs.Io.KnownBytes.{Appends, Consumes}
+use Rattle.std.proofs.lemmas.List.Sums.{sum_by-append, count_by-le-length}
+use Rattle.std.proofs.lemmas.List.{map-append}
+use Rattle.cha_outside.proofs.Adding.{appends_nothing, appends_more}
+use Rattle.cha_outside.specs.Gathering.{Took}
+use Rattle.flag_report.specs.declared.totals.Summary.{Summary}
+use Rattle.cha_decide.specs.declared.decided.Decision.{Decision}
+use Rattle.adjudicate.specs.declared.judging.Judged.{Judged}
+use Rattle.adjudicate.specs.declared.orders.Order.{Order}
+use Rattle.adjudicate.specs.Outcomes.{Item, Outcome, IsSoundFor, IsSoundOutcome, AllSound, block_of, block, blocks, summary_of, summary_text, is_bad, is_third, is_open, items_of}
+use Rattle.adjudicate.specs.Report.{IsReport, HasBegun, HasWholeBlocks}
+use Rattle.adjudicate.specs.Runs.{Grew, BeginsWhole}
+use Rattle.adjudicate.specs.Steps.{one_if, Judges, Wrote, WroteUpTo, HasRoom, counted}
+
+-- one more outcome
+sound_more : (os : List Outcome) (o : Outcome) → AllSound os → IsSoundOutcome o → AllSound (os ++ o ∷ [])
+sound_more [] o all one = (one, tt)
+sound_more (first ∷ os) o all one = (all.0, sound_more os o all.1 one)
+
+blocks_more : (n : ℕ) (os : List Outcome) (o : Outcome) → blocks n (os ++ o ∷ []) ≡ blocks n os ++ block (n + length os) o
+unfolding blocks
+blocks_more n [] o = let same : n + 0 ≡ n = omega arith in rw same (append-nil (block n o))
+blocks_more n (first ∷ os) o =
+    let next : n + 1 + length os ≡ n + length (first ∷ os) = omega arith in
+    ap (λ rest. block n first ++ rest) (blocks_more (n + 1) os o ∙ ap (λ k. blocks (n + 1) os ++ block k o) next)
+    ∙ sym (append_assoc (block n first) (blocks (n + 1) os) (block (n + length (first ∷ os)) o))
+
+count_more : (p : Outcome → Bool) (os : List Outcome) (o : Outcome) → count_by p (os ++ o ∷ []) ≡ count_by p os + one_if (p o)
+count_more p os o = sum_by-append (λ x. if p x then 1 else 0) os (o ∷ []) ∙ ap (λ n. count_by p os + n) (zero-add (one_if (p o)))
+
+summary_more : (os : List Outcome) (o : Outcome) → counted (summary_of os) o ≡ summary_of (os ++ o ∷ [])
+summary_more os o = λ i. record {
+  items = sym (length-append os (o ∷ [])) i;
+  bad = sym (count_more is_bad os o) i;
+  third = sym (count_more is_third os o) i;
+  undecided = sym (count_more is_open os o) i;
+}
+
+-- before the first item
+pub nothing_written : (all : List Item) (a : Option (List ℕ)) → WroteUpTo all all a a (record { items = 0; bad = 0; third = 0; undecided = 0 })
+unfolding blocks
+nothing_written all a = ([], refl, ([], refl, tt, appends_nothing a, refl))
+
+-- the block of the next item is written whole
+pub one_more : (all here later : List Item) (item : Item) (old now next : Option (List ℕ)) (s : Summary) (judged : Judged) → WroteUpTo all here old now s → here ≡ item ∷ later → Judges item s judged
+    → Appends now next judged.block → WroteUpTo all later old next judged.totals
+one_more all here later item old now next s judged w here_is j added =
+    let os = w.2.0 in
+    let o : Outcome = record { item = item; decision = j.0 } in
+    let number : s.items ≡ length os = ap (λ t. t.items) w.2.4 in
+    let text : judged.block ≡ block (1 + length os) o = j.2 ∙ ap (λ k. block_of k item j.0) (let e : s.items + 1 ≡ 1 + length os = omega arith in e) in
+    let out : Appends old next (blocks 1 os ++ judged.block) = appends_more old now next (blocks 1 os) judged.block w.2.3 added in
+    let whole : blocks 1 os ++ judged.block ≡ blocks 1 (os ++ o ∷ []) = ap (λ x. blocks 1 os ++ x) text ∙ sym (blocks_more 1 os o) in (
+      w.0 ++ item ∷ [],
+      w.1 ∙ ap (λ x. w.0 ++ x) here_is ∙ sym (append_assoc w.0 (item ∷ []) later),
+      (
+        os ++ o ∷ [],
+        map-append (λ x. x.item) os (o ∷ []) ∙ ap (λ x. x ++ item ∷ []) w.2.1,
+        sound_more os o w.2.2 j.1,
+        subst (λ x. Appends old next x) whole out,
+        j.3 ∙ ap (λ t. counted t o) w.2.4 ∙ summary_more os o,
+      ),
+    )
+
+-- the block of the next item is written in part
+pub cut_block : (order : Order) (bytes : List ℕ) (here later : List Item) (item : Item) (old now next : Option (List ℕ)) (s : Summary) (judged : Judged) (n : ℕ) → WroteUpTo (items_of order bytes) here old now s → here ≡ item ∷ later → Judges item s judged
+    → Appends now next (take n judged.block) → Grew old next (HasBegun order bytes)
+cut_block order bytes here later item old now next s judged n w here_is j added =
+    let os = w.2.0 in
+    let number : s.items ≡ length os = ap (λ t. t.items) w.2.4 in
+    let text : block_of (length os + 1) item j.0 ≡ take n judged.block ++ drop n judged.block =
+    ap (λ k. block_of (k + 1) item j.0) (sym number) ∙ sym j.2 ∙ sym (take-append-drop n judged.block) in (
+      blocks 1 os ++ take n judged.block,
+      appends_more old now next (blocks 1 os) (take n judged.block) w.2.3 added,
+      (
+        os,
+        item ∷ later,
+        take n judged.block,
+        w.1 ∙ ap (λ x. w.0 ++ x) here_is ∙ ap (λ x. x ++ item ∷ later) (sym w.2.1),
+        w.2.2,
+        refl,
+        (j.0, j.1, (drop n judged.block, text)),
+      ),
+    )
+
+-- nothing of the next item is written
+pub whole_blocks : (order : Order) (bytes : List ℕ) (here : List Item) (old now : Option (List ℕ)) (s : Summary) → WroteUpTo (items_of order bytes) here old now s → Grew old now (HasWholeBlocks order bytes)
+whole_blocks order bytes here old now s w =
+    let os = w.2.0 in
+    (blocks 1 os, w.2.3, (os, here, w.1 ∙ ap (λ x. x ++ here) (sym w.2.1), w.2.2, refl))
+
+-- no item is left, and the summary is written whole
+pub finished : (order : Order) (bytes : List ℕ) (old now next : Option (List ℕ)) (s : Summary) (last : List ℕ) → WroteUpTo (items_of order bytes) [] old now s → last ≡ summary_text order s
+    → Appends now next last → Grew old next (IsReport order bytes)
+finished order bytes old now next s last w last_is added =
+    let os = w.2.0 in
+    let items : map (λ o. o.item) os ≡ items_of order bytes = w.2.1 ∙ sym (w.1 ∙ append-nil w.0) in (
+      blocks 1 os ++ last,
+      appends_more old now next (blocks 1 os) last w.2.3 added,
+      (os, items, w.2.2, ap (λ x. blocks 1 os ++ x) (last_is ∙ ap (summary_text order) w.2.4)),
+    )
+
+-- no item is left, and the summary is written in part
+pub cut_summary : (order : Order) (bytes : List ℕ) (old now next : Option (List ℕ)) (s : Summary) (last : List ℕ) (n : ℕ) → WroteUpTo (items_of order bytes) [] old now s → last ≡ summary_text order s
+    → Appends now next (take n last) → Grew old next (HasBegun order bytes)
+cut_summary order bytes old now next s last n w last_is added =
+    let os = w.2.0 in
+    let items : items_of order bytes ≡ map (λ o. o.item) os ++ [] = w.1 ∙ ap (λ x. x ++ []) (sym w.2.1) in
+    let text : summary_text order (summary_of os) ≡ take n last ++ drop n last = sym (last_is ∙ ap (summary_text order) w.2.4) ∙ sym (take-append-drop n last) in (
+      blocks 1 os ++ take n last,
+      appends_more old now next (blocks 1 os) (take n last) w.2.3 added,
+      (os, [], take n last, items, w.2.2, refl, (drop n last, text)),
+    )
+
+-- one more item can be counted
+pub room_for_one : (all here : List Item) (old now : Option (List ℕ)) (s : Summary) → WroteUpTo all here old now s → s.items < 2 ^ 63 → HasRoom s
+room_for_one all here old now s w few =
+    let os = w.2.0 in
+    let number : s.items ≡ length os = ap (λ t. t.items) w.2.4 in
+    let bad : s.bad ≤ length os = rw (ap (λ t. t.bad) w.2.4) (count_by-le-length is_bad os) in
+    let third : s.third ≤ length os = rw (ap (λ t. t.third) w.2.4) (count_by-le-length is_third os) in
+    let undecided : s.undecided ≤ length os = rw (ap (λ t. t.undecided) w.2.4) (count_by-le-length is_open os) in
+    record { few_items = few; few_bad = omega arith; few_third = omega arith; few_undecided = omega arith }
+
+pub one_counted : (item : Item) (s : Summary) (judged : Judged) → Judges item s judged → judged.totals.items ≡ s.items + 1
+one_counted item s judged j = ap (λ t. t.items) j.3
+
+-- bytes were taken, and nothing was written
+pub nothing_begun : (order : Order) (left left' a : Option (List ℕ)) (P : List ℕ → Type 0) → Took left left' P → BeginsWhole order left left' a a
+unfolding blocks
+nothing_begun order left left' a P took = (took.0, took.1, ([], appends_nothing a, ([], items_of order took.0, refl, tt, refl)))

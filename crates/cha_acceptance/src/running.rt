@@ -1,0 +1,40 @@
+//! One run over bytes in memory.
+
+use adjudicate::{OpenGate, Status, run};
+use cha_outside::{Kept, Sink, Source};
+use std::alloc::Global;
+use std::sync::Wait;
+use std::test::Fail;
+use std::thread::Threads;
+
+/// How a run ended, and what the sink took.
+#[derive(Drop)]
+pub struct Ran {
+    pub status: Status,
+    pub written: Vec<u8>,
+}
+
+/// The words of a line, between single spaces.
+pub fn words_of(alloc: Global, line: &str) -> Result<Vec<String>, Fail> {
+    let mut words = Vec::new(alloc);
+    for word in line.split(' ') {
+        words.push(String::from_str(alloc, word)?)?;
+    }
+    Ok(words)
+}
+
+/// A run over a source and a sink with this room, which fails at the numbered writes.
+pub fn ran<R: Threads + Wait + Sync, S: Source>(
+    rt: &R,
+    alloc: Global,
+    line: &str,
+    source: &mut S,
+    room: u32,
+    fails: Vec<u32>,
+) -> Result<Ran, Fail> {
+    let words = words_of(alloc, line)?;
+    let mut sink = Kept::new(alloc, room, fails)?;
+    let status = run(rt, alloc, words.as_slice(), source, &mut sink, &OpenGate);
+    let written = sink.bytes().to_vec(alloc)?;
+    Ok(Ran { status, written })
+}

@@ -1,0 +1,39 @@
+-- The squares that a group reaches, row by row.
+use Rattle.std.proofs.Common.{◌≡◌, ℕ, ◌+◌, ◌<◌, Bool, true, false, ◌||◌, List, [], length, get_or, take, refl, ap, sym, ◌∙◌}
+use Rattle.std.proofs.lemmas.List.Folds.{list_any_more}
+use Rattle.cha_board.specs.Board.{Board}
+use Rattle.cha_board.specs.SquareSets.{set_of, has_square, empty_set, set_joined}
+use Rattle.cha_board.specs.SetLaws.{has-set_of, same_set}
+use Rattle.mob_sets.specs.Rows.{Row}
+use Rattle.mob_check.specs.declared.groups.Group.{Group}
+use Rattle.mob_check.specs.Reaches.{is_row_of, reaches_by, reaches, reach_of}
+
+pub none_reach : (p : Board) (group : Group) → empty_set ≡ reach_of p [] group
+unfolding reach_of reaches
+none_reach p group = refl
+
+-- one row more
+row_more : (p : Board) (rows : List Row) (group : Group) (i : ℕ) (d : Row) (u : ℕ) → i < length rows
+    → reaches p (take (i + 1) rows) group u ≡ (reaches p (take i rows) group u || reaches_by p group u (get_or rows i d))
+unfolding reaches
+row_more p rows group i d u inside = list_any_more (reaches_by p group u) rows i d inside
+
+or_none : (a : Bool) → (a || false) ≡ a
+or_none true = refl
+or_none false = refl
+
+pub joined_reach : (p : Board) (rows : List Row) (group : Group) (i : ℕ) (d : Row) → i < length rows → is_row_of p group (get_or rows i d) ≡ true
+    → set_joined (reach_of p (take i rows) group) (get_or rows i d).squares ≡ reach_of p (take (i + 1) rows) group
+unfolding reach_of set_joined reaches_by
+joined_reach p rows group i d inside is =
+    let before = reaches p (take i rows) group in
+    let row = get_or rows i d in
+    same_set (λ s. has_square (set_of before) s || has_square row.squares s) (reaches p (take (i + 1) rows) group) (λ s small.
+    ap (λ b. b || has_square row.squares s) (has-set_of before s small) ∙ sym (row_more p rows group i d s inside ∙ rw is refl))
+
+pub skipped_reach : (p : Board) (rows : List Row) (group : Group) (i : ℕ) (d : Row) → i < length rows → is_row_of p group (get_or rows i d) ≡ false
+    → reach_of p (take i rows) group ≡ reach_of p (take (i + 1) rows) group
+unfolding reach_of reaches_by
+skipped_reach p rows group i d inside is =
+    same_set (reaches p (take i rows) group) (reaches p (take (i + 1) rows) group) (λ s small.
+    sym (row_more p rows group i d s inside ∙ rw is (or_none (reaches p (take i rows) group s))))

@@ -1,0 +1,6 @@
+use Rattle.std.proofs.Common.{◌≡◌, ℕ, ◌<◌, false}
+use Rattle.mob_check.specs.Mates.{mates_from}
+use Rattle.mob_check.proofs.mates.mate_with_one.Given as goal
+
+abbrev pub invariant-loop-index : goal.invariant-loop-index
+invariant-loop-index l = (x : ℕ) → x < l.index → (mates_from l.scene l.seen l.king) x ≡ false

@@ -1,0 +1,15 @@
+use Rattle.std.proofs.Common.{◌<◌, sym, ◌∙◌, arith}
+use Rattle.cha_board.proofs.Scans.{any_square_at, no_square}
+use Rattle.mob_check.specs.Mates.{may_mate_on}
+use Rattle.mob_check.specs.Mates.{may_mate}
+use Rattle.mob_check.proofs.mates.some_mate.Goals as goal
+
+pub returns-then-mate_on : goal.returns-then-mate_on
+unfolding may_mate
+returns-then-mate_on c =
+    let small : c.at.result < 64 = omega arith in
+    sym (any_square_at (may_mate_on c.args.scene.now) c.at.result small (sym c.mate_on.ensures ∙ c.if-mate_on.true))
+
+pub returns : goal.returns
+unfolding may_mate
+returns c = sym (no_square (may_mate_on c.args.scene.now) (λ x small. c.loop-index.invariant x (omega arith)))

@@ -1,0 +1,21 @@
+//! Mobility sets, checked against a position: whether they are closed, and whether they leave a mate in reach.
+//!
+//! `closing` has the rules of closed sets, with `rows`, `pieces` and `pawns`; `mates` the search for a mate, with `scene`
+//! and `strikes`; `bound` both together. `fixed` has the fixed men, `groups` entries of sets, and `sides` what is a side's.
+#![tactic(auto)]
+
+mod bound;
+mod closing;
+mod fixed;
+mod groups;
+mod mates;
+mod pawns;
+mod pieces;
+mod rows;
+mod scene;
+mod sides;
+mod strikes;
+
+pub use bound::proves_unwinnable;
+pub use closing::closed;
+pub use mates::no_mate;

@@ -1,0 +1,148 @@
+//! Whether mobility sets leave a mate in reach.
+
+ghost use Rattle.std.specs.Prelude.{◌≡◌, ◌↔◌, IsTrue};
+ghost use Rattle.mob_law.specs.Threats.{HasNoMate};
+ghost use Rattle.mob_sets.specs.Rows.{sets_of};
+ghost use Rattle.mob_check.specs.Mates.{keeps_from, is_shut, shuts_from, may_shut, mates_with_all, mates_as, mates_from, mates_with_one, may_mate_on, may_mate};
+
+use crate::scene::Scene;
+use crate::strikes::{check_as, some_check, struck, struck_from, through_king};
+use cha_board::{Color, Kind, Man, Position, Square, SquareSet, steps_between};
+use mob_sets::Sets;
+
+/// Whether mobility sets have no mate for a winner: wherever the two kings may stand, either no man of the winner may give
+/// check, or the loser's king cannot be kept from some square next to it.
+pub fn no_mate(position: &Position, winner: Color, sets: &Sets) -> bool
+    ensures { IsTrue result ↔ HasNoMate position.now (sets_of sets.now) winner }
+{
+    let _men = position.men();
+    !some_mate(&Scene::of(position, sets, winner))
+}
+
+/// Whether a mate is in reach.
+#[tactic(auto, unfolding(crate::specs::Mates::may_mate))]
+fn some_mate(scene: &Scene) -> bool
+    ensures { result ≡ may_mate scene.now }
+{
+    for index in 0..64 {
+        if mate_on(scene, Square::at(index)) {
+            return true;
+        }
+    }
+    false
+}
+
+/// Whether a mate of the king on a square is in reach.
+#[tactic(auto, unfolding(crate::specs::Mates::may_mate_on))]
+fn mate_on(scene: &Scene, king: Square) -> bool
+    ensures { result ≡ may_mate_on scene.now king }
+{
+    if !scene.loser_king.has(king) {
+        return false;
+    }
+    let seen = through_king(scene, king);
+    if scene.one_man {
+        mate_with_one(scene, &seen, king)
+    } else {
+        mate_with_all(scene, &seen, king)
+    }
+}
+
+/// Whether one man of the winner may give check while its men and its king keep the other king in.
+#[tactic(auto, unfolding(crate::specs::Mates::mates_with_all))]
+fn mate_with_all(scene: &Scene, seen: &[Option<Man>; 64], king: Square) -> bool
+    ensures { result ≡ mates_with_all scene.now seen.now king }
+{
+    some_check(scene, king)
+        && some_shut(
+            scene,
+            scene.loser_men.joined(struck(scene, seen, king)),
+            king,
+        )
+}
+
+/// Whether the only man of the winner may give check while it and its king keep the other king in.
+#[tactic(auto, unfolding(crate::specs::Mates::mates_with_one))]
+fn mate_with_one(scene: &Scene, seen: &[Option<Man>; 64], king: Square) -> bool
+    ensures { result ≡ mates_with_one scene.now seen.now king }
+{
+    for index in 0..64 {
+        if mate_from(scene, seen, king, Square::at(index)) {
+            return true;
+        }
+    }
+    false
+}
+
+/// The same from a square.
+#[tactic(auto, unfolding(crate::specs::Mates::mates_from))]
+fn mate_from(scene: &Scene, seen: &[Option<Man>; 64], king: Square, from: Square) -> bool
+    ensures { result ≡ mates_from scene.now seen.now king from }
+{
+    mate_as(scene, seen, king, from, Kind::Pawn)
+        || mate_as(scene, seen, king, from, Kind::Knight)
+        || mate_as(scene, seen, king, from, Kind::Bishop)
+        || mate_as(scene, seen, king, from, Kind::Rook)
+        || mate_as(scene, seen, king, from, Kind::Queen)
+        || mate_as(scene, seen, king, from, Kind::King)
+}
+
+/// The same from a square, as a kind.
+#[tactic(auto, unfolding(crate::specs::Mates::mates_as))]
+fn mate_as(scene: &Scene, seen: &[Option<Man>; 64], king: Square, from: Square, kind: Kind) -> bool
+    ensures { result ≡ mates_as scene.now seen.now king from kind }
+{
+    check_as(scene, king, from, kind)
+        && some_shut(
+            scene,
+            scene
+                .loser_men
+                .joined(struck_from(scene.winner, seen, king, from, kind)),
+            king,
+        )
+}
+
+/// Whether the winner's king may stand so that with covered squares it keeps the other king in.
+#[tactic(auto, unfolding(crate::specs::Mates::may_shut))]
+fn some_shut(scene: &Scene, covered: SquareSet, king: Square) -> bool
+    ensures { result ≡ may_shut scene.now covered king }
+{
+    for index in 0..64 {
+        if shut_from(scene, covered, king, Square::at(index)) {
+            return true;
+        }
+    }
+    false
+}
+
+/// Whether the winner's king may stand on a square and does so there.
+#[tactic(auto, unfolding(crate::specs::Mates::shuts_from))]
+fn shut_from(scene: &Scene, covered: SquareSet, king: Square, winner_king: Square) -> bool
+    ensures { result ≡ shuts_from scene.now covered king winner_king }
+{
+    scene.winner_king.has(winner_king)
+        && winner_king.index() != king.index()
+        && steps_between(king, winner_king) != 1
+        && shut_in(covered, king, winner_king)
+}
+
+/// Whether the king is kept from each square next to it.
+#[tactic(auto, unfolding(crate::specs::Mates::is_shut))]
+fn shut_in(covered: SquareSet, king: Square, winner_king: Square) -> bool
+    ensures { result ≡ is_shut covered king winner_king }
+{
+    for index in 0..64 {
+        if !kept_from(covered, king, winner_king, Square::at(index)) {
+            return false;
+        }
+    }
+    true
+}
+
+/// Whether the king is kept from a square, if that is next to it.
+#[tactic(auto, unfolding(crate::specs::Mates::keeps_from))]
+fn kept_from(covered: SquareSet, king: Square, winner_king: Square, at: Square) -> bool
+    ensures { result ≡ keeps_from covered king winner_king at }
+{
+    steps_between(king, at) != 1 || covered.has(at) || steps_between(winner_king, at) == 1
+}

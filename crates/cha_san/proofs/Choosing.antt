@@ -1,5 +1,5 @@
 -- The elements of a list that pass a test, while they are looked for.
-use Rattle.std.proofs.Common.{◌≡◌, ℕ, suc, ◌+◌, ◌<◌, Bool, true, false, cond, List, [], ◌∷◌, length, get_or, drop, Option, Some, None, Err, refl, sym, ◌∙◌, ap, arith}
+use Rattle.std.proofs.Common.{◌≡◌, ℕ, suc, ◌+◌, ◌<◌, Bool, true, false, cond, List, ◌∷◌, length, get_or, drop, Option, Some, Err, sym, ◌∙◌, ap, arith}
 use Rattle.std.specs.List.{filter, cons_option}
 use Rattle.std.proofs.Math.Seq.{drop-cons}
 use Rattle.cha_moves.specs.Step.{Move}

@@ -2,3 +2,4 @@ pub mod Choosing
 pub mod Resolved
 pub mod Replayed
 pub mod Played
+mod Examples

@@ -1,5 +1,5 @@
 -- The positions of a game, while they are listed.
-use Rattle.std.proofs.Common.{◌≡◌, ℕ, ◌+◌, ◌<◌, ◌≤◌, List, [], ◌∷◌, ◌++◌, length, get_or, drop, Result, Ok, Err, IfOk, refl, sym, ◌∙◌, ap, arith, append_assoc}
+use Rattle.std.proofs.Common.{◌≡◌, ℕ, ◌+◌, ◌<◌, ◌≤◌, List, [], ◌∷◌, ◌++◌, length, get_or, drop, Result, Ok, Err, refl, sym, ◌∙◌, ap, append_assoc}
 use Rattle.std.proofs.lemmas.List.{drop_all}
 use Rattle.cha_board.specs.Board.{Board}
 use Rattle.cha_moves.specs.Step.{Move}
@@ -7,7 +7,7 @@ use Rattle.cha_moves.specs.Moves.{after}
 use Rattle.cha_san.specs.declared.faults.SanFault.{SanFault}
 use Rattle.cha_san.specs.declared.faults.PlayFault.{PlayFault}
 use Rattle.cha_san.specs.Resolving.{resolved}
-use Rattle.cha_san.specs.Playing.{onto, onward, positions_from, positions, FollowsBy}
+use Rattle.cha_san.specs.Playing.{onto, onward, positions_from, FollowsBy}
 use Rattle.cha_san.proofs.Choosing.{next}
 
 -- positions in front of those that follow, if these can be told

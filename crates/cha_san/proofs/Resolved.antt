@@ -1,12 +1,12 @@
 -- What the one move of a list tells of the moves that fit a word.
-use Rattle.std.proofs.Common.{◌≡◌, ℕ, ◌≤◌, List, [], ◌∷◌, length, Option, Some, None, Result, Ok, Err, IfOk, refl, sym, ◌∙◌, ap, subst, arith}
+use Rattle.std.proofs.Common.{◌≡◌, ℕ, ◌≤◌, List, [], ◌∷◌, length, Option, Some, None, Result, Err, IfOk, refl, sym, ◌∙◌, ap, subst, arith}
 use Rattle.std.specs.List.{filter, Contains}
 use Rattle.cha_board.specs.Board.{Board}
 use Rattle.cha_moves.specs.Step.{Move}
 use Rattle.cha_moves.specs.Moves.{legal}
 use Rattle.cha_moves.proofs.Pieces.{Contains-filter_parts, Contains-cons_here}
 use Rattle.cha_san.specs.declared.faults.SanFault.{SanFault}
-use Rattle.cha_san.specs.declared.faults.SanFault.TheVariants.{NotSan, NoSuchMove, Ambiguous, NoMemory}
+use Rattle.cha_san.specs.declared.faults.SanFault.TheVariants.{NotSan, NoSuchMove, Ambiguous}
 use Rattle.cha_san.specs.declared.forms.Form.{Form}
 use Rattle.cha_san.specs.Forms.{form_of}
 use Rattle.cha_san.specs.Fitting.{fits}

@@ -61,7 +61,7 @@ square_of _ _ = None
 unfoldable pub square_at : List ℕ → Option ℕ
 square_at word = square_of (file_at (front word)) (rank_at word)
 
--- the kind of man that the front of a word names: no letter means a pawn (PGN standard, 8.2.3.2)
+-- the kind of man that the front of a word names: no letter means a pawn (PGN standard, 8.2.3.2), and so does P
 unfoldable pub kind_at : List ℕ → Option Kind
 kind_at [] = Some Pawn
 kind_at (b ∷ []) = kind_named b
@@ -73,7 +73,7 @@ parts_if (Some kind) file rank (Some target) promotion = Some (record { kind = k
 parts_if _ file rank _ promotion = None
 
 -- A word in its parts, read from its end: the promotion, the target, an x, the rank, the file and the letter of the man. Only
--- the target has to be there (PGN standard, 8.2.3.1 to 8.2.3.5), and nothing may be left over (this project).
+-- the target has to be there (PGN standard, 8.2.3.1 to 8.2.3.4), and nothing may be left over (this project).
 unfoldable pub parts : List ℕ → Option Parts
 parts word =
     let to_target = unpromoted word in
@@ -82,7 +82,7 @@ parts word =
     let to_letter = before (is_some (file_at to_file)) to_file in
     parts_if (kind_at to_letter) (file_at to_file) (rank_at to_rank) (square_at to_target) (promotion_at word)
 
--- a word without the signs + # ! ? at its end, which are not checked (PGN standard, 8.2.3.8)
+-- a word without the signs + # ! ? at its end (PGN standard, 8.2.3.5 and 8.2.3.8), which are not checked (this project)
 unfoldable pub stem : List ℕ → List ℕ
 stem word = take (length word - suffix_len (in_class Sign) word) word
 
@@ -90,7 +90,7 @@ stem word = take (length word - suffix_len (in_class Sign) word) word
 unfoldable pub is_short : List ℕ → Bool
 is_short word = bytes_eq word (codes "O-O") || bytes_eq word (codes "0-0")
 
--- castling on the queen's side: O-O-O, or 0-0-0
+-- castling on the queen's side: O-O-O (PGN standard, 8.2.3.3), or 0-0-0 (this project)
 unfoldable pub is_long : List ℕ → Bool
 is_long word = bytes_eq word (codes "O-O-O") || bytes_eq word (codes "0-0-0")
 

@@ -65,9 +65,11 @@ fn replayed(alloc: Global, start: &Position, words: &[Text]) -> Result<Positions
     Ok(done)
 }
 
-/// The positions of a game: its start, and the one after each word. Otherwise the first word that names no move.
+/// The positions of a game: its start, and the one after each word, so that they are one more than the words. The fault is that
+/// of the first word that names no move, with its number from 1; `NoMemory` is want of memory, and then the number says
+/// nothing.
 ///
-/// The time that this takes grows as the number of words.
+/// The game has to be readable, and to have at most 12,000 words. The time that this takes grows as their number.
 pub fn play(alloc: Global, game: &Game) -> Result<Positions, PlayFault>
     requires readable { game.now.fault ≡ None }
     requires few { length game.now.words ≤ 12000 }

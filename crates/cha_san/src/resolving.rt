@@ -2,7 +2,6 @@
 
 ghost use Rattle.std.specs.Prelude.{◌≡◌, ◌≤◌, ◌⊎◌, ◌↔◌, [], ◌∷◌, Ok, Err, None, filter, length, IfOk, Contains};
 ghost use Rattle.cha_moves.specs.Moves.{legal as legal_moves};
-ghost use Rattle.cha_san.specs.declared.faults.SanFault.{SanFault as Fault};
 ghost use Rattle.cha_san.specs.declared.faults.SanFault.TheVariants.{NotSan, NoSuchMove, Ambiguous, NoMemory};
 ghost use Rattle.cha_san.specs.Forms.{form_of};
 ghost use Rattle.cha_san.specs.Fitting.{fits as fits_form};
@@ -40,6 +39,9 @@ fn only_fitting(position: &Position, form: &Form, moves: &[Move]) -> Result<Move
 /// Signs `+ # ! ?` at the end of the word and the `x` of a capture are not checked. `O-O` and `0-0` are castling on the king's
 /// side, `O-O-O` and `0-0-0` on the queen's; nothing else is castling. `P` may stand in front of a pawn's move. A word that
 /// names no promotion leaves it open, so that `e8` fits four moves.
+///
+/// `NotSan` is a word that is not of the form, `NoSuchMove` one that no legal move fits, and `Ambiguous` one that two or more
+/// fit. `NoMemory` is want of memory, of which nothing more is known.
 ///
 /// At the opening position `Nf3` and `Ng1f3+!` are the move from g1 to f3, `Nd2` is no such move, and `knight` is not SAN.
 pub fn resolve(alloc: Global, position: &Position, word: &[u8]) -> Result<Move, SanFault>

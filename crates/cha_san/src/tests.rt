@@ -10,6 +10,7 @@ use cha_list::{NoMemory, Text, text_of};
 use cha_moves::move_text;
 use pgn_games::{Game, ResultMark, Words};
 use std::alloc::Global;
+use std::process::Abort;
 use std::test::Fail;
 
 fn named(fault: SanFault) -> &'static str {
@@ -62,4 +63,33 @@ fn last_position(alloc: Global, game: &Game) -> Result<Text, Fail> {
             Ok(text_of(alloc, found.as_bytes())?)
         }
     }
+}
+
+/// Asserts the answer in each row of a table: a position, a word and the answer.
+fn rows_are_answered(rt: &impl Abort, alloc: Global, table: &str) -> Result<(), Fail> {
+    for row in table.split('\n') {
+        let (position, rest) = row.split_once(" | ").ok_or("a row with too few columns")?;
+        let (word, want) = rest.split_once(" | ").ok_or("a row with too few columns")?;
+        assert_eq!(rt;
+            answer(alloc, position, word.as_bytes())?.items(),
+            want.as_bytes(),
+            "in {row}"
+        );
+    }
+    Ok(())
+}
+
+/// Asserts how each game of a table ends: its name, its words and its last position, or where it stops.
+fn games_end(rt: &impl Abort, alloc: Global, table: &str) -> Result<(), Fail> {
+    for row in table.split('\n') {
+        let (name, rest) = row.split_once(" | ").ok_or("a row with too few columns")?;
+        let (words, want) = rest.split_once(" | ").ok_or("a row with too few columns")?;
+        let game = game_of(alloc, Position::start(), words)?;
+        assert_eq!(rt;
+            last_position(alloc, &game)?.items(),
+            want.as_bytes(),
+            "in {name}"
+        );
+    }
+    Ok(())
 }

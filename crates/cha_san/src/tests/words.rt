@@ -1,66 +1,112 @@
 //! Words, and the moves that they name: PGN standard, 8.2.3, and the Laws of Chess.
 
-use super::answer;
+use super::{answer, rows_are_answered};
 use cha_list::Text;
 use std::test::Fail;
 
 const OPENING: &str = "rnbqkbnr/pppppppp/8/8/8/8/PPPPPPPP/RNBQKBNR w KQkq -";
 
-const CASTLING: &str = "r3k2r/8/8/8/8/8/8/R3K2R w KQkq -";
-
-const PROMOTION: &str = "8/4P3/8/8/8/8/k7/4K3 w - -";
+const FORMS_OF_ONE_MOVE: &str = "rnbqkbnr/pppppppp/8/8/8/8/PPPPPPPP/RNBQKBNR w KQkq - | e4 | e2e4
+rnbqkbnr/pppppppp/8/8/8/8/PPPPPPPP/RNBQKBNR w KQkq - | Pe4 | e2e4
+rnbqkbnr/pppppppp/8/8/8/8/PPPPPPPP/RNBQKBNR w KQkq - | ee4 | e2e4
+rnbqkbnr/pppppppp/8/8/8/8/PPPPPPPP/RNBQKBNR w KQkq - | 2e4 | e2e4
+rnbqkbnr/pppppppp/8/8/8/8/PPPPPPPP/RNBQKBNR w KQkq - | e2e4 | e2e4
+rnbqkbnr/pppppppp/8/8/8/8/PPPPPPPP/RNBQKBNR w KQkq - | Pe2e4 | e2e4
+rnbqkbnr/pppppppp/8/8/8/8/PPPPPPPP/RNBQKBNR w KQkq - | xe4 | e2e4
+rnbqkbnr/pppppppp/8/8/8/8/PPPPPPPP/RNBQKBNR w KQkq - | exe4 | e2e4
+rnbqkbnr/pppppppp/8/8/8/8/PPPPPPPP/RNBQKBNR w KQkq - | e4!! | e2e4
+rnbqkbnr/pppppppp/8/8/8/8/PPPPPPPP/RNBQKBNR w KQkq - | e4#?!+ | e2e4
+rnbqkbnr/pppppppp/8/8/8/8/PPPPPPPP/RNBQKBNR w KQkq - | e3 | e2e3
+rnbqkbnr/pppppppp/8/8/8/8/PPPPPPPP/RNBQKBNR w KQkq - | Nf3 | g1f3
+rnbqkbnr/pppppppp/8/8/8/8/PPPPPPPP/RNBQKBNR w KQkq - | Ngf3 | g1f3
+rnbqkbnr/pppppppp/8/8/8/8/PPPPPPPP/RNBQKBNR w KQkq - | N1f3 | g1f3
+rnbqkbnr/pppppppp/8/8/8/8/PPPPPPPP/RNBQKBNR w KQkq - | Ng1f3 | g1f3
+rnbqkbnr/pppppppp/8/8/8/8/PPPPPPPP/RNBQKBNR w KQkq - | Ng1xf3+ | g1f3
+rnbqkbnr/pppppppp/8/8/8/8/PPPPPPPP/RNBQKBNR w KQkq - | Nh3? | g1h3
+rnbqkbnr/pppppppp/8/8/8/8/PPPPPPPP/RNBQKBNR w KQkq - | e5 | no such move
+rnbqkbnr/pppppppp/8/8/8/8/PPPPPPPP/RNBQKBNR w KQkq - | de4 | no such move
+rnbqkbnr/pppppppp/8/8/8/8/PPPPPPPP/RNBQKBNR w KQkq - | 3e4 | no such move
+rnbqkbnr/pppppppp/8/8/8/8/PPPPPPPP/RNBQKBNR w KQkq - | d2e4 | no such move
+rnbqkbnr/pppppppp/8/8/8/8/PPPPPPPP/RNBQKBNR w KQkq - | exd3 | no such move
+rnbqkbnr/pppppppp/8/8/8/8/PPPPPPPP/RNBQKBNR w KQkq - | e4=Q | no such move
+rnbqkbnr/pppppppp/8/8/8/8/PPPPPPPP/RNBQKBNR w KQkq - | Nd2 | no such move
+rnbqkbnr/pppppppp/8/8/8/8/PPPPPPPP/RNBQKBNR w KQkq - | Nbf3 | no such move
+rnbqkbnr/pppppppp/8/8/8/8/PPPPPPPP/RNBQKBNR w KQkq - | Bf3 | no such move
+rnbqkbnr/pppppppp/8/8/8/8/PPPPPPPP/RNBQKBNR w KQkq - | Ke2 | no such move
+rnbqkbnr/pppppppp/8/8/8/8/PPPPPPPP/RNBQKBNR w KQkq - | Qd3 | no such move
+rnbqkbnr/pppppppp/8/8/8/8/PPPPPPPP/RNBQKBNR w KQkq - | O-O | no such move";
 
 #[test]
 fn forms_of_one_move(rt: HostRuntime) -> Result<(), Fail> {
-    for (word, want) in [
-        ("e4", "e2e4"),
-        ("Pe4", "e2e4"),
-        ("ee4", "e2e4"),
-        ("2e4", "e2e4"),
-        ("e2e4", "e2e4"),
-        ("Pe2e4", "e2e4"),
-        ("xe4", "e2e4"),
-        ("exe4", "e2e4"),
-        ("e4!!", "e2e4"),
-        ("e4#?!+", "e2e4"),
-        ("e3", "e2e3"),
-        ("Nf3", "g1f3"),
-        ("Ngf3", "g1f3"),
-        ("N1f3", "g1f3"),
-        ("Ng1f3", "g1f3"),
-        ("Ng1xf3+", "g1f3"),
-        ("Nh3?", "g1h3"),
-        ("e5", "no such move"),
-        ("de4", "no such move"),
-        ("3e4", "no such move"),
-        ("d2e4", "no such move"),
-        ("exd3", "no such move"),
-        ("e4=Q", "no such move"),
-        ("Nd2", "no such move"),
-        ("Nbf3", "no such move"),
-        ("Bf3", "no such move"),
-        ("Ke2", "no such move"),
-        ("Qd3", "no such move"),
-        ("O-O", "no such move"),
-    ] {
-        assert_eq!(rt;
-            answer(rt.alloc(), OPENING, word.as_bytes())?.items(),
-            want.as_bytes(),
-            "for {word}"
-        );
-    }
-    Ok(())
+    rows_are_answered(&rt, rt.alloc(), FORMS_OF_ONE_MOVE)
 }
+
+/// One word a line; the first is empty.
+const NOT_SAN: &str = "
+!
++#
+e
+4
+x
+=
+N
+Q
+P
+xx
+E4
+nf3
+NF3
+pe4
+i4
+e9
+e0
+é4
+e4e
+4e
+e4e4e4
+e22e4
+eee4
+e2ee4
+NNf3
+KNf3
+Nxxf3
+xNf3
+Nf3x
+Nf3-
+e2-e4
+e4.
+ e4
+e4 
++e4
+e4=
+=Q
+e8=K
+e8=P
+e8=q
+e8q
+e7e8q
+e8==Q
+e8=QQ
+e8(Q)
+exd6e.p.
+exd6ep
+o-o
+o-o-o
+O-O-
+O-O-O-O
+O-0
+0-0-O
+OO
+0-0-00
+O-O=Q
+--
+Z0
+1-0
+knight";
 
 #[test]
 fn words_that_are_not_san(rt: HostRuntime) -> Result<(), Fail> {
-    for word in [
-        "", "!", "+#", "e", "4", "x", "=", "N", "Q", "P", "xx", "E4", "nf3", "NF3", "pe4", "i4",
-        "e9", "e0", "é4", "e4e", "4e", "e4e4e4", "e22e4", "eee4", "e2ee4", "NNf3", "KNf3", "Nxxf3",
-        "xNf3", "Nf3x", "Nf3-", "e2-e4", "e4.", " e4", "e4 ", "+e4", "e4=", "=Q", "e8=K", "e8=P",
-        "e8=q", "e8q", "e7e8q", "e8==Q", "e8=QQ", "e8(Q)", "exd6e.p.", "exd6ep", "o-o", "o-o-o",
-        "O-O-", "O-O-O-O", "O-0", "0-0-O", "OO", "0-0-00", "O-O=Q", "--", "Z0", "1-0", "knight",
-    ] {
+    for word in NOT_SAN.split('\n') {
         assert_eq!(rt;
             answer(rt.alloc(), OPENING, word.as_bytes())?.items(),
             b"not SAN".as_slice(),
@@ -70,167 +116,115 @@ fn words_that_are_not_san(rt: HostRuntime) -> Result<(), Fail> {
     Ok(())
 }
 
+const CASTLING_IS_ITS_WORD_ALONE: &str = "r3k2r/8/8/8/8/8/8/R3K2R w KQkq - | O-O | e1g1
+r3k2r/8/8/8/8/8/8/R3K2R w KQkq - | 0-0 | e1g1
+r3k2r/8/8/8/8/8/8/R3K2R w KQkq - | O-O+! | e1g1
+r3k2r/8/8/8/8/8/8/R3K2R w KQkq - | O-O-O | e1c1
+r3k2r/8/8/8/8/8/8/R3K2R w KQkq - | 0-0-0 | e1c1
+r3k2r/8/8/8/8/8/8/R3K2R w KQkq - | O-O-O# | e1c1
+r3k2r/8/8/8/8/8/8/R3K2R w KQkq - | Kg1 | no such move
+r3k2r/8/8/8/8/8/8/R3K2R w KQkq - | Ke1g1 | no such move
+r3k2r/8/8/8/8/8/8/R3K2R w KQkq - | Kc1 | no such move
+r3k2r/8/8/8/8/8/8/R3K2R w KQkq - | e1g1 | no such move
+r3k2r/8/8/8/8/8/8/R3K2R w KQkq - | Kf1 | e1f1
+r3k2r/8/8/8/8/8/8/R3K2R w KQkq - | Kd1 | e1d1
+r3k2r/8/8/8/8/8/8/R3K2R w KQkq - | Rf1 | h1f1
+r3k2r/8/8/8/8/8/8/R3K2R w KQkq - | Rd1 | a1d1
+r3k2r/8/8/8/8/8/8/R3K2R b KQkq - | O-O | e8g8
+r3k2r/8/8/8/8/8/8/R3K2R b KQkq - | O-O-O | e8c8
+r3k2r/8/8/8/8/8/8/R3K2R b KQkq - | Kg8 | no such move
+4kr2/8/8/8/8/8/8/R3K2R w KQ - | O-O | no such move
+4kr2/8/8/8/8/8/8/R3K2R w KQ - | O-O-O | e1c1
+4k3/8/8/8/8/8/8/R3K2R w Q - | O-O | no such move
+4k3/8/8/8/8/8/8/r3K2R w K - | O-O | no such move
+4k3/8/8/8/8/8/8/5K1R w - - | Kg1 | f1g1
+4k3/8/8/8/8/8/8/5K1R w - - | O-O | no such move";
+
 #[test]
 fn castling_is_its_word_alone(rt: HostRuntime) -> Result<(), Fail> {
-    for (position, word, want) in [
-        (CASTLING, "O-O", "e1g1"),
-        (CASTLING, "0-0", "e1g1"),
-        (CASTLING, "O-O+!", "e1g1"),
-        (CASTLING, "O-O-O", "e1c1"),
-        (CASTLING, "0-0-0", "e1c1"),
-        (CASTLING, "O-O-O#", "e1c1"),
-        (CASTLING, "Kg1", "no such move"),
-        (CASTLING, "Ke1g1", "no such move"),
-        (CASTLING, "Kc1", "no such move"),
-        (CASTLING, "e1g1", "no such move"),
-        (CASTLING, "Kf1", "e1f1"),
-        (CASTLING, "Kd1", "e1d1"),
-        (CASTLING, "Rf1", "h1f1"),
-        (CASTLING, "Rd1", "a1d1"),
-        ("r3k2r/8/8/8/8/8/8/R3K2R b KQkq -", "O-O", "e8g8"),
-        ("r3k2r/8/8/8/8/8/8/R3K2R b KQkq -", "O-O-O", "e8c8"),
-        ("r3k2r/8/8/8/8/8/8/R3K2R b KQkq -", "Kg8", "no such move"),
-        ("4kr2/8/8/8/8/8/8/R3K2R w KQ -", "O-O", "no such move"),
-        ("4kr2/8/8/8/8/8/8/R3K2R w KQ -", "O-O-O", "e1c1"),
-        ("4k3/8/8/8/8/8/8/R3K2R w Q -", "O-O", "no such move"),
-        ("4k3/8/8/8/8/8/8/r3K2R w K -", "O-O", "no such move"),
-        ("4k3/8/8/8/8/8/8/5K1R w - -", "Kg1", "f1g1"),
-        ("4k3/8/8/8/8/8/8/5K1R w - -", "O-O", "no such move"),
-    ] {
-        assert_eq!(rt;
-            answer(rt.alloc(), position, word.as_bytes())?.items(),
-            want.as_bytes(),
-            "for {word} at {position}"
-        );
-    }
-    Ok(())
+    rows_are_answered(&rt, rt.alloc(), CASTLING_IS_ITS_WORD_ALONE)
 }
+
+const PROMOTIONS_AND_PAWN_CAPTURES: &str = "8/4P3/8/8/8/8/k7/4K3 w - - | e8=Q | e7e8q
+8/4P3/8/8/8/8/k7/4K3 w - - | e8Q | e7e8q
+8/4P3/8/8/8/8/k7/4K3 w - - | e8=N | e7e8n
+8/4P3/8/8/8/8/k7/4K3 w - - | e8B! | e7e8b
+8/4P3/8/8/8/8/k7/4K3 w - - | e8=R+ | e7e8r
+8/4P3/8/8/8/8/k7/4K3 w - - | Pe7e8=Q# | e7e8q
+8/4P3/8/8/8/8/k7/4K3 w - - | e8 | ambiguous
+8/4P3/8/8/8/8/k7/4K3 w - - | e7e8 | ambiguous
+8/4P3/8/8/8/8/k7/4K3 w - - | Ke2 | e1e2
+8/4P3/8/8/8/8/k7/4K3 w - - | Ke2=Q | no such move
+2r1k3/1P6/8/8/8/8/8/4K3 w - - | bxc8=N# | b7c8n
+2r1k3/1P6/8/8/8/8/8/4K3 w - - | bc8Q | b7c8q
+2r1k3/1P6/8/8/8/8/8/4K3 w - - | c8=R | b7c8r
+2r1k3/1P6/8/8/8/8/8/4K3 w - - | bxc8 | ambiguous
+2r1k3/1P6/8/8/8/8/8/4K3 w - - | b8=Q | b7b8q
+2r1k3/1P6/8/8/8/8/8/4K3 w - - | bxa8=Q | no such move
+4k3/8/8/8/8/8/p7/4K3 b - - | a1=N | a2a1n
+4k3/8/8/3pP3/8/8/8/4K3 w - d6 | exd6 | e5d6
+4k3/8/8/3pP3/8/8/8/4K3 w - d6 | exd6+ | e5d6
+4k3/8/8/3pP3/8/8/8/4K3 w - d6 | ed6 | e5d6
+4k3/8/8/3pP3/8/8/8/4K3 w - d6 | exd6e.p. | not SAN
+4k3/8/8/3pP3/8/8/8/4K3 w - d6 | exd5 | no such move
+4k3/8/8/3pP3/8/8/8/4K3 w - d6 | e6 | e5e6
+4k3/8/8/3pP3/8/8/8/4K3 w - - | exd6 | no such move";
 
 #[test]
 fn promotions_and_pawn_captures(rt: HostRuntime) -> Result<(), Fail> {
-    for (position, word, want) in [
-        (PROMOTION, "e8=Q", "e7e8q"),
-        (PROMOTION, "e8Q", "e7e8q"),
-        (PROMOTION, "e8=N", "e7e8n"),
-        (PROMOTION, "e8B!", "e7e8b"),
-        (PROMOTION, "e8=R+", "e7e8r"),
-        (PROMOTION, "Pe7e8=Q#", "e7e8q"),
-        (PROMOTION, "e8", "ambiguous"),
-        (PROMOTION, "e7e8", "ambiguous"),
-        (PROMOTION, "Ke2", "e1e2"),
-        (PROMOTION, "Ke2=Q", "no such move"),
-        ("2r1k3/1P6/8/8/8/8/8/4K3 w - -", "bxc8=N#", "b7c8n"),
-        ("2r1k3/1P6/8/8/8/8/8/4K3 w - -", "bc8Q", "b7c8q"),
-        ("2r1k3/1P6/8/8/8/8/8/4K3 w - -", "c8=R", "b7c8r"),
-        ("2r1k3/1P6/8/8/8/8/8/4K3 w - -", "bxc8", "ambiguous"),
-        ("2r1k3/1P6/8/8/8/8/8/4K3 w - -", "b8=Q", "b7b8q"),
-        ("2r1k3/1P6/8/8/8/8/8/4K3 w - -", "bxa8=Q", "no such move"),
-        ("4k3/8/8/8/8/8/p7/4K3 b - -", "a1=N", "a2a1n"),
-        ("4k3/8/8/3pP3/8/8/8/4K3 w - d6", "exd6", "e5d6"),
-        ("4k3/8/8/3pP3/8/8/8/4K3 w - d6", "exd6+", "e5d6"),
-        ("4k3/8/8/3pP3/8/8/8/4K3 w - d6", "ed6", "e5d6"),
-        ("4k3/8/8/3pP3/8/8/8/4K3 w - d6", "exd6e.p.", "not SAN"),
-        ("4k3/8/8/3pP3/8/8/8/4K3 w - d6", "exd5", "no such move"),
-        ("4k3/8/8/3pP3/8/8/8/4K3 w - d6", "e6", "e5e6"),
-        ("4k3/8/8/3pP3/8/8/8/4K3 w - -", "exd6", "no such move"),
-    ] {
-        assert_eq!(rt;
-            answer(rt.alloc(), position, word.as_bytes())?.items(),
-            want.as_bytes(),
-            "for {word} at {position}"
-        );
-    }
-    Ok(())
+    rows_are_answered(&rt, rt.alloc(), PROMOTIONS_AND_PAWN_CAPTURES)
 }
+
+const MEN_THAT_CAN_GO_TO_ONE_SQUARE: &str = "4k3/8/8/8/8/5N2/8/1N2K3 w - - | Nd2 | ambiguous
+4k3/8/8/8/8/5N2/8/1N2K3 w - - | Nbd2 | b1d2
+4k3/8/8/8/8/5N2/8/1N2K3 w - - | Nfd2 | f3d2
+4k3/8/8/8/8/5N2/8/1N2K3 w - - | N1d2 | b1d2
+4k3/8/8/8/8/5N2/8/1N2K3 w - - | N3d2 | f3d2
+4k3/8/8/8/8/5N2/8/1N2K3 w - - | Nb1d2 | b1d2
+4k3/8/8/8/8/5N2/8/1N2K3 w - - | Ncd2 | no such move
+4k3/8/5p2/3N4/6N1/8/8/4K3 w - - | Nxf6+ | ambiguous
+4k3/8/5p2/3N4/6N1/8/8/4K3 w - - | Ngxf6+ | g4f6
+4k3/8/5p2/3N4/6N1/8/8/4K3 w - - | Ndf6 | d5f6
+4k3/8/5p2/3N4/6N1/8/8/4K3 w - - | N5xf6 | d5f6
+4k3/8/8/R7/8/8/8/R3K3 w - - | Ra3 | ambiguous
+4k3/8/8/R7/8/8/8/R3K3 w - - | Raa3 | ambiguous
+4k3/8/8/R7/8/8/8/R3K3 w - - | R1a3 | a1a3
+4k3/8/8/R7/8/8/8/R3K3 w - - | R5a3 | a5a3
+4k3/8/8/R7/8/8/8/R3K3 w - - | Ra1a3 | a1a3
+8/8/1k6/8/4Q2Q/8/8/K6Q w - - | Qe1 | ambiguous
+8/8/1k6/8/4Q2Q/8/8/K6Q w - - | Qhe1 | ambiguous
+8/8/1k6/8/4Q2Q/8/8/K6Q w - - | Q4e1 | ambiguous
+8/8/1k6/8/4Q2Q/8/8/K6Q w - - | Qh4e1 | h4e1
+8/8/1k6/8/4Q2Q/8/8/K6Q w - - | Qee1 | e4e1
+8/8/1k6/8/4Q2Q/8/8/K6Q w - - | Q1e1 | h1e1
+4k3/8/8/3p4/2P1P3/8/8/4K3 w - - | d5 | ambiguous
+4k3/8/8/3p4/2P1P3/8/8/4K3 w - - | cxd5 | c4d5
+4k3/8/8/3p4/2P1P3/8/8/4K3 w - - | exd5 | e4d5";
 
 #[test]
 fn men_that_can_go_to_one_square(rt: HostRuntime) -> Result<(), Fail> {
-    for (position, word, want) in [
-        ("4k3/8/8/8/8/5N2/8/1N2K3 w - -", "Nd2", "ambiguous"),
-        ("4k3/8/8/8/8/5N2/8/1N2K3 w - -", "Nbd2", "b1d2"),
-        ("4k3/8/8/8/8/5N2/8/1N2K3 w - -", "Nfd2", "f3d2"),
-        ("4k3/8/8/8/8/5N2/8/1N2K3 w - -", "N1d2", "b1d2"),
-        ("4k3/8/8/8/8/5N2/8/1N2K3 w - -", "N3d2", "f3d2"),
-        ("4k3/8/8/8/8/5N2/8/1N2K3 w - -", "Nb1d2", "b1d2"),
-        ("4k3/8/8/8/8/5N2/8/1N2K3 w - -", "Ncd2", "no such move"),
-        ("4k3/8/5p2/3N4/6N1/8/8/4K3 w - -", "Nxf6+", "ambiguous"),
-        ("4k3/8/5p2/3N4/6N1/8/8/4K3 w - -", "Ngxf6+", "g4f6"),
-        ("4k3/8/5p2/3N4/6N1/8/8/4K3 w - -", "Ndf6", "d5f6"),
-        ("4k3/8/5p2/3N4/6N1/8/8/4K3 w - -", "N5xf6", "d5f6"),
-        ("4k3/8/8/R7/8/8/8/R3K3 w - -", "Ra3", "ambiguous"),
-        ("4k3/8/8/R7/8/8/8/R3K3 w - -", "Raa3", "ambiguous"),
-        ("4k3/8/8/R7/8/8/8/R3K3 w - -", "R1a3", "a1a3"),
-        ("4k3/8/8/R7/8/8/8/R3K3 w - -", "R5a3", "a5a3"),
-        ("4k3/8/8/R7/8/8/8/R3K3 w - -", "Ra1a3", "a1a3"),
-        ("8/8/1k6/8/4Q2Q/8/8/K6Q w - -", "Qe1", "ambiguous"),
-        ("8/8/1k6/8/4Q2Q/8/8/K6Q w - -", "Qhe1", "ambiguous"),
-        ("8/8/1k6/8/4Q2Q/8/8/K6Q w - -", "Q4e1", "ambiguous"),
-        ("8/8/1k6/8/4Q2Q/8/8/K6Q w - -", "Qh4e1", "h4e1"),
-        ("8/8/1k6/8/4Q2Q/8/8/K6Q w - -", "Qee1", "e4e1"),
-        ("8/8/1k6/8/4Q2Q/8/8/K6Q w - -", "Q1e1", "h1e1"),
-        ("4k3/8/8/3p4/2P1P3/8/8/4K3 w - -", "d5", "ambiguous"),
-        ("4k3/8/8/3p4/2P1P3/8/8/4K3 w - -", "cxd5", "c4d5"),
-        ("4k3/8/8/3p4/2P1P3/8/8/4K3 w - -", "exd5", "e4d5"),
-    ] {
-        assert_eq!(rt;
-            answer(rt.alloc(), position, word.as_bytes())?.items(),
-            want.as_bytes(),
-            "for {word} at {position}"
-        );
-    }
-    Ok(())
+    rows_are_answered(&rt, rt.alloc(), MEN_THAT_CAN_GO_TO_ONE_SQUARE)
 }
+
+const PINS_CHECKS_AND_SIGNS: &str = "4r2k/8/8/8/8/8/4N3/1N2K3 w - - | Nc3 | b1c3
+4r2k/8/8/8/8/8/4N3/1N2K3 w - - | Nbc3 | b1c3
+4r2k/8/8/8/8/8/4N3/1N2K3 w - - | Nec3 | no such move
+4r2k/8/8/8/8/8/4N3/1N2K3 w - - | Nd4 | no such move
+4k3/8/8/8/8/8/r7/4K3 w - - | Ke2 | no such move
+4k3/8/8/8/8/8/r7/4K3 w - - | Kf1 | e1f1
+4k3/8/8/8/8/8/8/r3K2R w K - | Kd1 | no such move
+4k3/8/8/8/8/8/8/r3K2R w K - | Rh2 | no such move
+4k3/8/8/8/8/8/8/r3K2R w K - | Ke2 | e1e2
+rnbqkbnr/pppp1ppp/8/4p3/4P3/8/PPPP1PPP/RNBQKBNR b KQkq - | Qh4 | d8h4
+rnbqkbnr/pppp1ppp/8/4p3/4P3/8/PPPP1PPP/RNBQKBNR b KQkq - | Qh4# | d8h4
+rnbqkbnr/pppp1ppp/8/4p3/4P3/8/PPPP1PPP/RNBQKBNR b KQkq - | Qxh4 | d8h4
+rnbqkbnr/pppp1ppp/8/4p3/4P3/8/PPPP1PPP/RNBQKBNR b KQkq - | qh4 | not SAN
+rnb1kbnr/pppp1ppp/8/4p3/6Pq/5P2/PPPPP2P/RNBQKBNR w KQkq - | Kf2 | no such move
+rnb1kbnr/pppp1ppp/8/4p3/6Pq/5P2/PPPPP2P/RNBQKBNR w KQkq - | h3 | no such move";
 
 #[test]
 fn pins_checks_and_signs(rt: HostRuntime) -> Result<(), Fail> {
-    for (position, word, want) in [
-        ("4r2k/8/8/8/8/8/4N3/1N2K3 w - -", "Nc3", "b1c3"),
-        ("4r2k/8/8/8/8/8/4N3/1N2K3 w - -", "Nbc3", "b1c3"),
-        ("4r2k/8/8/8/8/8/4N3/1N2K3 w - -", "Nec3", "no such move"),
-        ("4r2k/8/8/8/8/8/4N3/1N2K3 w - -", "Nd4", "no such move"),
-        ("4k3/8/8/8/8/8/r7/4K3 w - -", "Ke2", "no such move"),
-        ("4k3/8/8/8/8/8/r7/4K3 w - -", "Kf1", "e1f1"),
-        ("4k3/8/8/8/8/8/8/r3K2R w K -", "Kd1", "no such move"),
-        ("4k3/8/8/8/8/8/8/r3K2R w K -", "Rh2", "no such move"),
-        ("4k3/8/8/8/8/8/8/r3K2R w K -", "Ke2", "e1e2"),
-        (
-            "rnbqkbnr/pppp1ppp/8/4p3/4P3/8/PPPP1PPP/RNBQKBNR b KQkq -",
-            "Qh4",
-            "d8h4",
-        ),
-        (
-            "rnbqkbnr/pppp1ppp/8/4p3/4P3/8/PPPP1PPP/RNBQKBNR b KQkq -",
-            "Qh4#",
-            "d8h4",
-        ),
-        (
-            "rnbqkbnr/pppp1ppp/8/4p3/4P3/8/PPPP1PPP/RNBQKBNR b KQkq -",
-            "Qxh4",
-            "d8h4",
-        ),
-        (
-            "rnbqkbnr/pppp1ppp/8/4p3/4P3/8/PPPP1PPP/RNBQKBNR b KQkq -",
-            "qh4",
-            "not SAN",
-        ),
-        (
-            "rnb1kbnr/pppp1ppp/8/4p3/6Pq/5P2/PPPPP2P/RNBQKBNR w KQkq -",
-            "Kf2",
-            "no such move",
-        ),
-        (
-            "rnb1kbnr/pppp1ppp/8/4p3/6Pq/5P2/PPPPP2P/RNBQKBNR w KQkq -",
-            "h3",
-            "no such move",
-        ),
-    ] {
-        assert_eq!(rt;
-            answer(rt.alloc(), position, word.as_bytes())?.items(),
-            want.as_bytes(),
-            "for {word} at {position}"
-        );
-    }
-    Ok(())
+    rows_are_answered(&rt, rt.alloc(), PINS_CHECKS_AND_SIGNS)
 }
 
 #[test]
@@ -246,7 +240,7 @@ fn words_of_255_bytes(rt: HostRuntime) -> Result<(), Fail> {
     ] {
         let mut word = Text::new(rt.alloc());
         word.append(front.as_bytes())?;
-        while word.items().len() < 255 {
+        for _more in front.len()..255 {
             word.push(byte)?;
         }
         assert_eq!(rt;

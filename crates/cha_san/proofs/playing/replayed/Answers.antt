@@ -1,5 +1,5 @@
 -- cha_san/proofs/playing/replayed/Answers.antt
-use Rattle.std.proofs.Common.{◌≡◌, ◌+◌, List, ℕ, Err, inl, inr, refl, sym, ap, subst, ◌∙◌, arith}
+use Rattle.std.proofs.Common.{◌+◌, List, ℕ, inl, inr, refl, sym, ap, subst, ◌∙◌, arith}
 use Rattle.cha_san.specs.Playing.{positions, FollowsBy}
 use Rattle.cha_san.specs.Resolving.{resolved}
 use Rattle.cha_san.proofs.Replayed.{word_played, word_fails, words_played}

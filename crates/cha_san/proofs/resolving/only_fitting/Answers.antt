@@ -1,5 +1,5 @@
 -- cha_san/proofs/resolving/only_fitting/Answers.antt
-use Rattle.std.proofs.Common.{◌≡◌, ◌+◌, drop, Some, sym, ap, ◌∙◌}
+use Rattle.std.proofs.Common.{drop, sym, ap, ◌∙◌}
 use Rattle.std.specs.List.{filter, cons_option}
 use Rattle.cha_san.specs.Fitting.{fits}
 use Rattle.cha_san.proofs.Choosing.{passing, failing, second_passes}

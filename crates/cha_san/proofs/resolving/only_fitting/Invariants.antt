@@ -2,7 +2,6 @@
 use Rattle.std.proofs.Common.{◌≡◌, drop}
 use Rattle.std.specs.List.{filter, cons_option}
 use Rattle.cha_san.specs.Fitting.{fits}
-use Rattle.cha_san.specs.Resolving.{only}
 use Rattle.cha_san.proofs.resolving.only_fitting.Given as goal
 
 -- what was found, and what fits of the moves that are left, are what fits

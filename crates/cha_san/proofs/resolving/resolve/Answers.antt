@@ -1,6 +1,6 @@
 -- cha_san/proofs/resolving/resolve/Answers.antt
-use Rattle.std.proofs.Common.{inl, inr, refl, sym, ◌∙◌}
-use Rattle.cha_san.proofs.Resolved.{says_nothing, Answers, answers_resolved, answers_says, answers_none, answers_more, answers_one, answers_legal, answers_from}
+use Rattle.std.proofs.Common.{inr}
+use Rattle.cha_san.proofs.Resolved.{says_nothing, Answers, answers_resolved, answers_none, answers_more, answers_one, answers_legal, answers_from}
 use Rattle.cha_san.proofs.resolving.resolve.Goals.{After-drop-moves}
 use Rattle.cha_san.proofs.resolving.resolve.Goals as goal
 

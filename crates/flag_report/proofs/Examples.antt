@@ -2,15 +2,12 @@
 use Rattle.std.proofs.Common.{◌≡◌, ℕ, Bool, true, false, List, refl}
 use Rattle.cha_board.specs.declared.men.Color.{Color}
 use Rattle.cha_moves.specs.Step.{Move}
-use Rattle.cha_moves.specs.declared.ends.Standing.{Standing}
 use Rattle.cha_moves.specs.declared.ends.Standing.TheVariants.{Mate, Stalemate, Running}
 use Rattle.pgn_games.specs.declared.marks.ResultMark.{ResultMark}
 use Rattle.pgn_games.specs.declared.marks.ResultMark.TheVariants.{WhiteWins, BlackWins, Draw, Unknown}
 use Rattle.flag_report.specs.declared.found.Verdict.{Verdict}
-use Rattle.flag_report.specs.declared.found.Verdict.TheVariants.{Winnable, Unwinnable, Undecided, Skipped}
-use Rattle.flag_report.specs.declared.rulings.Cause.{Cause}
+use Rattle.flag_report.specs.declared.found.Verdict.TheVariants.{Winnable, Unwinnable, Undecided}
 use Rattle.flag_report.specs.declared.rulings.Cause.TheVariants.{Mate511, Stalemate521, Dead522, Flag69, Recorded, RecordedUndecided}
-use Rattle.flag_report.specs.declared.rulings.Judgment.{Judgment}
 use Rattle.flag_report.specs.Rulings.{win_of, judged, winner_ruling_of, running_ruling_of, ruling_of, is_changed}
 
 -- a mate, whatever was recorded and found

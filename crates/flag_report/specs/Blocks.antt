@@ -38,7 +38,7 @@ verdict_text Unwinnable = codes "unwinnable"
 verdict_text (Undecided depth) = count_text (codes "undecided, depth ") depth
 verdict_text Skipped = codes "skipped"
 
--- the state of a position that is not at its end
+-- the state of a position with neither mate nor stalemate
 unfoldable pub open_status_text : Verdict → Verdict → List ℕ
 open_status_text white black =
     if are_dead white black then codes "dead"
@@ -50,12 +50,13 @@ status_text (Mate winner) white black = codes "checkmate"
 status_text Stalemate white black = codes "stalemate"
 status_text Running white black = open_status_text white black
 
--- the state of a position is `dead`
+-- neither mate nor stalemate, and neither side can mate
 abbrev pub is_dead_standing : Standing → Verdict → Verdict → Bool
 is_dead_standing (Mate winner) white black = false
 is_dead_standing Stalemate white black = false
 is_dead_standing Running white black = are_dead white black
 
+-- the state of a position is `dead`
 unfoldable pub has_dead_status : Board → Verdict → Verdict → Bool
 has_dead_status q white black = is_dead_standing (standing_of q) white black
 

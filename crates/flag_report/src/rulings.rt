@@ -128,10 +128,8 @@ pub fn first_examined(recorded: ResultMark) -> Color
     ensures { result ≡ first_of recorded }
 {
     match recorded {
-        ResultMark::WhiteWins => Color::White,
         ResultMark::BlackWins => Color::Black,
-        ResultMark::Draw => Color::White,
-        ResultMark::Unknown => Color::White,
+        ResultMark::WhiteWins | ResultMark::Draw | ResultMark::Unknown => Color::White,
     }
 }
 

@@ -1,10 +1,12 @@
 //! The table of rulings, row by row.
 
 use super::{Found, verdict};
-use crate::{Cause, Judgment, changes_result, first_examined, ruling};
+use crate::{Cause, Judgment, Verdict, changes_result, first_examined, ruling};
 use cha_board::Color;
+use cha_list::Text;
 use cha_moves::Standing;
 use pgn_games::ResultMark;
+use std::alloc::Global;
 use std::test::Fail;
 
 const MARKS: [ResultMark; 4] = [
@@ -21,16 +23,32 @@ const FINDINGS: [Found; 4] = [
     Found::NotExamined,
 ];
 
-/// A ruling by its letter: a `d`ead position, a `f`lag draw, a winner of whom nothing was shown (`w`), and as
+/// The letter of a ruling: a `d`ead position, a `f`lag draw, a recorded `w`inner of whom nothing was shown, and as
 /// `r`ecorded.
-fn judged(letter: u8, recorded: ResultMark) -> Judgment {
-    let (mark, cause) = match letter {
-        b'd' => (ResultMark::Draw, Cause::Dead522),
-        b'f' => (ResultMark::Draw, Cause::Flag69),
-        b'w' => (recorded, Cause::RecordedUndecided),
-        _ => (recorded, Cause::Recorded),
-    };
-    Judgment { mark, cause }
+fn letter(recorded: ResultMark, found: Judgment) -> u8 {
+    match found.cause {
+        Cause::Dead522 if found.mark == ResultMark::Draw => b'd',
+        Cause::Flag69 if found.mark == ResultMark::Draw => b'f',
+        Cause::RecordedUndecided if found.mark == recorded => b'w',
+        Cause::Recorded if found.mark == recorded => b'r',
+        _ => b'?',
+    }
+}
+
+/// The letters of the rulings that each verdict on Black gives.
+fn put_letters(
+    alloc: Global,
+    recorded: ResultMark,
+    forfeit: bool,
+    white: &Verdict,
+    letters: &mut Text,
+) -> Result<(), Fail> {
+    for on_black in FINDINGS {
+        let black = verdict(alloc, on_black)?;
+        let found = ruling(Standing::Running, recorded, forfeit, white, &black);
+        letters.append(&[letter(recorded, found)])?;
+    }
+    Ok(())
 }
 
 /// A row has a word for each verdict on White, and a letter in it for each verdict on Black: can mate, cannot mate, not
@@ -38,45 +56,23 @@ fn judged(letter: u8, recorded: ResultMark) -> Judgment {
 #[test]
 fn games_that_the_board_does_not_end(rt: HostRuntime) -> Result<(), Fail> {
     let alloc = rt.alloc();
-    for (recorded, forfeit, words) in [
-        (
-            ResultMark::WhiteWins,
-            false,
-            ["rrrr", "rdrr", "wwww", "rrrr"],
-        ),
-        (
-            ResultMark::WhiteWins,
-            true,
-            ["rrrr", "fdff", "wwww", "rrrr"],
-        ),
-        (
-            ResultMark::BlackWins,
-            false,
-            ["rrwr", "rdwr", "rrwr", "rrwr"],
-        ),
-        (
-            ResultMark::BlackWins,
-            true,
-            ["rfwr", "rdwr", "rfwr", "rfwr"],
-        ),
-        (ResultMark::Draw, false, ["rrrr", "rdrr", "rrrr", "rrrr"]),
-        (ResultMark::Draw, true, ["rrrr", "rdrr", "rrrr", "rrrr"]),
-        (ResultMark::Unknown, false, ["rrrr", "rdrr", "rrrr", "rrrr"]),
-        (ResultMark::Unknown, true, ["rrrr", "rdrr", "rrrr", "rrrr"]),
+    for (recorded, forfeit, want) in [
+        (ResultMark::WhiteWins, false, " rrrr rdrr wwww rrrr"),
+        (ResultMark::WhiteWins, true, " rrrr fdff wwww rrrr"),
+        (ResultMark::BlackWins, false, " rrwr rdwr rrwr rrwr"),
+        (ResultMark::BlackWins, true, " rfwr rdwr rfwr rfwr"),
+        (ResultMark::Draw, false, " rrrr rdrr rrrr rrrr"),
+        (ResultMark::Draw, true, " rrrr rdrr rrrr rrrr"),
+        (ResultMark::Unknown, false, " rrrr rdrr rrrr rrrr"),
+        (ResultMark::Unknown, true, " rrrr rdrr rrrr rrrr"),
     ] {
-        for (on_white, word) in FINDINGS.iter().zip(words.iter()) {
-            let white = verdict(alloc, *on_white)?;
-            for (place, letter) in word.as_bytes().iter().enumerate() {
-                let on_black = FINDINGS.get(place).ok_or("four verdicts")?;
-                let black = verdict(alloc, *on_black)?;
-                let found = ruling(Standing::Running, recorded, forfeit, &white, &black);
-                assert_eq!(rt;
-                    found,
-                    judged(*letter, recorded),
-                    "{recorded:?} {forfeit} {word}"
-                );
-            }
+        let mut letters = Text::new(alloc);
+        for on_white in FINDINGS {
+            letters.append(b" ")?;
+            let white = verdict(alloc, on_white)?;
+            put_letters(alloc, recorded, forfeit, &white, &mut letters)?;
         }
+        assert_eq!(rt; letters.items(), want.as_bytes(), "{recorded:?} {forfeit}");
     }
     Ok(())
 }

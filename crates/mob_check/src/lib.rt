@@ -6,8 +6,12 @@
 
 mod bound;
 mod closing;
+#[cfg(test)]
+mod closing_tests;
 mod fixed;
 mod groups;
+#[cfg(test)]
+mod mate_tests;
 mod mates;
 mod pawns;
 mod pieces;
@@ -15,6 +19,8 @@ mod rows;
 mod scene;
 mod sides;
 mod strikes;
+#[cfg(test)]
+mod test_sets;
 
 pub use bound::proves_unwinnable;
 pub use closing::closed;

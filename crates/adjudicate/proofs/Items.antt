@@ -1,5 +1,5 @@
 -- The items of lines.
-use Rattle.std.proofs.Common.{◌≡◌, ℕ, ◌<◌, ◌≤◌, Bool, true, false, not, if◌then◌else◌, List, [], ◌∷◌, length, map, filter, Result, nat_lt, refl, sym, ap, ◌∙◌, arith}
+use Rattle.std.proofs.Common.{◌≡◌, ℕ, ◌<◌, ◌≤◌, true, false, List, [], ◌∷◌, length, Result, nat_lt, refl, sym, ap, arith}
 use Rattle.std.specs.List.{list_all}
 use Rattle.std.proofs.lemmas.Bool.Decides.{nat_tests}
 use Rattle.cha_list.specs.declared.classes.Class.TheVariants.{Blank}
@@ -9,7 +9,7 @@ use Rattle.cha_fen.specs.declared.faults.FenFault.{FenFault}
 use Rattle.cha_fen.specs.declared.faults.FenFault.TheVariants.{Shape}
 use Rattle.cha_fen.specs.Fen.{fen}
 use Rattle.adjudicate.specs.Lines.{lines}
-use Rattle.adjudicate.specs.Outcomes.{Item, counts, line_item, line_read, position_items}
+use Rattle.adjudicate.specs.Outcomes.{counts, line_item, line_read, position_items}
 use Rattle.adjudicate.specs.Outcomes.Item.{RefusedLine}
 
 pub long_line : (text : List ℕ) → 4096 < length text → line_item text ≡ RefusedLine Shape

@@ -1,19 +1,20 @@
 -- What is written so far, one item after another.
-use Rattle.std.proofs.Common.{◌≡◌, ℕ, ◌+◌, ◌^◌, ◌<◌, ◌≤◌, Bool, if◌then◌else◌, List, [], ◌∷◌, ◌++◌, length, map, take, drop, Option, refl, sym, ap, ◌∙◌, arith, append_assoc, append-nil, length-append, take-append-drop, zero-add, subst}
+use Rattle.std.proofs.Common.{◌≡◌, ℕ, ◌+◌, ◌^◌, ◌<◌, ◌≤◌, Bool, if◌then◌else◌, List, [], ◌∷◌, ◌++◌, length, map, take, drop, Option, Some, refl, sym, ap, ◌∙◌, arith, append_assoc, append-nil, length-append, take-append-drop, zero-add, subst}
 use Rattle.std.specs.List.{count_by}
-use Rattle.std.specs.Io.KnownBytes.{Appends, Consumes}
+use Rattle.std.specs.Io.KnownBytes.{Appends}
 use Rattle.std.proofs.lemmas.List.Sums.{sum_by-append, count_by-le-length}
 use Rattle.std.proofs.lemmas.List.{map-append}
 use Rattle.cha_outside.proofs.Adding.{appends_nothing, appends_more}
 use Rattle.cha_outside.specs.Gathering.{Took}
 use Rattle.flag_report.specs.declared.totals.Summary.{Summary}
-use Rattle.cha_decide.specs.declared.decided.Decision.{Decision}
 use Rattle.adjudicate.specs.declared.judging.Judged.{Judged}
+use Rattle.adjudicate.specs.declared.writing.Reported.{Reported}
+use Rattle.adjudicate.specs.declared.writing.Reported.TheVariants.{Whole, SourceFailed, TooLong, SinkFailed}
 use Rattle.adjudicate.specs.declared.orders.Order.{Order}
-use Rattle.adjudicate.specs.Outcomes.{Item, Outcome, IsSoundFor, IsSoundOutcome, AllSound, block_of, block, blocks, summary_of, summary_text, is_bad, is_third, is_open, items_of}
+use Rattle.adjudicate.specs.Outcomes.{Item, Outcome, IsSoundOutcome, AllSound, block_of, block, blocks, summary_of, summary_text, is_bad, is_third, is_open, items_of}
 use Rattle.adjudicate.specs.Report.{IsReport, HasBegun, HasWholeBlocks}
-use Rattle.adjudicate.specs.Runs.{Grew, BeginsWhole}
-use Rattle.adjudicate.specs.Steps.{one_if, Judges, Wrote, WroteUpTo, HasRoom, counted}
+use Rattle.adjudicate.specs.Runs.{Grew, Reports, Begins, BeginsWhole}
+use Rattle.adjudicate.specs.Steps.{one_if, Judges, WroteUpTo, HasRoom, counted}
 
 -- one more outcome
 sound_more : (os : List Outcome) (o : Outcome) → AllSound os → IsSoundOutcome o → AllSound (os ++ o ∷ [])
@@ -132,3 +133,23 @@ one_counted item s judged j = ap (λ t. t.items) j.3
 pub nothing_begun : (order : Order) (left left' a : Option (List ℕ)) (P : List ℕ → Type 0) → Took left left' P → BeginsWhole order left left' a a
 unfolding blocks
 nothing_begun order left left' a P took = (took.0, took.1, ([], appends_nothing a, ([], items_of order took.0, refl, tt, refl)))
+
+-- what is said of one name of an order holds of another
+pub reports_as : (a b : Order) (left left' old now : Option (List ℕ)) → a ≡ b → Reports a left left' old now → Reports b left left' old now
+reports_as a b left left' old now e h = subst (λ o. Reports o left left' old now) e h
+
+pub begins_as : (a b : Order) (left left' old now : Option (List ℕ)) → a ≡ b → Begins a left left' old now → Begins b left left' old now
+begins_as a b left left' old now e h = subst (λ o. Begins o left left' old now) e h
+
+pub begins_whole_as : (a b : Order) (left left' old now : Option (List ℕ)) → a ≡ b → BeginsWhole a left left' old now → BeginsWhole b left left' old now
+begins_whole_as a b left left' old now e h = subst (λ o. BeginsWhole o left left' old now) e h
+
+pub same_order : (r x : Option Order) (a b : Order) → r ≡ x → r ≡ Some a → x ≡ Some b → a ≡ b
+same_order r x a b e f h = cc
+
+-- how a report ended, one way or another
+pub source_failed : (r : Reported) → r ≡ SourceFailed → (r ≡ Whole → ⊥) × (r ≡ SinkFailed → ⊥)
+source_failed r e = ((λ h. let f = sym e ∙ h in cc), (λ h. let f = sym e ∙ h in cc))
+
+pub was_too_long : (r : Reported) → r ≡ TooLong → (r ≡ Whole → ⊥) × (r ≡ SinkFailed → ⊥)
+was_too_long r e = ((λ h. let f = sym e ∙ h in cc), (λ h. let f = sym e ∙ h in cc))

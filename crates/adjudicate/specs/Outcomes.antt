@@ -1,5 +1,5 @@
 -- The items of an input, and what is found about each.
-use Rattle.std.specs.Prelude.{◌≡◌, ℕ, ◌+◌, Bool, true, false, not, ◌||◌, if◌then◌else◌, List, [], ◌∷◌, ◌++◌, length, map, filter, Option, Some, None, Result, Ok, Err, nat_lt, count_by, ⊤}
+use Rattle.std.specs.Prelude.{ℕ, ◌+◌, ◌-◌, Bool, true, false, not, ◌||◌, if◌then◌else◌, List, [], ◌∷◌, ◌++◌, length, map, filter, Option, Some, None, Result, Ok, Err, nat_lt, count_by, slice_index_or, ⊤}
 use Rattle.std.specs.List.{list_all}
 use Rattle.cha_list.specs.declared.classes.Class.TheVariants.{Blank}
 use Rattle.cha_list.specs.Bytes.{in_class}
@@ -8,20 +8,35 @@ use Rattle.cha_board.specs.Board.{Board}
 use Rattle.cha_fen.specs.declared.faults.FenFault.{FenFault}
 use Rattle.cha_fen.specs.declared.faults.FenFault.TheVariants.{Shape}
 use Rattle.cha_fen.specs.Fen.{fen}
+use Rattle.pgn_games.specs.declared.marks.ResultMark.{ResultMark}
+use Rattle.pgn_games.specs.declared.faults.GameFault.{GameFault}
+use Rattle.pgn_games.specs.declared.played.Game.{Game}
+use Rattle.pgn_games.specs.Games.{games}
+use Rattle.cha_san.specs.declared.faults.PlayFault.{PlayFault}
+use Rattle.cha_san.specs.Playing.{positions}
+use Rattle.flag_report.specs.declared.reasons.Unreadable.{Unreadable}
+use Rattle.flag_report.specs.declared.reasons.Unreadable.TheVariants.{Tokens, Moves}
+use Rattle.flag_report.specs.declared.rulings.Judgment.{Judgment}
 use Rattle.flag_report.specs.declared.totals.Summary.{Summary}
 use Rattle.flag_report.specs.Verdicts.{is_undecided}
-use Rattle.flag_report.specs.Blocks.{are_dead, has_dead_status, position_text, refused_text}
-use Rattle.flag_report.specs.Totals.{position_summary_text}
+use Rattle.flag_report.specs.Ends.{standing_of}
+use Rattle.flag_report.specs.Rulings.{ruling_of, first_of, is_changed}
+use Rattle.flag_report.specs.Blocks.{has_dead_status, position_text, refused_text}
+use Rattle.flag_report.specs.Games.{game_text, unreadable_text}
+use Rattle.flag_report.specs.Totals.{game_summary_text, position_summary_text}
 use Rattle.cha_decide.specs.declared.decided.Decision.{Decision}
 use Rattle.cha_decide.specs.Sound.{IsSound}
 use Rattle.adjudicate.specs.declared.orders.Order.{Order}
-use Rattle.adjudicate.specs.declared.orders.Order.TheVariants.{JudgePositions}
+use Rattle.adjudicate.specs.declared.orders.Order.TheVariants.{AdjudicateGames, JudgePositions}
 use Rattle.adjudicate.specs.Lines.{lines}
 
--- an item of an input: a line that is a position, or a line that is none
+-- an item of an input: a line that is a position, a line that is none, a game that was played to a position, with its
+-- recorded result and whether it was lost on time, or a game that cannot be read
 pub data Item : Type 0 where
   PositionLine : Board → Item
   RefusedLine : FenFault → Item
+  PlayedGame : Board → ResultMark → Bool → Item
+  UnreadableGame : Unreadable → Item
 
 -- the most bytes that a line may have
 abbrev pub most_line_bytes : ℕ
@@ -43,8 +58,34 @@ counts text = not (list_all (in_class Blank) text)
 unfoldable pub position_items : List ℕ → List Item
 position_items bytes = map line_item (filter counts (lines bytes))
 
+-- the last of the positions of a game
+abbrev pub final_of : Board → List Board → Board
+final_of start qs = slice_index_or qs (length qs - 1) start
+
+-- the first word of a game that names no move
+abbrev pub stopped_by : Game → PlayFault → Unreadable
+stopped_by game stop = Moves stop.ply (slice_index_or game.words (stop.ply - 1) []) stop.fault
+
+-- the item of a game whose words gave these positions, or not
+abbrev pub played_item : Game → Result (List Board) PlayFault → Item
+played_item game (Ok qs) = PlayedGame (final_of game.start qs) game.recorded game.forfeit
+played_item game (Err stop) = UnreadableGame (stopped_by game stop)
+
+abbrev pub item_unless : Option GameFault → Game → Item
+item_unless None game = played_item game (positions game.start game.words)
+item_unless (Some fault) game = UnreadableGame (Tokens fault)
+
+-- the item of a game: its first fault, or else its first word that names no move, or else its final position
+unfoldable pub game_item : Game → Item
+game_item game = item_unless game.fault game
+
+-- the items of a text of games, in order
+abbrev pub game_items : List ℕ → List Item
+game_items bytes = map game_item (games bytes)
+
 -- the items of an input, in order
 abbrev pub items_of : Order → List ℕ → List Item
+items_of AdjudicateGames bytes = game_items bytes
 items_of JudgePositions bytes = position_items bytes
 
 -- an item, and the verdicts on its position if it has one
@@ -58,6 +99,10 @@ IsSoundFor (PositionLine q) (Some d) = IsSound q White d
 IsSoundFor (PositionLine q) None = ⊥
 IsSoundFor (RefusedLine fault) (Some d) = ⊥
 IsSoundFor (RefusedLine fault) None = ⊤
+IsSoundFor (PlayedGame q recorded forfeit) (Some d) = IsSound q (first_of recorded) d
+IsSoundFor (PlayedGame q recorded forfeit) None = ⊥
+IsSoundFor (UnreadableGame why) (Some d) = ⊥
+IsSoundFor (UnreadableGame why) None = ⊤
 
 abbrev pub IsSoundOutcome : Outcome → Type 0
 IsSoundOutcome o = IsSoundFor o.item o.decision
@@ -67,11 +112,18 @@ abbrev pub AllSound : List Outcome → Type 0
 AllSound [] = ⊤
 AllSound (o ∷ os) = IsSoundOutcome o × AllSound os
 
+-- the result of a game, by its final position and the verdicts on it
+abbrev pub judgment_of : Board → ResultMark → Bool → Decision → Judgment
+judgment_of q recorded forfeit d = ruling_of (standing_of q) recorded forfeit d.white d.black
+
 -- the block of an item under a number
 unfoldable pub block_of : ℕ → Item → Option Decision → List ℕ
 block_of number (PositionLine q) (Some d) = position_text number q d.white d.black
 block_of number (PositionLine q) None = []
 block_of number (RefusedLine fault) d = refused_text number fault
+block_of number (PlayedGame q recorded forfeit) (Some d) = game_text number q recorded d.white d.black (judgment_of q recorded forfeit d)
+block_of number (PlayedGame q recorded forfeit) None = []
+block_of number (UnreadableGame why) d = unreadable_text number why
 
 abbrev pub block : ℕ → Outcome → List ℕ
 block number o = block_of number o.item o.decision
@@ -81,16 +133,21 @@ unfoldable pub blocks : ℕ → List Outcome → List ℕ
 blocks number [] = []
 blocks number (o ∷ os) = block number o ++ blocks (number + 1) os
 
--- an item that is refused
+-- an item that is refused or unreadable
 abbrev pub is_bad_item : Item → Bool
 is_bad_item (PositionLine q) = false
 is_bad_item (RefusedLine fault) = true
+is_bad_item (PlayedGame q recorded forfeit) = false
+is_bad_item (UnreadableGame why) = true
 
--- a position whose state is dead
+-- a position whose state is dead, or a game whose result changes
 abbrev pub is_third_item : Item → Option Decision → Bool
 is_third_item (PositionLine q) (Some d) = has_dead_status q d.white d.black
 is_third_item (PositionLine q) None = false
 is_third_item (RefusedLine fault) d = false
+is_third_item (PlayedGame q recorded forfeit) (Some d) = is_changed recorded (judgment_of q recorded forfeit d).mark
+is_third_item (PlayedGame q recorded forfeit) None = false
+is_third_item (UnreadableGame why) d = false
 
 -- a side of which nothing was shown
 abbrev pub has_open_side : Option Decision → Bool
@@ -113,4 +170,5 @@ summary_of os = record { items = length os; bad = count_by is_bad os; third = co
 
 -- the last line
 abbrev pub summary_text : Order → Summary → List ℕ
+summary_text AdjudicateGames s = game_summary_text s
 summary_text JudgePositions s = position_summary_text s

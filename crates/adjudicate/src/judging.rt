@@ -54,7 +54,7 @@ fn judge_position(alloc: Global, position: &Position, totals: &Summary) -> Resul
 }
 
 /// Whether nothing was shown about one of the sides.
-fn some_undecided(white: &Verdict, black: &Verdict) -> bool
+pub fn some_undecided(white: &Verdict, black: &Verdict) -> bool
     ensures { result ≡ (is_undecided_verdict white.now || is_undecided_verdict black.now) }
 {
     is_undecided(white) || is_undecided(black)
@@ -72,7 +72,7 @@ fn refuse(alloc: Global, fault: FenFault, totals: &Summary) -> Result<Judged, No
 }
 
 /// The totals with one more item, which is bad, counted third or open.
-fn with_one(totals: &Summary, bad: bool, third: bool, undecided: bool) -> Summary
+pub fn with_one(totals: &Summary, bad: bool, third: bool, undecided: bool) -> Summary
     requires { HasRoom totals.now }
     ensures { result ≡ counted_as totals.now bad third undecided }
 {

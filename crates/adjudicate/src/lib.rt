@@ -1,14 +1,17 @@
 //! The one call that reads an input, judges its items and writes the report.
 //!
 //! `orders` has the language of the command words, `gates` the gate of the workers, `endings` how a run ends, `splitting`
-//! the lines of a text, `judging` what is found about one item, `writing` how its block goes out, `positions` a whole
-//! input of positions, and `top` the call `run`.
+//! the lines of a text, `judging` and `playing` what is found about one line and one game, `writing` how its block goes out, `positions` and `games`
+//! whole inputs, and `top` the call `run`.
 #![tactic(auto)]
 
+mod commands;
 mod endings;
+mod games;
 mod gates;
 mod judging;
 mod orders;
+mod playing;
 mod positions;
 mod splitting;
 mod top;

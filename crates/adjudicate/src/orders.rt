@@ -6,6 +6,8 @@ ghost use Rattle.adjudicate.specs.Words.{order};
 /// What the words order.
 #[derive(Clone, Copy, Debug, PartialEq, Eq)]
 pub enum Order {
+    /// `adjudicate`: judge each game of the input, which is in PGN.
+    AdjudicateGames,
     /// `position`: judge each line of the input as a position in FEN.
     JudgePositions,
 }
@@ -17,7 +19,9 @@ pub fn ordered(words: &[String]) -> Option<Order>
 {
     match words {
         [word] => {
-            if word.as_str() == "position" {
+            if word.as_str() == "adjudicate" {
+                Some(Order::AdjudicateGames)
+            } else if word.as_str() == "position" {
                 Some(Order::JudgePositions)
             } else {
                 None

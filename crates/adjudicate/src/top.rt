@@ -7,12 +7,12 @@ ghost use Rattle.adjudicate.specs.Words.{order};
 ghost use Rattle.adjudicate.specs.Runs.{Reports, Begins, BeginsWhole};
 ghost use Rattle.adjudicate.specs.declared.orders.Order.{Order as Orders};
 
+use crate::commands::carry_out;
 use crate::endings::Status;
 use crate::gates::Gate;
-use crate::orders::{Order, ordered};
-use crate::positions::judge_positions;
+use crate::orders::ordered;
 use crate::writing::Reported;
-use cha_outside::{MOST_BYTES, ReadEnd, Sink, Source, read_all};
+use cha_outside::{MOST_BYTES, Sink, Source};
 use std::alloc::Global;
 use std::sync::Wait;
 use std::thread::Threads;
@@ -66,17 +66,10 @@ pub fn run<R: Threads + Wait + Sync, S: Source, K: Sink, G: Gate + Sync>(
     let Some(order) = ordered(words) else {
         return Status::Usage;
     };
-    let bytes = match read_all(alloc, source, MOST_BYTES) {
-        Ok(bytes) => bytes,
-        Err(ReadEnd::ReadFault) => return Status::ReadFault,
-        Err(ReadEnd::TooLong) => return Status::TooLong,
-        Err(ReadEnd::NoMemory) => return Status::NoMemory,
-    };
-    let reported = match order {
-        Order::JudgePositions => judge_positions(alloc, bytes.as_slice(), sink),
-    };
-    match reported {
+    match carry_out(alloc, order, source, sink) {
         Reported::Whole => Status::Done,
+        Reported::SourceFailed => Status::ReadFault,
+        Reported::TooLong => Status::TooLong,
         Reported::SinkFailed => Status::WriteFault,
         Reported::NoMemory => Status::NoMemory,
     }

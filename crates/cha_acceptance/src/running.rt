@@ -24,7 +24,7 @@ pub fn words_of(alloc: Global, line: &str) -> Result<Vec<String>, Fail> {
 }
 
 /// A run over a source and a sink with this room, which fails at the numbered writes.
-pub fn ran<R: Threads + Wait + Sync, S: Source>(
+pub fn run_over<R: Threads + Wait + Sync, S: Source>(
     rt: &R,
     alloc: Global,
     line: &str,

@@ -1,4 +1,4 @@
-use Rattle.std.proofs.Common.{Some, ◌∙◌, ap}
+use Rattle.std.proofs.Common.{Some}
 use Rattle.adjudicate.specs.Outcomes.{is_bad, is_third, is_open, block_of}
 use Rattle.adjudicate.proofs.judging.judge_position.Goals as goal
 

@@ -1,4 +1,4 @@
-use Rattle.std.proofs.Common.{None, refl}
+use Rattle.std.proofs.Common.{None}
 use Rattle.adjudicate.specs.Outcomes.{is_bad, is_third, is_open, block_of}
 use Rattle.adjudicate.proofs.judging.refuse.Goals as goal
 

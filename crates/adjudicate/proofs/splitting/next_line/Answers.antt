@@ -1,4 +1,4 @@
-use Rattle.std.proofs.Common.{◌≡◌, ◌<◌, ◌≤◌, length, ◌∙◌, arith}
+use Rattle.std.proofs.Common.{arith}
 use Rattle.std.proofs.lemmas.Bool.Decides.{nat_tests}
 use Rattle.adjudicate.proofs.LineEnds.{last_cut, next_cut}
 use Rattle.adjudicate.proofs.splitting.next_line.Goals as goal

@@ -1,4 +1,4 @@
-use Rattle.std.proofs.Common.{◌≡◌, ◌+◌, ◌-◌, ◌<◌, length, sym, ap, ◌∙◌, arith}
+use Rattle.std.proofs.Common.{◌-◌, length, ◌∙◌, arith}
 use Rattle.adjudicate.proofs.LineEnds.{return_dropped, no_return, empty_stays}
 use Rattle.adjudicate.proofs.splitting.without_return.Goals as goal
 use Rattle.adjudicate.proofs.splitting.without_return.Goals.{else-end-gt0-via-then-end-gt0+else-line-end-eq13, else-end-gt0-via-else-end-gt0}

@@ -1,15 +1,20 @@
-use Rattle.std.proofs.Common.{Err, ap, ◌∙◌}
-use Rattle.adjudicate.proofs.Progress.{nothing_begun}
+use Rattle.adjudicate.proofs.Progress.{reports_as, begins_as, begins_whole_as, same_order, source_failed, was_too_long}
 use Rattle.adjudicate.proofs.top.run.Goals as goal
 
-pub returns-in-Err-ReadFault-clause-read_begun : goal.returns-in-Err-ReadFault-clause-read_begun
-returns-in-Err-ReadFault-clause-read_begun g c _ o _ =
-    nothing_begun o _ _ _ _ (c.read_all.ensures.read_fault (c.in-Err-ReadFault.is ∙ ap Err c.in-Err-ReadFault.field-0-is))
+pub returns-in-Whole-clause-done : goal.returns-in-Whole-clause-done
+returns-in-Whole-clause-done g c _ o is_order =
+    reports_as _ o _ _ _ _ (same_order _ _ _ o c.ordered.ensures c.in-Some.is is_order) (c.carry_out.ensures.done c.in-Whole.is)
 
-pub returns-in-Err-TooLong-clause-too_long_begun : goal.returns-in-Err-TooLong-clause-too_long_begun
-returns-in-Err-TooLong-clause-too_long_begun g c _ o _ =
-    nothing_begun o _ _ _ _ (c.read_all.ensures.too_long (c.in-Err-TooLong.is ∙ ap Err c.in-Err-TooLong.field-0-is))
+pub returns-in-SourceFailed-clause-read_begun : goal.returns-in-SourceFailed-clause-read_begun
+returns-in-SourceFailed-clause-read_begun g c _ o is_order =
+    let ends = source_failed c.carry_out.result c.in-SourceFailed.is in
+    begins_whole_as _ o _ _ _ _ (same_order _ _ _ o c.ordered.ensures c.in-Some.is is_order) (c.carry_out.ensures.whole ends.0 ends.1)
 
-pub returns-in-Err-NoMemory-clause-memory_begun : goal.returns-in-Err-NoMemory-clause-memory_begun
-returns-in-Err-NoMemory-clause-memory_begun g c _ o _ =
-    nothing_begun o _ _ _ _ (c.read_all.ensures.no_memory (c.in-Err-NoMemory.is ∙ ap Err c.in-Err-NoMemory.field-0-is))
+pub returns-in-TooLong-clause-too_long_begun : goal.returns-in-TooLong-clause-too_long_begun
+returns-in-TooLong-clause-too_long_begun g c _ o is_order =
+    let ends = was_too_long c.carry_out.result c.in-TooLong.is in
+    begins_whole_as _ o _ _ _ _ (same_order _ _ _ o c.ordered.ensures c.in-Some.is is_order) (c.carry_out.ensures.whole ends.0 ends.1)
+
+pub returns-in-SinkFailed-clause-write_begun : goal.returns-in-SinkFailed-clause-write_begun
+returns-in-SinkFailed-clause-write_begun g c _ o is_order =
+    begins_as _ o _ _ _ _ (same_order _ _ _ o c.ordered.ensures c.in-Some.is is_order) (c.carry_out.ensures.cut c.in-SinkFailed.is)

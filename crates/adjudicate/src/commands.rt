@@ -1,0 +1,37 @@
+//! What each order does.
+
+ghost use Rattle.std.specs.Prelude.{◌≡◌, ◌≢◌, ◌≤◌, ◌<◌, ℕ, List, length, Some};
+ghost use Rattle.cha_outside.specs.Faults.{Rose};
+ghost use Rattle.cha_outside.specs.Gathering.{Took};
+ghost use Rattle.adjudicate.specs.Runs.{Reports, Begins, BeginsWhole};
+
+use crate::games::adjudicate_games;
+use crate::orders::Order;
+use crate::positions::judge_positions;
+use crate::writing::Reported;
+use cha_outside::{MOST_BYTES, Sink, Source};
+use std::alloc::Global;
+
+/// Reads a source to its end, and writes the report that an order asks for.
+pub fn carry_out<S: Source, K: Sink>(
+    alloc: Global,
+    order: Order,
+    source: &mut S,
+    sink: &mut K,
+) -> Reported
+    ensures done { result ≡ Reported.Whole → Reports order (S.left source.old) (S.left source.new) (K.written sink.old) (K.written sink.new) }
+    ensures cut { result ≡ Reported.SinkFailed → Begins order (S.left source.old) (S.left source.new) (K.written sink.old) (K.written sink.new) }
+    ensures whole { result ≢ Reported.Whole → result ≢ Reported.SinkFailed → BeginsWhole order (S.left source.old) (S.left source.new) (K.written sink.old) (K.written sink.new) }
+    ensures read_fault { result ≡ Reported.SourceFailed → Rose (S.faults source.old) (S.faults source.new) }
+    ensures write_fault { result ≡ Reported.SinkFailed → Rose (K.faults sink.old) (K.faults sink.new) }
+    ensures too_long { result ≡ Reported.TooLong → Took (S.left source.old) (S.left source.new) (λ taken. MOST_BYTES < length taken) }
+    ensures not_too_long { result ≢ Reported.TooLong → result ≢ Reported.NoMemory → Took (S.left source.old) (S.left source.new) (λ taken. length taken ≤ MOST_BYTES) }
+    ensures never_too_long { (bytes : List ℕ) → S.left source.old ≡ Some bytes → length bytes ≤ MOST_BYTES → result ≢ Reported.TooLong }
+    ensures source_later { S.faults source.old ≤ S.faults source.new }
+    ensures sink_later { K.faults sink.old ≤ K.faults sink.new }
+{
+    match order {
+        Order::AdjudicateGames => adjudicate_games(alloc, source, sink),
+        Order::JudgePositions => judge_positions(alloc, source, sink),
+    }
+}

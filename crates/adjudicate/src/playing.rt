@@ -1,0 +1,126 @@
+//! What is found about one game.
+
+ghost use Rattle.std.specs.Prelude.{◌≡◌, ◌≤◌, None, length, IfOk};
+ghost use Rattle.adjudicate.specs.Outcomes.{game_item, played_item, stopped_by};
+ghost use Rattle.flag_report.specs.Reasons.{IsOfGame, IsOfWord};
+ghost use Rattle.std.specs.Bool.{OnTrue, OnFalse};
+ghost use Rattle.cha_san.specs.Playing.{positions};
+ghost use Rattle.adjudicate.specs.Outcomes.Item.{PlayedGame, UnreadableGame};
+ghost use Rattle.adjudicate.specs.Steps.{Judges, HasRoom};
+
+use crate::judging::{Judged, some_undecided, with_one};
+use cha_board::Position;
+use cha_decide::decide;
+use cha_list::{NoMemory, Text, text_of};
+use cha_san::{PlayFault, SanFault, play};
+use flag_report::{
+    Summary, Unreadable, changes_result, first_examined, game_block, ruling, standing,
+    unreadable_block,
+};
+use pgn_games::{Game, ResultMark};
+use std::alloc::Global;
+
+/// Judges a game.
+#[tactic(auto, unfolding(crate::specs::Outcomes::game_item))]
+pub fn judge_game(alloc: Global, game: Game, totals: &Summary) -> Result<Judged, NoMemory>
+    requires room { HasRoom totals.now }
+    requires few { game.fault ≡ None → length game.words ≤ 12000 }
+    ensures { IfOk result (Judges (game_item game) totals.now) }
+{
+    match game.fault {
+        Some(fault) => give_up(alloc, &Unreadable::Tokens(fault), totals),
+        None => judge_played(alloc, &game, totals),
+    }
+}
+
+/// Judges a game whose text has no fault.
+fn judge_played(alloc: Global, game: &Game, totals: &Summary) -> Result<Judged, NoMemory>
+    requires room { HasRoom totals.now }
+    requires readable { game.now.fault ≡ None }
+    requires few { length game.now.words ≤ 12000 }
+    ensures { IfOk result (Judges (played_item game.now (positions game.now.start game.now.words)) totals.now) }
+{
+    match play(alloc, game) {
+        Ok(played) => {
+            let all = played.items();
+            let last = all[all.len() - 1];
+            judge_final(alloc, &last, game.recorded, game.forfeit, totals)
+        }
+        Err(stop) => {
+            if lacks_memory(stop.fault) {
+                return Err(NoMemory);
+            }
+            judge_stopped(alloc, game, stop, totals)
+        }
+    }
+}
+
+/// Judges the final position of a game.
+fn judge_final(
+    alloc: Global,
+    position: &Position,
+    recorded: ResultMark,
+    forfeit: bool,
+    totals: &Summary,
+) -> Result<Judged, NoMemory>
+    requires { HasRoom totals.now }
+    ensures { IfOk result (Judges (PlayedGame position.now recorded forfeit) totals.now) }
+{
+    let decision = decide(alloc, position, first_examined(recorded))?;
+    let white = &decision.white;
+    let black = &decision.black;
+    let judgment = ruling(standing(position), recorded, forfeit, white, black);
+    let number = totals.items + 1;
+    let block = game_block(alloc, number, position, recorded, white, black, judgment)?;
+    let changed = changes_result(recorded, judgment);
+    Ok(Judged {
+        block,
+        totals: with_one(totals, false, changed, some_undecided(white, black)),
+    })
+}
+
+/// Gives up a game at the first word that names no move.
+fn judge_stopped(
+    alloc: Global,
+    game: &Game,
+    stop: PlayFault,
+    totals: &Summary,
+) -> Result<Judged, NoMemory>
+    requires room { HasRoom totals.now }
+    requires of_word { IsOfWord stop.fault }
+    requires inside { (1 ≤ stop.ply) × (stop.ply ≤ length game.now.words) }
+    ensures { IfOk result (Judges (UnreadableGame (stopped_by game.now stop)) totals.now) }
+{
+    let word = &game.words.items()[stop.ply as usize - 1];
+    let why = Unreadable::Moves {
+        ply: stop.ply,
+        word: text_of(alloc, word.items())?,
+        fault: stop.fault,
+    };
+    give_up(alloc, &why, totals)
+}
+
+/// Whether a word named no move because memory was refused.
+fn lacks_memory(fault: SanFault) -> bool
+    ensures refused { OnTrue result (fault ≡ SanFault.NoMemory) }
+    ensures of_word { OnFalse result (IsOfWord fault) }
+{
+    match fault {
+        SanFault::NoMemory => true,
+        SanFault::NotSan => false,
+        SanFault::NoSuchMove => false,
+        SanFault::Ambiguous => false,
+    }
+}
+
+/// Gives up a game that cannot be read.
+fn give_up(alloc: Global, why: &Unreadable, totals: &Summary) -> Result<Judged, NoMemory>
+    requires room { HasRoom totals.now }
+    requires of_game { IsOfGame why.now }
+    ensures { IfOk result (Judges (UnreadableGame why.now) totals.now) }
+{
+    Ok(Judged {
+        block: unreadable_block(alloc, totals.items + 1, why)?,
+        totals: with_one(totals, true, false, false),
+    })
+}

@@ -17,7 +17,7 @@ cha: kit
 	@cp $(PROGRAM) cha
 
 run: cha
-	@./cha position < docs/sample.fen
+	@./cha adjudicate < docs/sample.pgn
 
 test: kit
 	rt ci

@@ -1,0 +1,5 @@
+pub mod Loops
+pub mod Contents
+pub mod Reaches
+pub mod Grounds
+pub mod Filling

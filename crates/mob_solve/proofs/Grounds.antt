@@ -1,21 +1,23 @@
 -- What the parts of a ground are.
-use Rattle.std.proofs.Common.{◌≡◌, ℕ, ◌<◌, Bool, true, false, not, ◌&&◌, ◌||◌, ◌==◌, List, [], ◌∷◌, Option, Some, None, refl, sym, ap, subst, ◌∙◌, arith, inl, inr}
+use Rattle.std.proofs.Common.{◌≡◌, ℕ, ◌<◌, Bool, true, false, not, ◌&&◌, ◌||◌, ◌==◌, List, [], ◌∷◌, Option, Some, None, refl, sym, ap, subst, ◌∙◌, arith, inl, inr, ◌+◌, ◌-◌, ◌≤◌, ◌/◌, IsTrue}
 use Rattle.std.specs.List.{list_any}
-use Rattle.std.proofs.lemmas.Bool.{and_parts, and_from, and_left, and_right, or_cases, both_ways, false_from_ne_true, eq-eqb, eqb-true, cases_Bool}
+use Rattle.std.proofs.lemmas.Bool.{and_parts, and_from, and_left, and_right, or_cases, or_left, both_ways, false_from_ne_true, eq-eqb, eqb-true, cases_Bool}
 use Rattle.cha_board.specs.declared.men.Color.{Color}
+use Rattle.cha_board.specs.declared.men.Color.TheVariants.{White, Black}
 use Rattle.cha_board.specs.declared.men.Kind.{Kind}
+use Rattle.cha_board.specs.declared.men.Kind.TheVariants.{Pawn}
 use Rattle.cha_board.specs.declared.men.Man.{Man}
-use Rattle.cha_board.specs.Men.{same_color, is_non_king}
-use Rattle.cha_board.specs.Squares.{squares, aims_at, steps_apart}
+use Rattle.cha_board.specs.Men.{same_color, is_man, is_non_king}
+use Rattle.cha_board.specs.Squares.{squares, rank_of, aims_at, steps_apart}
 use Rattle.cha_board.specs.SquareSets.{set_of, empty_set, has_square, set_with, set_joined}
 use Rattle.cha_board.specs.SetLaws.{length-set_of, has-set_of, same_set, same_squares}
-use Rattle.cha_board.specs.Board.{Board, man_at}
+use Rattle.cha_board.specs.Board.{Board, man_at, is_empty, target_fits, target_is_good, IsValid}
 use Rattle.cha_board.proofs.Scans.{any_square_at}
-use Rattle.cha_moves.specs.Moves.{is_target}
+use Rattle.cha_moves.specs.Moves.{is_target, victim_of}
 use Rattle.mob_law.specs.Reach.{Sets, is_fixed, is_leaper, guards_as, guards_from}
 use Rattle.mob_law.proofs.Attackers.{some_square}
 use Rattle.mob_solve.specs.Steps.{steps_to, is_stepped_to, spread_of}
-use Rattle.mob_solve.specs.Grounds.{kinds, reaches_from, has_own, is_target_for}
+use Rattle.mob_solve.specs.Grounds.{kinds, reaches_from, has_own, is_target_for, is_victim_at, is_victim_for}
 use Rattle.mob_solve.proofs.Contents.{in_empty, in_single, single_has}
 use Rattle.mob_solve.proofs.Loops.{same_test}
 
@@ -129,3 +131,45 @@ pub guarded_not : (p : Board) (s : Sets) (c : Color) (t i : ℕ) (fixed : List B
 unfolding guards_from
 guarded_not p s c t i fixed small is none =
     and_left (is_fixed p s i) (guards_as c i t (man_at p.men i)) (sym (ap (λ x. has_square x i) is ∙ has-set_of (is_fixed p s) i small) ∙ none)
+
+-- the pawn that is captured en passant
+pub no_victim : (p : Board) (c : Color) → p.target ≡ None → empty_set ≡ set_of (is_victim_for p c)
+unfolding is_victim_for
+no_victim p c none = same_set (λ _. false) (is_victim_for p c) (λ x small. sym (ap (λ t. is_victim_at c t x && same_color c p.side) none))
+
+pub victim_of_other : (p : Board) (c : Color) → same_color c p.side ≡ false → empty_set ≡ set_of (is_victim_for p c)
+unfolding is_victim_for
+victim_of_other p c other = same_set (λ _. false) (is_victim_for p c) (λ x small. sym (and_right (is_victim_at c p.target x) (same_color c p.side) other))
+
+pub victim_of_own : (p : Board) (c : Color) (at v : ℕ) → p.target ≡ Some at → same_color c p.side ≡ true → v ≡ victim_of c at → set_with empty_set v ≡ set_of (is_victim_for p c)
+unfolding is_victim_for set_with
+victim_of_own p c at v is own victim =
+    same_set (λ s. (s == v) || has_square empty_set s) (is_victim_for p c) (λ x small.
+    same_test ((x == v) || has_square empty_set x) (is_victim_at c p.target x && same_color c p.side)
+    (λ h. elim (or_cases (x == v) (has_square empty_set x) h) [
+      | inl e ↦ and_from (is_victim_at c p.target x) (same_color c p.side) (ap (λ t. is_victim_at c t x) is ∙ eq-eqb (victim_of c at) x (sym victim ∙ sym (eqb-true x v e))) own
+      | inr none ↦ absurd (both_ways (has_square empty_set x) (in_empty x) none)
+    ])
+    (λ h. let e : (victim_of c at == x) ≡ true = sym (ap (λ t. is_victim_at c t x) is) ∙ (and_parts (is_victim_at c p.target x) (same_color c p.side) h).0 in
+    or_left (x == v) (has_square empty_set x) (eq-eqb x v (sym (eqb-true (victim_of c at) x e) ∙ sym victim))))
+
+-- a target is on neither of the two ranks at each end
+target_rank : (men : List (Option Man)) (c : Color) (t : ℕ) → target_fits men c t ≡ true → (8 ≤ t) × (t < 56)
+unfolding target_fits
+target_rank men White t h =
+    let a = and_parts ((rank_of t == 5) && is_empty men t && is_empty men (t + 8)) (is_man Black Pawn (man_at men (t - 8))) h in
+    let b = and_parts ((rank_of t == 5) && is_empty men t) (is_empty men (t + 8)) a.0 in
+    let d = and_parts (rank_of t == 5) (is_empty men t) b.0 in
+    let e = eqb-true (rank_of t) 5 d.0 in
+    (omega (arith, e), omega (arith, e))
+target_rank men Black t h =
+    let a = and_parts ((rank_of t == 2) && is_empty men t && is_empty men (t - 8)) (is_man White Pawn (man_at men (t + 8))) h in
+    let b = and_parts ((rank_of t == 2) && is_empty men t) (is_empty men (t - 8)) a.0 in
+    let d = and_parts (rank_of t == 2) (is_empty men t) b.0 in
+    let e = eqb-true (rank_of t) 2 d.0 in
+    (omega (arith, e), omega (arith, e))
+
+pub target_inside : (p : Board) (t : ℕ) → IsValid p → p.target ≡ Some t → (8 ≤ t) × (t < 56)
+target_inside p t valid is =
+    let P : Option ℕ → Type 0 = λ x. IsTrue (target_is_good p.men p.side x) in
+    target_rank p.men p.side t (subst P is valid.target)

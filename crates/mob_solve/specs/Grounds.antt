@@ -1,5 +1,5 @@
 -- What the rules look at besides the entry at hand: what is fixed, guarded and reached in some sets.
-use Rattle.std.specs.Prelude.{ℕ, ◌==◌, Bool, ◌&&◌, List, [], ◌∷◌}
+use Rattle.std.specs.Prelude.{ℕ, ◌==◌, Bool, false, ◌&&◌, List, [], ◌∷◌, Option, Some, None}
 use Rattle.std.specs.List.{list_any}
 use Rattle.cha_board.specs.declared.men.Color.{Color}
 use Rattle.cha_board.specs.declared.men.Color.TheVariants.{White, Black}
@@ -9,7 +9,7 @@ use Rattle.cha_board.specs.Men.{same_color, is_non_king}
 use Rattle.cha_board.specs.Squares.{squares}
 use Rattle.cha_board.specs.SquareSets.{set_of}
 use Rattle.cha_board.specs.Board.{Board, man_at}
-use Rattle.cha_moves.specs.Moves.{is_target}
+use Rattle.cha_moves.specs.Moves.{is_target, victim_of}
 use Rattle.mob_law.specs.Reach.{Sets, is_fixed, is_guarded}
 use Rattle.mob_solve.specs.declared.ground.Ground.{Ground}
 use Rattle.mob_solve.specs.declared.ground.SideGround.{SideGround}
@@ -32,12 +32,21 @@ has_own p c t = is_non_king c (man_at p.men t)
 unfoldable pub is_target_for : Board → Color → ℕ → Bool
 is_target_for p c t = is_target p.target t && same_color c p.side
 
+-- the pawn that it captures so stands on x
+abbrev pub is_victim_at : Color → Option ℕ → ℕ → Bool
+is_victim_at c None x = false
+is_victim_at c (Some t) x = victim_of c t == x
+
+unfoldable pub is_victim_for : Board → Color → ℕ → Bool
+is_victim_for p c x = is_victim_at c p.target x && same_color c p.side
+
 unfoldable pub side_ground_of : Board → Sets → Color → SideGround
 side_ground_of p s c = record {
   men = set_of (has_own p c);
   reach = set_of (is_reached p s c);
   guards = set_of (is_guarded p s c);
   target = set_of (is_target_for p c);
+  victim = set_of (is_victim_for p c);
 }
 
 unfoldable pub ground_of : Board → Sets → Ground

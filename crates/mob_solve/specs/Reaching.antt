@@ -1,5 +1,5 @@
 -- Mobility sets as they grow: a set of squares for each origin and kind.
-use Rattle.std.specs.Prelude.{◌≡◌, ℕ, ◌+◌, ◌<◌, Bool, true, false, List, [], slice_index_or, count_by}
+use Rattle.std.specs.Prelude.{◌≡◌, ℕ, ◌+◌, ◌<◌, Bool, true, false, List, [], take, slice_index_or, count_by}
 use Rattle.std.specs.List.{sum_by}
 use Rattle.cha_board.specs.declared.men.Kind.{Kind}
 use Rattle.cha_board.specs.Squares.{squares}
@@ -25,7 +25,7 @@ size_of set = count_by (has_square set) squares
 
 -- how many entries and loose origins there are
 unfoldable pub total_of : Reach → ℕ
-total_of reach = sum_by size_of reach.rows + size_of reach.loose
+total_of reach = sum_by size_of (take 384 reach.rows) + size_of reach.loose
 
 -- what a step that answers whether something is new has done: nothing, or there are more entries than before
 pub record Grew (old new : Reach) (grew : Bool) : Type 0 where

@@ -9,7 +9,7 @@ use Rattle.cha_board.specs.Men.{other_color, same_kind}
 use Rattle.cha_board.specs.Squares.{squares, rank_of, files_apart, is_rank_ahead}
 use Rattle.cha_board.specs.SquareSets.{set_of, has_square}
 use Rattle.cha_board.specs.Board.{Board, man_at, home_of, has_short_right, has_long_right}
-use Rattle.cha_moves.specs.Moves.{second_rank, fourth_rank, middle, is_promotion, victim_of}
+use Rattle.cha_moves.specs.Moves.{second_rank, fourth_rank, middle, is_promotion}
 use Rattle.mob_law.specs.Reach.{Sets}
 use Rattle.mob_law.specs.Closed.{Castles}
 use Rattle.mob_solve.specs.declared.ground.Ground.{Ground}
@@ -76,13 +76,13 @@ unfoldable pub is_struck : Ground → Color → Kind → List Bool → ℕ → B
 is_struck g c k set x =
     has_square g.fixed x && has_square (side_in g (other_color c)).men x && not (is_barred g c k x) && is_stepped_to c k set x
 
--- a pawn of c that may be on the squares of a set captures en passant onto t at once
+-- as a pawn it captures en passant onto t at once
 unfoldable pub passes_on : Ground → Color → List Bool → ℕ → Bool
 passes_on g c set t = has_square (side_in g c).target t && is_stepped_to c Pawn set t
 
 -- the pawn that it captures so stands on x
 unfoldable pub is_passed : Ground → Color → Kind → List Bool → ℕ → Bool
-is_passed g c k set x = same_kind k Pawn && list_any (λ t. passes_on g c set t && (victim_of c t == x)) squares
+is_passed g c k set x = same_kind k Pawn && list_any (passes_on g c set) squares && has_square (side_in g c).victim x
 
 -- the man of x, which is its origin o, goes from there
 unfoldable pub is_left : Ground → ℕ → Color → Kind → List Bool → ℕ → Bool

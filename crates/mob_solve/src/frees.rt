@@ -1,9 +1,8 @@
 //! Which origins become loose by the man of an origin.
 
-ghost use Rattle.std.specs.Prelude.{◌≡◌, ◌&&◌, ◌==◌};
-ghost use Rattle.cha_board.specs.SquareSets.{set_of, has_square};
-ghost use Rattle.cha_moves.specs.Moves.{victim_of};
-ghost use Rattle.mob_solve.specs.Rules.{is_struck, passes_on, is_passed, is_left, is_freed};
+ghost use Rattle.std.specs.Prelude.{◌≡◌};
+ghost use Rattle.cha_board.specs.SquareSets.{set_of};
+ghost use Rattle.mob_solve.specs.Rules.{is_struck, is_passed, is_left, is_freed};
 
 use crate::goes::{barred_squares, entered};
 use crate::ground::Ground;
@@ -36,36 +35,13 @@ fn passed(ground: &Ground, side: Color, kind: Kind, row: SquareSet) -> SquareSet
     if !kind.is(Kind::Pawn) {
         return SquareSet::empty();
     }
-    let onto = meeting(ground.side(side).target, spread(side, Kind::Pawn, row));
-    let mut victims = SquareSet::empty();
-    for index in 0..64 {
-        if onto.has(Square::at(index)) {
-            victims = victims.joined(victim(side, Square::at(index)));
-        }
-    }
-    victims
-}
-
-/// The square of the pawn that a capture en passant onto a square removes, if it is on the board.
-fn victim(side: Color, onto: Square) -> SquareSet
-    ensures { result ≡ set_of (λ x. victim_of side onto == x) }
-{
-    let index = onto.index();
-    match side {
-        Color::White => {
-            if index < 8 {
-                single(Square::at(0))
-            } else {
-                single(Square::at(index - 8))
-            }
-        }
-        Color::Black => {
-            if index < 56 {
-                single(Square::at(index + 8))
-            } else {
-                SquareSet::empty()
-            }
-        }
+    let own = ground.side(side);
+    // The number of a set tells that it has 64 truth values.
+    let _number = own.victim.bits();
+    if is_none(meeting(own.target, spread(side, Kind::Pawn, row))) {
+        SquareSet::empty()
+    } else {
+        own.victim
     }
 }
 
@@ -73,8 +49,10 @@ fn victim(side: Color, onto: Square) -> SquareSet
 fn left(ground: &Ground, origin: Square, side: Color, kind: Kind, row: SquareSet) -> SquareSet
     ensures { result ≡ set_of (is_left ground.now origin side kind row) }
 {
-    if !row.has(origin) || is_none(entered(ground, side, kind, single(origin))) {
-        return SquareSet::empty();
+    let home = meeting(row, single(origin));
+    if is_none(entered(ground, side, kind, home)) {
+        SquareSet::empty()
+    } else {
+        single(origin)
     }
-    single(origin)
 }

@@ -1,12 +1,13 @@
 //! What the rules look at besides the entry at hand.
 
-ghost use Rattle.std.specs.Prelude.{◌≡◌};
+ghost use Rattle.std.specs.Prelude.{◌≡◌, ◌≤◌, ◌<◌};
 ghost use Rattle.std.specs.List.{list_any};
 ghost use Rattle.cha_board.specs.SquareSets.{set_of};
+ghost use Rattle.cha_moves.specs.Moves.{victim_of};
 ghost use Rattle.mob_law.specs.Reach.{is_fixed, guards_as, is_guarded};
 ghost use Rattle.mob_solve.specs.Steps.{spread_of};
 ghost use Rattle.mob_solve.specs.Reaching.{sets_in};
-ghost use Rattle.mob_solve.specs.Grounds.{kinds, is_reached, has_own, is_target_for, side_ground_of, ground_of, side_in};
+ghost use Rattle.mob_solve.specs.Grounds.{kinds, is_reached, has_own, is_target_for, is_victim_for, side_ground_of, ground_of, side_in};
 
 use crate::reach::Reach;
 use crate::sides::is_man_other_than_king;
@@ -24,6 +25,8 @@ pub struct SideGround {
     pub guards: SquareSet,
     /// The square onto which it may capture en passant at once.
     pub target: SquareSet,
+    /// The square of the pawn that it captures so.
+    pub victim: SquareSet,
 }
 
 /// What the rules look at besides the entry at hand.
@@ -71,6 +74,7 @@ fn side_ground(position: &Position, reach: &Reach, fixed: SquareSet, side: Color
         reach: reached_squares(position, reach, side),
         guards: guarded_squares(position, reach, fixed, side),
         target: target_squares(position, side),
+        victim: victim_squares(position, side),
     }
 }
 
@@ -187,5 +191,34 @@ fn target_squares(position: &Position, side: Color) -> SquareSet
                 SquareSet::empty()
             }
         }
+    }
+}
+
+/// The square of the pawn that a side may capture en passant at once, if there is one.
+fn victim_squares(position: &Position, side: Color) -> SquareSet
+    ensures { result ≡ set_of (is_victim_for position.now side) }
+{
+    let _men = position.men();
+    match position.target() {
+        None => SquareSet::empty(),
+        Some(target) => {
+            if side.is(position.side()) {
+                SquareSet::empty().with(victim(side, target))
+            } else {
+                SquareSet::empty()
+            }
+        }
+    }
+}
+
+/// The square of the pawn that a side captures en passant onto a square.
+fn victim(side: Color, onto: Square) -> Square
+    requires low { 8 ≤ onto }
+    requires high { onto < 56 }
+    ensures { result ≡ victim_of side onto }
+{
+    match side {
+        Color::White => Square::at(onto.index() - 8),
+        Color::Black => Square::at(onto.index() + 8),
     }
 }

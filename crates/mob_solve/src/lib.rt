@@ -6,6 +6,8 @@
 #![tactic(auto)]
 
 mod castling;
+mod closure;
+mod entries;
 mod frees;
 mod goes;
 mod ground;
@@ -15,3 +17,5 @@ mod rows;
 mod sides;
 mod squares;
 mod steps;
+
+pub use closure::least;

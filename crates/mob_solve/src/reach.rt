@@ -11,6 +11,7 @@ ghost use Rattle.mob_solve.specs.Reaching.{row_of, sets_in, Grew};
 use cha_board::{Kind, Square, SquareSet};
 
 /// For each origin and kind the squares that are known to be in reach, and the origins that are known to be loose.
+#[derive(Drop)]
 pub struct Reach {
     pub rows: [SquareSet; 384],
     pub loose: SquareSet,

@@ -14,6 +14,7 @@ use crate::frees::freed;
 use crate::goes::{ends, filled};
 use crate::ground::Ground;
 use crate::reach::Reach;
+use crate::squares::single;
 use cha_board::{Color, Kind, Man, Square, SquareSet};
 
 /// Adds what the rules ask for the man of an origin, and answers whether something is new.
@@ -22,7 +23,7 @@ pub fn grow_man(ground: &Ground, reach: &mut Reach, origin: Square, man: Man) ->
     ensures rules { result ≡ false → ManRules ground.now (sets_in reach.old) origin man }
     ensures inside { (r : Sets) → ManRules ground.now r origin man → IsWithin (sets_in reach.old) r → IsWithin (sets_in reach.new) r }
 {
-    let begun = reach.join(origin, man.kind, SquareSet::empty().with(origin));
+    let begun = reach.join(origin, man.kind, single(origin));
     let pieces = grow_pieces(ground, reach, origin, man.color);
     let pawn = grow_row(ground, reach, origin, man.color, Kind::Pawn);
     begun || pieces || pawn

@@ -18,7 +18,7 @@ returns-clause-change c =
     let inside : c.place.result < length c.args.self.now.rows = omega arith in
     record {
       still = λ e. absurd (true≢false e);
-      more = λ e. joined_total c.args.self.now.rows c.args.self.now.loose c.args.squares c.joined.result c.place.result inside
+      more = λ e. joined_total c.args.self.now.rows c.args.self.now.loose c.args.squares c.joined.result c.place.result inside c.place.ensures.bound
           (c.joined.ensures ∙ ap (λ r. set_joined r c.args.squares) (before c))
           (ap (λ r. is_subset c.args.squares r) (sym (before c)) ∙ sym c.within.ensures ∙ c.if-within.false);
     }

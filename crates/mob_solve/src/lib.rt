@@ -17,5 +17,7 @@ mod rows;
 mod sides;
 mod squares;
 mod steps;
+mod verdicts;
 
 pub use closure::least;
+pub use verdicts::static_verdict;

@@ -17,7 +17,11 @@ mod rows;
 mod sides;
 mod squares;
 mod steps;
+#[cfg(test)]
+mod verdict_tests;
 mod verdicts;
+#[cfg(test)]
+mod worked_tests;
 
 pub use closure::least;
 pub use verdicts::static_verdict;

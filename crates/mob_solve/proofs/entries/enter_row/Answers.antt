@@ -46,18 +46,18 @@ loop-index-preserved c =
                 subst D (sym w.sets-is) (with_within now next r o k c.at-at.result ok (given c.at-at.result there) (so_far.inside r given within)));
           })
       | else-has w ↦ record {
-          grows = subst A (sym w.sets-is) so_far.grows;
-          all = λ u less h. (
-              let B : SetRows → Type 0 = λ (x : SetRows). (sets_of x).has o k u ≡ true in
-              subst B (sym w.sets-is) (
-              elim (cases_eq u c.loop-index.index) [
-                | inl e ↦ absurd (both_ways (has_square c.args.squares u) (ap (has_square c.args.squares) e ∙ here ∙ w.if-has.false) h)
-                | inr ne ↦ so_far.all u (omega (arith, less, ne)) h
-              ]));
-          inside = λ r given within. (
-              let D : SetRows → Type 0 = λ (x : SetRows). IsWithin (sets_of x) r in
-              subst D (sym w.sets-is) (so_far.inside r given within));
-        }
+        grows = subst A (sym w.sets-is) so_far.grows;
+        all = λ u less h. (
+            let B : SetRows → Type 0 = λ (x : SetRows). (sets_of x).has o k u ≡ true in
+            subst B (sym w.sets-is) (
+            elim (cases_eq u c.loop-index.index) [
+              | inl e ↦ absurd (both_ways (has_square c.args.squares u) (ap (has_square c.args.squares) e ∙ here ∙ w.if-has.false) h)
+              | inr ne ↦ so_far.all u (omega (arith, less, ne)) h
+            ]));
+        inside = λ r given within. (
+            let D : SetRows → Type 0 = λ (x : SetRows). IsWithin (sets_of x) r in
+            subst D (sym w.sets-is) (so_far.inside r given within));
+      }
     ]
 
 pub returns-clause-grows : goal.returns-clause-grows

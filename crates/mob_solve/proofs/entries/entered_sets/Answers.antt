@@ -58,20 +58,20 @@ loop-index-preserved c =
                 subst A (sym w.sets-is) (loosened_inside mid next all c.at-origin.result ok there (entered.inside so_far.inside)));
           })
       | else-has w ↦ record {
-          has = λ o less k u h. (
-              let A : SetRows → Type 0 = λ (x : SetRows). (sets_of x).has o k u ≡ true in
-              subst A (sym w.sets-is) (has o less k u h));
-          loose = λ o less h. (
-              let A : SetRows → Type 0 = λ (x : SetRows). (sets_of x).loose o ≡ true in
-              subst A (sym w.sets-is) (
-              elim (cases_eq o c.loop-index.index) [
-                | inl e ↦ absurd (both_ways (all.loose o) (ap (λ (x : ℕ). has_square c.args.reach.now.loose x) e ∙ here ∙ w.if-has.false) h)
-                | inr ne ↦ entered.grows.loose o (so_far.loose o (omega (arith, less, ne)) h)
-              ]));
-          inside = (
-              let A : SetRows → Type 0 = λ (x : SetRows). IsWithin (sets_of x) all in
-              subst A (sym w.sets-is) (entered.inside so_far.inside));
-        }
+        has = λ o less k u h. (
+            let A : SetRows → Type 0 = λ (x : SetRows). (sets_of x).has o k u ≡ true in
+            subst A (sym w.sets-is) (has o less k u h));
+        loose = λ o less h. (
+            let A : SetRows → Type 0 = λ (x : SetRows). (sets_of x).loose o ≡ true in
+            subst A (sym w.sets-is) (
+            elim (cases_eq o c.loop-index.index) [
+              | inl e ↦ absurd (both_ways (all.loose o) (ap (λ (x : ℕ). has_square c.args.reach.now.loose x) e ∙ here ∙ w.if-has.false) h)
+              | inr ne ↦ entered.grows.loose o (so_far.loose o (omega (arith, less, ne)) h)
+            ]));
+        inside = (
+            let A : SetRows → Type 0 = λ (x : SetRows). IsWithin (sets_of x) all in
+            subst A (sym w.sets-is) (entered.inside so_far.inside));
+      }
     ]
 
 pub returns-clause-all : goal.returns-clause-all

@@ -1,0 +1,119 @@
+-- Sets into which others are entered.
+use Rattle.std.proofs.Common.{◌≡◌, ℕ, ◌+◌, ◌*◌, ◌<◌, ◌≤◌, Bool, true, false, ◌&&◌, ◌||◌, ◌==◌, List, [], length, get_or, refl, sym, ap, subst, ◌∙◌, arith, inl, inr}
+use Rattle.std.proofs.lemmas.Bool.{and_parts, or_cases, or_left, or_right, and_from, both_ways, cases_lt, eq-eqb, eqb-true}
+use Rattle.std.proofs.lemmas.List.{get_or_past}
+use Rattle.cha_board.specs.declared.men.Kind.{Kind}
+use Rattle.cha_board.specs.declared.men.Kind.TheVariants.{Pawn, Knight, Bishop, Rook, Queen, King}
+use Rattle.cha_board.specs.Men.{same_kind}
+use Rattle.cha_board.specs.SquareSets.{empty_set, has_square}
+use Rattle.mob_law.specs.Reach.{Sets}
+use Rattle.mob_law.specs.Closed.{IsClosed}
+use Rattle.mob_sets.specs.Rows.{SetRows, has_entry, sets_of, place_of, sets_with, sets_loosened}
+use Rattle.mob_sets.proofs.Order.{same_kind_tells, same_kind_self}
+use Rattle.mob_solve.specs.declared.reach.Reach.{Reach}
+use Rattle.mob_solve.specs.Least.{IsWithin, IsLeast}
+use Rattle.mob_solve.specs.Reaching.{row_of, sets_in}
+use Rattle.cha_board.specs.Board.{Board}
+use Rattle.mob_solve.proofs.Contents.{in_empty}
+
+pub within_self : (s : Sets) → IsWithin s s
+within_self s = record { has = λ o k u h. h; loose = λ o h. h }
+
+pub within_then : (s r t : Sets) → IsWithin s r → IsWithin r t → IsWithin s t
+within_then s r t a b = record { has = λ o k u h. b.has o k u (a.has o k u h); loose = λ o h. b.loose o (a.loose o h) }
+
+-- the empty sets lie within all
+pub nothing_within : (r : Sets) → IsWithin (sets_of (record { rows = []; loose = empty_set })) r
+unfolding has_entry
+nothing_within r = record {
+  has = λ o k u h. cc;
+  loose = λ o h. absurd (both_ways (has_square empty_set o) (in_empty o) h);
+}
+
+-- one more square
+pub with_grows : (s new : Sets) (o : ℕ) (k : Kind) (u : ℕ) → new ≡ sets_with s o k u → IsWithin s new
+with_grows s new o k u is =
+    let P : Sets → Type 0 = λ x. IsWithin s x in
+    subst P (sym is) (record { has = λ p j v h. or_right ((o == p) && same_kind k j && (v == u)) (s.has p j v) h; loose = λ p h. h })
+
+pub with_has : (s new : Sets) (o : ℕ) (k : Kind) (u : ℕ) → new ≡ sets_with s o k u → new.has o k u ≡ true
+with_has s new o k u is =
+    let P : Sets → Type 0 = λ x. x.has o k u ≡ true in
+    subst P (sym is) (or_left ((o == o) && same_kind k k && (u == u)) (s.has o k u)
+    (and_from ((o == o) && same_kind k k) (u == u) (and_from (o == o) (same_kind k k) (eq-eqb o o refl) (same_kind_self k)) (eq-eqb u u refl)))
+
+pub with_within : (s new r : Sets) (o : ℕ) (k : Kind) (u : ℕ) → new ≡ sets_with s o k u → r.has o k u ≡ true → IsWithin s r → IsWithin new r
+with_within s new r o k u is given within =
+    let P : Sets → Type 0 = λ x. IsWithin x r in
+    subst P (sym is) (record {
+      has = λ p j v h. (
+          elim (or_cases ((o == p) && same_kind k j && (v == u)) (s.has p j v) h) [
+            | inl e ↦ (
+                let a = and_parts ((o == p) && same_kind k j) (v == u) e in
+                let b = and_parts (o == p) (same_kind k j) a.0 in
+                let A : ℕ → Type 0 = λ x. r.has x j v ≡ true in
+                let B : Kind → Type 0 = λ x. r.has o x v ≡ true in
+                let C : ℕ → Type 0 = λ x. r.has o k x ≡ true in
+                subst A (eqb-true o p b.0) (subst B (same_kind_tells k j b.1) (subst C (sym (eqb-true v u a.1)) given)))
+            | inr before ↦ within.has p j v before
+          ]);
+      loose = within.loose;
+    })
+
+-- one more loose origin
+pub loosened_grows : (s new : Sets) (o : ℕ) → new ≡ sets_loosened s o → IsWithin s new
+loosened_grows s new o is =
+    let P : Sets → Type 0 = λ x. IsWithin s x in
+    subst P (sym is) (record { has = λ p j v h. h; loose = λ p h. or_right (p == o) (s.loose p) h })
+
+pub loosened_has : (s new : Sets) (o : ℕ) → new ≡ sets_loosened s o → new.loose o ≡ true
+loosened_has s new o is =
+    let P : Sets → Type 0 = λ x. x.loose o ≡ true in
+    subst P (sym is) (or_left (o == o) (s.loose o) (eq-eqb o o refl))
+
+pub loosened_inside : (s new r : Sets) (o : ℕ) → new ≡ sets_loosened s o → r.loose o ≡ true → IsWithin s r → IsWithin new r
+loosened_inside s new r o is given within =
+    let P : Sets → Type 0 = λ x. IsWithin x r in
+    subst P (sym is) (record {
+      has = within.has;
+      loose = λ p h. (
+          elim (or_cases (p == o) (s.loose p) h) [
+            | inl e ↦ (let A : ℕ → Type 0 = λ x. r.loose x ≡ true in subst A (sym (eqb-true p o e)) given)
+            | inr before ↦ within.loose p before
+          ]);
+    })
+
+-- what has grown has only squares of the board as origins
+pub origin_small : (reach : Reach) (o : ℕ) (k : Kind) (u : ℕ) → length reach.rows ≡ 384 → (sets_in reach).has o k u ≡ true → o < 64
+origin_small reach o k u long h =
+    elim (cases_lt o 64) [
+      | inl small ↦ small
+      | inr past ↦ (
+          let beyond : length reach.rows ≤ place_of o k = omega (arith, long, past) in
+          absurd (both_ways ((sets_in reach).has o k u) (ap (λ r. has_square r u) (get_or_past reach.rows (place_of o k) [] beyond)) h))
+    ]
+
+-- a fact for each kind
+pub for_each_kind : (P : Kind → Type 0) → P Pawn → P Knight → P Bishop → P Rook → P Queen → P King → (k : Kind) → P k
+for_each_kind P p n b r q k Pawn = p
+for_each_kind P p n b r q k Knight = n
+for_each_kind P p n b r q k Bishop = b
+for_each_kind P p n b r q k Rook = r
+for_each_kind P p n b r q k Queen = q
+for_each_kind P p n b r q k King = k
+
+same_truth : (a b : Bool) → (a ≡ true → b ≡ true) → (b ≡ true → a ≡ true) → a ≡ b
+same_truth true true h k = refl
+same_truth true false h k = (let e = h refl in cc)
+same_truth false true h k = (let e = k refl in cc)
+same_truth false false h k = refl
+
+-- sets within each other are the same
+pub within_both : (s r : Sets) → IsWithin s r → IsWithin r s → s ≡ r
+within_both s r a b =
+    let each = λ (o : ℕ) (k : Kind) (u : ℕ). same_truth (s.has o k u) (r.has o k u) (a.has o k u) (b.has o k u) in
+    let loose = λ (o : ℕ). same_truth (s.loose o) (r.loose o) (a.loose o) (b.loose o) in
+    λ i. record { has = λ o k u. each o k u i; loose = λ o. loose o i }
+
+pub least_entered : (p : Board) (s r : Sets) → IsWithin s r → IsWithin r s → IsLeast p s → IsLeast p r
+least_entered p s r a b least = (let P : Sets → Type 0 = λ x. IsLeast p x in subst P (within_both s r a b) least)

@@ -1,0 +1,311 @@
+-- The ground of sets, square by square, and that closed sets keep the rules on the ground of any sets within them.
+use Rattle.std.proofs.Common.{◌≡◌, ℕ, ◌+◌, ◌-◌, ◌<◌, Bool, true, false, not, ◌&&◌, ◌||◌, ◌==◌, List, Option, Some, None, refl, sym, ap, subst, ◌∙◌, arith, inl, inr}
+use Rattle.std.specs.List.{list_any}
+use Rattle.std.proofs.lemmas.Bool.{and_parts, and_from, or_cases, or_left, or_right, both_ways, not-true, not-false, eqb-true, cases_Bool}
+use Rattle.cha_board.specs.declared.men.Color.{Color}
+use Rattle.cha_board.specs.declared.men.Color.TheVariants.{White, Black}
+use Rattle.cha_board.specs.declared.men.Kind.{Kind}
+use Rattle.cha_board.specs.declared.men.Kind.TheVariants.{Pawn, Knight, Bishop, Rook, Queen, King}
+use Rattle.cha_board.specs.declared.men.Man.{Man}
+use Rattle.cha_board.specs.Men.{other_color, same_color, same_kind, is_non_king}
+use Rattle.cha_board.specs.Squares.{squares, rank_of, files_apart, is_rank_ahead, aims_at, steps_apart}
+use Rattle.cha_board.specs.SquareSets.{set_of, has_square}
+use Rattle.cha_board.specs.SetLaws.{has-set_of}
+use Rattle.cha_board.specs.Board.{Board, man_at, home_of}
+use Rattle.cha_moves.specs.Moves.{second_rank, fourth_rank, last_rank, middle, is_target, is_promotion, victim_of}
+use Rattle.cha_moves.proofs.Identity.{same_color_equal, same_kind_equal}
+use Rattle.mob_law.specs.Reach.{Sets, is_fixed, is_open, is_leaper, is_guarded}
+use Rattle.mob_law.specs.Closed.{has_fixed_enemy, Entry, Enters, EnemyReaches, IsClosed}
+use Rattle.mob_law.proofs.Attackers.{some_square}
+use Rattle.mob_law.proofs.Geometry.{leap_clear}
+use Rattle.mob_law.proofs.Growing.{Within, free_grows, guard_shrinks, enemy_grows, enemy_forced}
+use Rattle.mob_law.proofs.Standing.{open_near}
+use Rattle.mob_solve.specs.Least.{IsWithin}
+use Rattle.mob_solve.specs.Steps.{steps_to, is_stepped_to, stays}
+use Rattle.mob_solve.specs.Grounds.{kinds, reaches_from, is_reached, has_own, is_target_for, is_victim_at, is_victim_for, side_ground_of, ground_of, side_in}
+use Rattle.mob_solve.specs.Rules.{is_barred, piece_goes, pawn_steps, pawn_double_steps, is_capturable, pawn_captures, pawn_goes, goes_on, StaysIn, is_struck, passes_on, is_passed, is_left, is_freed, AreRules, ManRules, ShortRule, LongRule, CastlingRules, AllRules}
+
+pub fixed_at : (p : Board) (s : Sets) (u : ℕ) → u < 64 → has_square (ground_of p s).fixed u ≡ is_fixed p s u
+unfolding ground_of
+fixed_at p s u small = has-set_of (is_fixed p s) u small
+
+pub guards_at : (p : Board) (s : Sets) (c : Color) (t : ℕ) → t < 64 → has_square (side_in (ground_of p s) c).guards t ≡ is_guarded p s c t
+unfolding ground_of side_ground_of
+guards_at p s White t small = has-set_of (is_guarded p s White) t small
+guards_at p s Black t small = has-set_of (is_guarded p s Black) t small
+
+pub reach_at : (p : Board) (s : Sets) (c : Color) (t : ℕ) → t < 64 → has_square (side_in (ground_of p s) c).reach t ≡ is_reached p s c t
+unfolding ground_of side_ground_of
+reach_at p s White t small = has-set_of (is_reached p s White) t small
+reach_at p s Black t small = has-set_of (is_reached p s Black) t small
+
+pub men_at : (p : Board) (s : Sets) (c : Color) (t : ℕ) → t < 64 → has_square (side_in (ground_of p s) c).men t ≡ is_non_king c (man_at p.men t)
+unfolding ground_of side_ground_of has_own
+men_at p s White t small = has-set_of (has_own p White) t small
+men_at p s Black t small = has-set_of (has_own p Black) t small
+
+pub target_at : (p : Board) (s : Sets) (c : Color) (t : ℕ) → t < 64 → has_square (side_in (ground_of p s) c).target t ≡ (is_target p.target t && same_color c p.side)
+unfolding ground_of side_ground_of is_target_for
+target_at p s White t small = has-set_of (is_target_for p White) t small
+target_at p s Black t small = has-set_of (is_target_for p Black) t small
+
+pub victim_at : (p : Board) (s : Sets) (c : Color) (x : ℕ) → x < 64 → has_square (side_in (ground_of p s) c).victim x ≡ (is_victim_at c p.target x && same_color c p.side)
+unfolding ground_of side_ground_of is_victim_for
+victim_at p s White x small = has-set_of (is_victim_for p White) x small
+victim_at p s Black x small = has-set_of (is_victim_for p Black) x small
+
+-- the pawn that is captured en passant stands behind the target
+victim_behind : (c : Color) (o : Option ℕ) (t x : ℕ) → is_target o t ≡ true → is_victim_at c o x ≡ true → x ≡ victim_of c t
+victim_behind c None t x h k = cc
+victim_behind c (Some u) t x h k =
+    let e = eqb-true u t h in
+    let f = eqb-true (victim_of c u) x k in
+    sym f ∙ ap (victim_of c) e
+
+-- an enemy that is reached is one that is in reach
+some_kind : (f : Kind → Bool) → list_any f kinds ≡ true → (k : Kind) × (f k ≡ true)
+some_kind f h =
+    elim (or_cases (f Pawn) (f Knight || (f Bishop || (f Rook || (f Queen || (f King || false))))) h) [
+      | inl e ↦ (Pawn, e)
+      | inr a ↦ (elim (or_cases (f Knight) (f Bishop || (f Rook || (f Queen || (f King || false)))) a) [
+        | inl e ↦ (Knight, e)
+        | inr b ↦ (elim (or_cases (f Bishop) (f Rook || (f Queen || (f King || false))) b) [
+          | inl e ↦ (Bishop, e)
+          | inr d ↦ (elim (or_cases (f Rook) (f Queen || (f King || false)) d) [
+            | inl e ↦ (Rook, e)
+            | inr i ↦ (elim (or_cases (f Queen) (f King || false) i) [
+              | inl e ↦ (Queen, e)
+              | inr j ↦ (elim (or_cases (f King) false j) [
+                | inl e ↦ (King, e)
+                | inr none ↦ cc
+              ])
+            ])
+          ])
+        ])
+      ])
+    ]
+
+pub any_kind : (f : Kind → Bool) (k : Kind) → f k ≡ true → list_any f kinds ≡ true
+any_kind f Pawn h = or_left (f Pawn) (f Knight || (f Bishop || (f Rook || (f Queen || (f King || false))))) h
+any_kind f Knight h = or_right (f Pawn) (f Knight || (f Bishop || (f Rook || (f Queen || (f King || false))))) (or_left (f Knight) (f Bishop || (f Rook || (f Queen || (f King || false)))) h)
+any_kind f Bishop h = or_right (f Pawn) _ (or_right (f Knight) _ (or_left (f Bishop) (f Rook || (f Queen || (f King || false))) h))
+any_kind f Rook h = or_right (f Pawn) _ (or_right (f Knight) _ (or_right (f Bishop) _ (or_left (f Rook) (f Queen || (f King || false)) h)))
+any_kind f Queen h = or_right (f Pawn) _ (or_right (f Knight) _ (or_right (f Bishop) _ (or_right (f Rook) _ (or_left (f Queen) (f King || false) h))))
+any_kind f King h = or_right (f Pawn) _ (or_right (f Knight) _ (or_right (f Bishop) _ (or_right (f Rook) _ (or_right (f Queen) _ (or_left (f King) false h)))))
+
+enemy_of : (p : Board) (s : Sets) (c : Color) (t o : ℕ) (found : Option Man) → man_at p.men o ≡ found → is_non_king (other_color c) found ≡ true → (k : Kind) → s.has o k t ≡ true → EnemyReaches p s c t
+enemy_of p s c t o None stood enemy k reach = cc
+enemy_of p s c t o (Some man) stood enemy k reach = record { origin = o; man = man; kind = k; stood = stood; enemy = enemy; reach = reach }
+
+pub reached_enemy : (p : Board) (s : Sets) (c : Color) (t : ℕ) → is_reached p s (other_color c) t ≡ true → EnemyReaches p s c t
+unfolding is_reached reaches_from
+reached_enemy p s c t h =
+    let o = some_square (reaches_from p s (other_color c) t) h in
+    let both = and_parts (is_non_king (other_color c) (man_at p.men o.0)) (list_any (λ k. s.has o.0 k t) kinds) o.2 in
+    let k = some_kind (λ k. s.has o.0 k t) both.1 in
+    enemy_of p s c t o.0 (man_at p.men o.0) refl both.0 k.0 k.1
+
+-- a man that goes from u to t
+record Goes (r : Sets) (o : ℕ) (c : Color) (k : Kind) (u t : ℕ) : Type 0 where
+  stay : stays c k t ≡ true → r.has o k t ≡ true
+  become : stays c k t ≡ false → (j : Kind) → is_promotion (Some j) ≡ true → r.has o j t ≡ true
+  leaves : u ≡ o → r.loose o ≡ true
+
+pawn_stays : (c : Color) (t : ℕ) → stays c Pawn t ≡ true → (rank_of t == last_rank c) ≡ false
+unfolding stays
+pawn_stays c t h = not-true (rank_of t == last_rank c) h
+
+pawn_ends : (c : Color) (t : ℕ) → stays c Pawn t ≡ false → (rank_of t == last_rank c) ≡ true
+unfolding stays
+pawn_ends c t h = not-false (rank_of t == last_rank c) h
+
+pub piece_stays : (c : Color) (k : Kind) (t : ℕ) → same_kind k Pawn ≡ false → stays c k t ≡ true
+unfolding stays
+piece_stays c k t other = ap (λ b. not (b && (rank_of t == last_rank c))) other
+
+entered_goes : (p : Board) (r : Sets) (o : ℕ) (c : Color) (u t : ℕ) → Enters p r o c u t → Goes r o c Pawn u t
+entered_goes p r o c u t e = record {
+  stay = λ h. e.stays (pawn_stays c t h);
+  become = λ h. e.becomes (pawn_ends c t h);
+  leaves = e.leaves;
+}
+
+-- Where s lie within r, and r are closed:
+module _ (p : Board) (s r : Sets) (inside : IsWithin s r) (closed : IsClosed p r) where
+  within : Within s r
+  within = record { has = inside.has; loose = inside.loose }
+
+  free_at : (t : ℕ) → t < 64 → has_square (ground_of p s).fixed t ≡ false → is_fixed p r t ≡ false
+  free_at t small h = free_grows p s r within t (sym (fixed_at p s t small) ∙ h)
+
+  unguarded : (c : Color) (k : Kind) (t : ℕ) → t < 64 → is_barred (ground_of p s) c k t ≡ false → same_kind k King ≡ true → is_guarded p r (other_color c) t ≡ false
+  unfolding is_barred
+  unguarded c k t small h king =
+      let none : has_square (side_in (ground_of p s) (other_color c)).guards t ≡ false = sym (ap (λ b. b && has_square (side_in (ground_of p s) (other_color c)).guards t) king) ∙ h in
+      guard_shrinks p s r within (other_color c) t (sym (guards_at p s (other_color c) t small) ∙ none)
+
+  open_step : (c : Color) (k : Kind) (u t : ℕ) → u < 64 → t < 64 → steps_to c k u t ≡ true → (aims_at c k u t ≡ true) × (is_open p r u t ≡ true)
+  unfolding steps_to
+  open_step c k u t small small' h =
+      let both = and_parts (aims_at c k u t) (is_leaper k || (steps_apart u t == 1)) h in
+      (both.0, open_near p r u t (leap_clear c k u t small small' both.0 both.1))
+
+  piece_forced : (o : ℕ) (man : Man) (k : Kind) (u t : ℕ) → man_at p.men o ≡ Some man → r.has o k u ≡ true → u < 64 → t < 64 → same_kind k Pawn ≡ false → piece_goes (ground_of p s) man.color k u t ≡ true
+      → Goes r o man.color k u t
+  unfolding piece_goes
+  piece_forced o man k u t stood reach small small' other h =
+      let g = ground_of p s in
+      let a = and_parts (steps_to man.color k u t && not (is_barred g man.color k t)) (not (has_square g.fixed t)) h in
+      let b = and_parts (steps_to man.color k u t) (not (is_barred g man.color k t)) a.0 in
+      let way = open_step man.color k u t small small' b.0 in
+      let free = free_at t small' (not-true (has_square g.fixed t) a.1) in
+      let rule = closed.pieces_move o man k u t (record { stood = stood; reach = reach; from = small; to = small' }) other way.0 way.1
+      (unguarded man.color k t small' (not-true (is_barred g man.color k t) b.1)) in
+      record { stay = λ _. rule.goes free; become = λ h'. absurd (both_ways (stays man.color k t) h' (piece_stays man.color k t other)); leaves = rule.leaves free }
+
+  pawn_forced : (o : ℕ) (man : Man) (u t : ℕ) → man_at p.men o ≡ Some man → r.has o Pawn u ≡ true → u < 64 → t < 64 → pawn_goes (ground_of p s) man.color u t ≡ true → Enters p r o man.color u t
+  unfolding pawn_goes pawn_steps pawn_double_steps pawn_captures is_capturable
+  pawn_forced o man u t stood reach small small' h =
+      let g = ground_of p s in
+      let c = man.color in
+      let entry : Entry p r o man Pawn u t = record { stood = stood; reach = reach; from = small; to = small' } in
+      let free = has_square g.fixed in
+      elim (or_cases (pawn_steps g c u t || pawn_double_steps g c u t) (pawn_captures g c u t) h) [
+        | inl first ↦ (elim (or_cases (pawn_steps g c u t) (pawn_double_steps g c u t) first) [
+          | inl one ↦ (
+              let a = and_parts ((files_apart u t == 0) && is_rank_ahead c u t) (not (free t)) one in
+              let b = and_parts (files_apart u t == 0) (is_rank_ahead c u t) a.0 in
+              closed.pawns_step o man u t entry (eqb-true (files_apart u t) 0 b.0) b.1 (free_at t small' (not-true (free t) a.1)))
+          | inr two ↦ (
+              let a = and_parts ((files_apart u t == 0) && (rank_of u == second_rank c) && (rank_of t == fourth_rank c) && not (free (middle u t))) (not (free t)) two in
+              let b = and_parts ((files_apart u t == 0) && (rank_of u == second_rank c) && (rank_of t == fourth_rank c)) (not (free (middle u t))) a.0 in
+              let d = and_parts ((files_apart u t == 0) && (rank_of u == second_rank c)) (rank_of t == fourth_rank c) b.0 in
+              let e = and_parts (files_apart u t == 0) (rank_of u == second_rank c) d.0 in
+              let over : middle u t < 64 = omega arith in
+              closed.pawns_double_step o man u t entry (eqb-true (files_apart u t) 0 e.0) (eqb-true (rank_of u) (second_rank c) e.1) (eqb-true (rank_of t) (fourth_rank c) d.1)
+              (free_at (middle u t) over (not-true (free (middle u t)) b.1)) (free_at t small' (not-true (free t) a.1)))
+        ])
+        | inr takes ↦ (
+            let a = and_parts (steps_to c Pawn u t) (is_capturable g c t) takes in
+            let way = open_step c Pawn u t small small' a.0 in
+            let rule = closed.pawns_capture o man u t entry way.0 in
+            elim (or_cases (not (free t) && has_square (side_in g (other_color c)).reach t) (has_square (side_in g c).target t) a.1) [
+              | inl enemy ↦ (
+                  let b = and_parts (not (free t)) (has_square (side_in g (other_color c)).reach t) enemy in
+                  let foe = reached_enemy p s c t (sym (reach_at p s (other_color c) t small') ∙ b.1) in
+                  rule.captures (free_at t small' (not-true (free t) b.0)) (enemy_grows p s r within c t foe))
+              | inr target ↦ (
+                  let b = and_parts (is_target p.target t) (same_color c p.side) (sym (target_at p s c t small') ∙ target) in
+                  rule.en_passant b.0 (same_color_equal c p.side b.1))
+            ])
+      ]
+
+  goes_forced : (o : ℕ) (man : Man) (k : Kind) (u t : ℕ) → man_at p.men o ≡ Some man → r.has o k u ≡ true → u < 64 → t < 64 → goes_on (ground_of p s) man.color k u t ≡ true → Goes r o man.color k u t
+  unfolding goes_on
+  goes_forced o man Pawn u t stood reach small small' h = entered_goes p r o man.color u t (pawn_forced o man u t stood reach small small' h)
+  goes_forced o man Knight u t stood reach small small' h = piece_forced o man Knight u t stood reach small small' refl h
+  goes_forced o man Bishop u t stood reach small small' h = piece_forced o man Bishop u t stood reach small small' refl h
+  goes_forced o man Rook u t stood reach small small' h = piece_forced o man Rook u t stood reach small small' refl h
+  goes_forced o man Queen u t stood reach small small' h = piece_forced o man Queen u t stood reach small small' refl h
+  goes_forced o man King u t stood reach small small' h = piece_forced o man King u t stood reach small small' refl h
+
+  spared : (o : ℕ) (man : Man) (k : Kind) (u x : ℕ) → man_at p.men o ≡ Some man → r.has o k u ≡ true → u < 64 → x < 64 → steps_to man.color k u x ≡ true → is_barred (ground_of p s) man.color k x ≡ false
+      → has_fixed_enemy p r man.color x ≡ false
+  spared o man k u x stood reach small small' steps bar =
+      let way = open_step man.color k u x small small' steps in
+      elim (cases_Bool (same_kind k Pawn)) [
+        | inl e ↦ (
+            let pawn = same_kind_equal k Pawn e in
+            let P : Kind → Type 0 = λ j. r.has o j u ≡ true in
+            let Q : Kind → Type 0 = λ j. aims_at man.color j u x ≡ true in
+            (closed.pawns_capture o man u x (record { stood = stood; reach = subst P pawn reach; from = small; to = small' }) (subst Q pawn way.0)).spares)
+        | inr other ↦ (closed.pieces_move o man k u x (record { stood = stood; reach = reach; from = small; to = small' }) other way.0 way.1 (unguarded man.color k x small' bar)).spares
+      ]
+
+  struck_forced : (o : ℕ) (man : Man) (k : Kind) (set : List Bool) → man_at p.men o ≡ Some man → ((u : ℕ) → has_square set u ≡ true → r.has o k u ≡ true) → (x : ℕ) → x < 64
+      → is_struck (ground_of p s) man.color k set x ≡ true → r.loose x ≡ true
+  unfolding is_struck is_stepped_to has_fixed_enemy
+  struck_forced o man k set stood holds x small h =
+      let g = ground_of p s in
+      let c = man.color in
+      let men = (side_in g (other_color c)).men in
+      let a = and_parts (has_square g.fixed x && has_square men x && not (is_barred g c k x)) (is_stepped_to c k set x) h in
+      let b = and_parts (has_square g.fixed x && has_square men x) (not (is_barred g c k x)) a.0 in
+      let d = and_parts (has_square g.fixed x) (has_square men x) b.0 in
+      let from = some_square (λ u. has_square set u && steps_to c k u x) a.1 in
+      let two = and_parts (has_square set from.0) (steps_to c k from.0 x) from.2 in
+      let none = spared o man k from.0 x stood (holds from.0 two.0) from.1 small two.1 (not-true (is_barred g c k x) b.1) in
+      let here : (is_fixed p s x && is_non_king (other_color c) (man_at p.men x)) ≡ true
+      = and_from (is_fixed p s x) (is_non_king (other_color c) (man_at p.men x)) (sym (fixed_at p s x small) ∙ d.0) (sym (men_at p s (other_color c) x small) ∙ d.1) in
+      enemy_forced p s r c x none here
+
+  passed_forced : (o : ℕ) (man : Man) (k : Kind) (set : List Bool) → man_at p.men o ≡ Some man → ((u : ℕ) → has_square set u ≡ true → r.has o k u ≡ true) → (x : ℕ) → x < 64
+      → is_passed (ground_of p s) man.color k set x ≡ true → r.loose x ≡ true
+  unfolding is_passed passes_on is_stepped_to
+  passed_forced o man k set stood holds x small h =
+      let g = ground_of p s in
+      let c = man.color in
+      let a = and_parts (same_kind k Pawn && list_any (passes_on g c set) squares) (has_square (side_in g c).victim x) h in
+      let b = and_parts (same_kind k Pawn) (list_any (passes_on g c set) squares) a.0 in
+      let t = some_square (passes_on g c set) b.1 in
+      let d = and_parts (has_square (side_in g c).target t.0) (is_stepped_to c Pawn set t.0) t.2 in
+      let from = some_square (λ u. has_square set u && steps_to c Pawn u t.0) d.1 in
+      let two = and_parts (has_square set from.0) (steps_to c Pawn from.0 t.0) from.2 in
+      let pawn = same_kind_equal k Pawn b.0 in
+      let P : Kind → Type 0 = λ j. r.has o j from.0 ≡ true in
+      let reach = subst P pawn (holds from.0 two.0) in
+      let way = open_step c Pawn from.0 t.0 from.1 t.1 two.1 in
+      let target = and_parts (is_target p.target t.0) (same_color c p.side) (sym (target_at p s c t.0 t.1) ∙ d.0) in
+      let victim = and_parts (is_victim_at c p.target x) (same_color c p.side) (sym (victim_at p s c x small) ∙ a.1) in
+      let behind = victim_behind c p.target t.0 x target.0 victim.0 in
+      let Q : ℕ → Type 0 = λ y. r.loose y ≡ true in
+      subst Q (sym behind) ((closed.pawns_capture o man from.0 t.0 (record { stood = stood; reach = reach; from = from.1; to = t.1 }) way.0).victim target.0 (same_color_equal c p.side target.1))
+
+  left_forced : (o : ℕ) (man : Man) (k : Kind) (set : List Bool) → man_at p.men o ≡ Some man → ((u : ℕ) → has_square set u ≡ true → r.has o k u ≡ true) → (x : ℕ) → x < 64
+      → is_left (ground_of p s) o man.color k set x ≡ true → r.loose x ≡ true
+  unfolding is_left
+  left_forced o man k set stood holds x small h =
+      let g = ground_of p s in
+      let c = man.color in
+      let a = and_parts ((x == o) && has_square set o) (list_any (goes_on g c k o) squares) h in
+      let b = and_parts (x == o) (has_square set o) a.0 in
+      let t = some_square (goes_on g c k o) a.1 in
+      let at = eqb-true x o b.0 in
+      let small-o : o < 64 = omega arith in
+      let goes = goes_forced o man k o t.0 stood (holds o b.1) small-o t.1 t.2 in
+      let Q : ℕ → Type 0 = λ y. r.loose y ≡ true in
+      subst Q (sym at) (goes.leaves refl)
+
+  rules_forced : (o : ℕ) (man : Man) (k : Kind) → man_at p.men o ≡ Some man → AreRules (ground_of p s) r o man.color k
+  unfolding is_freed
+  rules_forced o man k stood = record {
+    stay = λ u t small small' here goes stay. (goes_forced o man k u t stood here small small' goes).stay stay;
+    become = λ u t small small' here goes ends. (goes_forced o man k u t stood here small small' goes).become ends;
+    free = λ set holds x small h. (
+        let g = ground_of p s in
+        let c = man.color in
+        elim (or_cases (is_struck g c k set x || is_passed g c k set x) (is_left g o c k set x) h) [
+          | inl e ↦ (elim (or_cases (is_struck g c k set x) (is_passed g c k set x) e) [
+            | inl f ↦ struck_forced o man k set stood holds x small f
+            | inr f ↦ passed_forced o man k set stood holds x small f
+          ])
+          | inr e ↦ left_forced o man k set stood holds x small e
+        ]);
+  }
+
+  castlings_forced : (c : Color) → CastlingRules p (ground_of p s) r c
+  castlings_forced White = record {
+    short = λ right one two. closed.kings_castle_short White right (free_at 5 (omega arith) one) (free_at 6 (omega arith) two);
+    long = λ right one two three. closed.kings_castle_long White right (free_at 3 (omega arith) one) (free_at 2 (omega arith) two) (free_at 1 (omega arith) three);
+  }
+  castlings_forced Black = record {
+    short = λ right one two. closed.kings_castle_short Black right (free_at 61 (omega arith) one) (free_at 62 (omega arith) two);
+    long = λ right one two three. closed.kings_castle_long Black right (free_at 59 (omega arith) one) (free_at 58 (omega arith) two) (free_at 57 (omega arith) three);
+  }
+
+  -- closed sets keep the rules on the ground of sets within them
+  pub all_forced : AllRules p (ground_of p s) r
+  all_forced = record {
+    men = λ o man stood. record { begins = closed.begins o man stood; each = λ k. rules_forced o man k stood };
+    castlings = castlings_forced;
+  }

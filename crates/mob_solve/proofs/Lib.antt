@@ -1,0 +1,13 @@
+pub mod Loops
+pub mod Bits
+pub mod Contents
+pub mod Reaches
+pub mod Grounds
+pub mod Filling
+pub mod Freeing
+pub mod RowRules
+pub mod Grounded
+pub mod Lines
+pub mod Closing
+pub mod Passing
+pub mod Entered

@@ -1,0 +1,139 @@
+-- Loops over squares: what they collect.
+use Rattle.std.proofs.Common.{◌≡◌, ℕ, ◌+◌, ◌<◌, ◌≤◌, Bool, true, false, ◌||◌, ◌==◌, List, length, refl, ap, sym, subst, ◌∙◌, arith, inl, inr}
+use Rattle.std.specs.List.{list_any}
+use Rattle.std.proofs.lemmas.Bool.{both_ways, cases_eq, eq-eqb, ne_eqb, or_cases, or_left, or_right}
+use Rattle.cha_board.specs.Squares.{squares}
+use Rattle.cha_board.specs.SquareSets.{set_of, has_square, empty_set, set_with, set_joined}
+use Rattle.cha_board.specs.SetLaws.{length-set_of, has-set_of, same_squares}
+use Rattle.cha_board.proofs.Scans.{any_square_at}
+use Rattle.mob_law.proofs.Attackers.{some_square}
+
+-- the squares below i that pass a test
+pub record Collects (p : ℕ → Bool) (set : List Bool) (i : ℕ) : Type 0 where
+  pub width : length set ≡ 64
+  pub below : (s : ℕ) → s < i → s < 64 → has_square set s ≡ p s
+  pub above : (s : ℕ) → i ≤ s → s < 64 → has_square set s ≡ false
+
+pub collects_none : (p : ℕ → Bool) → Collects p (set_of (λ _. false)) 0
+collects_none p = record {
+  width = length-set_of (λ _. false);
+  below = λ s less small. absurd (omega (arith, less));
+  above = λ s low small. has-set_of (λ _. false) s small;
+}
+
+pub collects_yes : (p : ℕ → Bool) (set : List Bool) (i : ℕ) → Collects p set i → i < 64 → p i ≡ true → Collects p (set_with set i) (i + 1)
+unfolding set_with
+collects_yes p set i c inside passes =
+    let test = λ (s : ℕ). (s == i) || has_square set s in
+    record {
+      width = length-set_of test;
+      below = λ s less small. (
+          elim (cases_eq s i) [
+            | inl e ↦ has-set_of test s small ∙ ap (λ b. b || has_square set s) (eq-eqb s i e) ∙ sym (ap p e ∙ passes)
+            | inr ne ↦ has-set_of test s small ∙ ap (λ b. b || has_square set s) (ne_eqb s i ne) ∙ c.below s (omega arith) small
+          ]);
+      above = λ s low small. (
+          let ne : (s == i) ≡ false = ne_eqb s i (λ e. omega (arith, e, low)) in
+          has-set_of test s small ∙ ap (λ b. b || has_square set s) ne ∙ c.above s (omega arith) small);
+    }
+
+pub collects_no : (p : ℕ → Bool) (set : List Bool) (i : ℕ) → Collects p set i → p i ≡ false → Collects p set (i + 1)
+collects_no p set i c fails = record {
+  width = c.width;
+  below = λ s less small. (
+      elim (cases_eq s i) [
+        | inl e ↦ c.above s (omega arith) small ∙ sym (ap p e ∙ fails)
+        | inr ne ↦ c.below s (omega arith) small
+      ]);
+  above = λ s low small. c.above s (omega arith) small;
+}
+
+pub collects_all : (p : ℕ → Bool) (set : List Bool) → Collects p set 64 → set ≡ set_of p
+collects_all p set c = same_squares set (set_of p) c.width (length-set_of p) (λ s small. c.below s small small ∙ sym (has-set_of p s small))
+
+-- the next turn of a loop that collects the squares that pass
+pub next_yes : (p : ℕ → Bool) (set next new : List Bool) (i a b : ℕ) (r : Bool) → Collects p set i → i < 64 → a ≡ i → r ≡ p a → r ≡ true → b ≡ i → next ≡ set_with set b → new ≡ next
+    → Collects p new (i + 1)
+next_yes p set next new i a b r c inside at test passed at' with_it is =
+    let P : List Bool → Type 0 = λ x. Collects p x (i + 1) in
+    let passes : p i ≡ true = ap p (sym at) ∙ sym test ∙ passed in
+    let same : new ≡ set_with set i = is ∙ with_it ∙ ap (set_with set) at' in
+    subst P (sym same) (collects_yes p set i c inside passes)
+
+pub next_no : (p : ℕ → Bool) (set new : List Bool) (i a : ℕ) (r : Bool) → Collects p set i → a ≡ i → r ≡ p a → r ≡ false → new ≡ set → Collects p new (i + 1)
+next_no p set new i a r c at test none is =
+    let P : List Bool → Type 0 = λ x. Collects p x (i + 1) in
+    subst P (sym is) (collects_no p set i c (ap p (sym at) ∙ sym test ∙ none))
+
+pub first_none : (p : ℕ → Bool) (set : List Bool) → set ≡ empty_set → Collects p set 0
+first_none p set is =
+    let P : List Bool → Type 0 = λ x. Collects p x 0 in
+    subst P (sym is) (collects_none p)
+
+pub at_end : (p : ℕ → Bool) (set : List Bool) (i : ℕ) → Collects p set i → 64 ≤ i → i ≤ 64 → set ≡ set_of p
+at_end p set i c end below =
+    let P : ℕ → Type 0 = λ x. Collects p set x in
+    let e : i ≡ 64 = omega (arith, end, below) in
+    collects_all p set (subst P e c)
+
+-- where two tests follow from each other, they agree
+pub same_test : (a b : Bool) → (a ≡ true → b ≡ true) → (b ≡ true → a ≡ true) → a ≡ b
+same_test true true h k = refl
+same_test true false h k = (let e = h refl in cc)
+same_test false true h k = (let e = k refl in cc)
+same_test false false h k = refl
+
+-- the squares that the first i squares give
+pub record Gathers (f : ℕ → ℕ → Bool) (set : List Bool) (i : ℕ) : Type 0 where
+  pub width : length set ≡ 64
+  pub some : (t : ℕ) → t < 64 → has_square set t ≡ true → (x : ℕ) × (x < i) × (f x t ≡ true)
+  pub all : (t : ℕ) → t < 64 → (x : ℕ) → x < i → f x t ≡ true → has_square set t ≡ true
+
+pub gathers_none : (f : ℕ → ℕ → Bool) (set : List Bool) → set ≡ empty_set → Gathers f set 0
+gathers_none f set is =
+    let P : List Bool → Type 0 = λ x. Gathers f x 0 in
+    subst P (sym is) (record {
+      width = length-set_of (λ _. false);
+      some = λ t small h. absurd (both_ways (has_square empty_set t) (has-set_of (λ _. false) t small) h);
+      all = λ t small x less h. absurd (omega (arith, less));
+    })
+
+pub gathers_joined : (f : ℕ → ℕ → Bool) (set more new : List Bool) (i : ℕ) → Gathers f set i → ((t : ℕ) → t < 64 → has_square more t ≡ f i t) → new ≡ set_joined set more → Gathers f new (i + 1)
+unfolding set_joined
+gathers_joined f set more new i g gives is =
+    let P : List Bool → Type 0 = λ x. Gathers f x (i + 1) in
+    let test = λ (s : ℕ). has_square set s || has_square more s in
+    subst P (sym is) (record {
+      width = length-set_of test;
+      some = λ t small h. (
+          elim (or_cases (has_square set t) (has_square more t) (sym (has-set_of test t small) ∙ h)) [
+            | inl before ↦ (let k = g.some t small before in (k.0, omega (arith, k.1), k.2))
+            | inr now ↦ (i, omega arith, sym (gives t small) ∙ now)
+          ]);
+      all = λ t small x less h. (
+          elim (cases_eq x i) [
+            | inl e ↦ has-set_of test t small ∙ or_right (has_square set t) (has_square more t) (gives t small ∙ sym (ap (λ y. f y t) e) ∙ h)
+            | inr ne ↦ has-set_of test t small ∙ or_left (has_square set t) (has_square more t) (g.all t small x (omega (arith, less)) h)
+          ]);
+    })
+
+pub gathers_skipped : (f : ℕ → ℕ → Bool) (set new : List Bool) (i : ℕ) → Gathers f set i → ((t : ℕ) → t < 64 → f i t ≡ false) → new ≡ set → Gathers f new (i + 1)
+gathers_skipped f set new i g none is =
+    let P : List Bool → Type 0 = λ x. Gathers f x (i + 1) in
+    subst P (sym is) (record {
+      width = g.width;
+      some = λ t small h. (let k = g.some t small h in (k.0, omega (arith, k.1), k.2));
+      all = λ t small x less h. (
+          elim (cases_eq x i) [
+            | inl e ↦ absurd (both_ways (f i t) (none t small) (sym (ap (λ y. f y t) e) ∙ h))
+            | inr ne ↦ g.all t small x (omega (arith, less)) h
+          ]);
+    })
+
+pub gathers_all : (f : ℕ → ℕ → Bool) (set : List Bool) (i : ℕ) → Gathers f set i → 64 ≤ i → i ≤ 64 → set ≡ set_of (λ t. list_any (λ x. f x t) squares)
+gathers_all f set i g end below =
+    let test = λ (t : ℕ). list_any (λ x. f x t) squares in
+    same_squares set (set_of test) g.width (length-set_of test) (λ t small.
+    same_test (has_square set t) (has_square (set_of test) t)
+    (λ h. let k = g.some t small h in has-set_of test t small ∙ any_square_at (λ x. f x t) k.0 (omega (arith, k.1, below)) k.2)
+    (λ h. let k = some_square (λ x. f x t) (sym (has-set_of test t small) ∙ h) in g.all t small k.0 (omega (arith, k.1, end)) k.2))

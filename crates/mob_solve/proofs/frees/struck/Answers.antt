@@ -1,0 +1,16 @@
+use Rattle.std.proofs.Common.{◌≡◌, ◌&&◌, ◌∙◌, ap, List, Bool, ℕ}
+use Rattle.cha_board.specs.declared.men.Color.{Color}
+use Rattle.cha_board.specs.Men.{other_color}
+use Rattle.cha_board.specs.SquareSets.{set_of, has_square}
+use Rattle.mob_solve.specs.declared.ground.SideGround.{SideGround}
+use Rattle.mob_solve.specs.Grounds.{side_in}
+use Rattle.mob_solve.proofs.Freeing.{struck_are}
+use Rattle.mob_solve.proofs.frees.struck.Goals as goal
+
+pub returns : goal.returns
+returns c =
+    let g = c.args.ground.now in
+    let side : c.side.result.now ≡ side_in g (other_color c.args.side) = c.side.ensures ∙ ap (λ (x : Color). side_in g x) c.other.ensures in
+    struck_are g c.args.side c.args.kind c.args.row c.meeting-prey.result c.barred_squares.result c.without-free.result c.spread.result c.meeting.result
+    (c.meeting-prey.ensures ∙ ap (λ (x : SideGround). set_of (λ (s : ℕ). has_square g.fixed s && has_square x.men s)) side)
+    c.barred_squares.ensures c.without-free.ensures c.spread.ensures c.meeting.ensures

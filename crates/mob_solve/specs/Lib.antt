@@ -1,0 +1,5 @@
+pub mod Least
+pub mod Steps
+pub mod Reaching
+pub mod Grounds
+pub mod Rules

@@ -1,0 +1,34 @@
+//! The least closed sets.
+
+ghost use Rattle.std.specs.Prelude.{IfOk};
+ghost use Rattle.mob_sets.specs.Rows.{sets_of};
+ghost use Rattle.mob_solve.specs.Least.{IsLeast};
+ghost use Rattle.mob_solve.specs.Reaching.{sets_in};
+
+use crate::entries::entered_sets;
+use crate::passes::pass;
+use crate::reach::Reach;
+use cha_board::Position;
+use cha_list::NoMemory;
+use mob_sets::Sets;
+use std::alloc::Global;
+
+/// The least closed sets of a position: they are closed, and they lie within all closed sets.
+pub fn least(alloc: Global, position: &Position) -> Result<Sets, NoMemory>
+    ensures { IfOk result (λ s. IsLeast position.now (sets_of s)) }
+{
+    let sets = entered_sets(alloc, &grown(position))?;
+    Ok(sets)
+}
+
+/// The same, as they grow: a pass over the rules follows another until one adds nothing.
+fn grown(position: &Position) -> Reach
+    ensures { IsLeast position.now (sets_in result) }
+{
+    let mut reach = Reach::empty();
+    let mut grew = true;
+    while grew {
+        grew = pass(position, &mut reach);
+    }
+    reach
+}

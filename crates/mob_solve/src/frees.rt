@@ -1,0 +1,58 @@
+//! Which origins become loose by the man of an origin.
+
+ghost use Rattle.std.specs.Prelude.{◌≡◌};
+ghost use Rattle.cha_board.specs.SquareSets.{set_of};
+ghost use Rattle.mob_solve.specs.Rules.{is_struck, is_passed, is_left, is_freed};
+
+use crate::goes::{barred_squares, entered};
+use crate::ground::Ground;
+use crate::squares::{is_none, meeting, single, without};
+use crate::steps::spread;
+use cha_board::{Color, Kind, Square, SquareSet};
+
+/// The origins that become loose where the man of an origin may be on the squares of a row as a kind.
+pub fn freed(ground: &Ground, origin: Square, side: Color, kind: Kind, row: SquareSet) -> SquareSet
+    ensures { result ≡ set_of (is_freed ground.now origin side kind row) }
+{
+    struck(ground, side, kind, row)
+        .joined(passed(ground, side, kind, row))
+        .joined(left(ground, origin, side, kind, row))
+}
+
+/// The squares of the fixed men of the other side that it may capture.
+fn struck(ground: &Ground, side: Color, kind: Kind, row: SquareSet) -> SquareSet
+    ensures { result ≡ set_of (is_struck ground.now side kind row) }
+{
+    let prey = meeting(ground.fixed, ground.side(side.other()).men);
+    let free = without(prey, barred_squares(ground, side, kind));
+    meeting(free, spread(side, kind, row))
+}
+
+/// The square of the pawn that it may capture en passant at once, if there is one.
+fn passed(ground: &Ground, side: Color, kind: Kind, row: SquareSet) -> SquareSet
+    ensures { result ≡ set_of (is_passed ground.now side kind row) }
+{
+    if !kind.is(Kind::Pawn) {
+        return SquareSet::empty();
+    }
+    let own = ground.side(side);
+    // The number of a set tells that it has 64 truth values.
+    let _number = own.victim.bits();
+    if is_none(meeting(own.target, spread(side, Kind::Pawn, row))) {
+        SquareSet::empty()
+    } else {
+        own.victim
+    }
+}
+
+/// Its origin, if it may go from there.
+fn left(ground: &Ground, origin: Square, side: Color, kind: Kind, row: SquareSet) -> SquareSet
+    ensures { result ≡ set_of (is_left ground.now origin side kind row) }
+{
+    let home = meeting(row, single(origin));
+    if is_none(entered(ground, side, kind, home)) {
+        SquareSet::empty()
+    } else {
+        single(origin)
+    }
+}

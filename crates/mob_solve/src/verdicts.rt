@@ -1,0 +1,36 @@
+//! The static verdict.
+
+ghost use Rattle.std.specs.Prelude.{◌↔◌, IfOk, IfSome, IfNone};
+ghost use Rattle.cha_moves.specs.Ends.{IsUnwinnable};
+ghost use Rattle.mob_law.specs.Closed.{IsClosed};
+ghost use Rattle.mob_law.specs.Threats.{HasNoMate};
+ghost use Rattle.mob_law.specs.Static.{IsStaticallyUnwinnable};
+ghost use Rattle.mob_sets.specs.Rows.{sets_of};
+
+use crate::closure::least;
+use cha_board::{Color, Position};
+use cha_list::NoMemory;
+use mob_check::no_mate;
+use mob_sets::Sets;
+use std::alloc::Global;
+
+/// Mobility sets that are closed for a position and have no mate for a winner, so that it cannot win whatever legal
+/// moves may come; or None where no closed sets are without a mate for it, which leaves the question open.
+pub fn static_verdict(
+    alloc: Global,
+    position: &Position,
+    winner: Color,
+) -> Result<Option<Sets>, NoMemory>
+    ensures closed { IfOk result (λ o. IfSome o (λ s. IsClosed position.now (sets_of s))) }
+    ensures no_mate { IfOk result (λ o. IfSome o (λ s. HasNoMate position.now (sets_of s) winner)) }
+    ensures law { IfOk result (λ o. IfSome o (λ s. IsUnwinnable position.now winner)) }
+    ensures none { IfOk result (λ o. IfNone o (IsStaticallyUnwinnable position.now winner → ⊥)) }
+{
+    let _men = position.men();
+    let sets = least(alloc, position)?;
+    if no_mate(position, winner, &sets) {
+        Ok(Some(sets))
+    } else {
+        Ok(None)
+    }
+}

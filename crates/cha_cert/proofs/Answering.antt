@@ -1,0 +1,22 @@
+-- What a check answers.
+use Rattle.std.proofs.Common.{◌≡◌, List, [], ◌∷◌, Some, None, slice_get, sym, ap, ◌∙◌, ◌↔◌}
+use Rattle.cha_board.specs.declared.men.Color.{Color}
+use Rattle.cha_board.specs.Board.{Board}
+use Rattle.cha_cert.specs.declared.nodes.Node.{Node}
+use Rattle.cha_cert.specs.Certificates.{BeginsAt, NodeHolds, IsValidCert, FirstFailing}
+
+-- where each node holds, the certificate is valid
+pub none_fails : (p : Board) (w : Color) (nodes : List Node) → BeginsAt p nodes → FirstFailing (NodeHolds w nodes) nodes None → IsValidCert p w nodes
+none_fails p w nodes begins holds = record { begins = begins; holds = holds }
+
+-- a list that begins with a node
+begins_with : (p : Board) (nodes : List Node) (first : Node) → slice_get nodes 0 ≡ Some first → first.position ≡ p → BeginsAt p nodes
+begins_with p [] first e same = cc
+begins_with p (node ∷ nodes) first e same = (let one : node ≡ first = cc in ap (λ n. n.position) one ∙ same)
+
+begun : (p : Board) (nodes : List Node) (first : Node) → slice_get nodes 0 ≡ Some first → BeginsAt p nodes → first.position ≡ p
+begun p [] first e begins = absurd begins
+begun p (node ∷ nodes) first e begins = (let one : node ≡ first = cc in sym (ap (λ n. n.position) one) ∙ begins)
+
+pub begins_there : (p : Board) (nodes : List Node) (first : Node) → slice_get nodes 0 ≡ Some first → (BeginsAt p nodes) ↔ (first.position ≡ p)
+begins_there p nodes first e = (begun p nodes first e, begins_with p nodes first e)

@@ -1,0 +1,4 @@
+mod Finding
+mod Bounded
+mod Answering
+mod Leading

@@ -1,0 +1,134 @@
+//! The check of a certificate. It knows nothing of how certificates are found.
+
+ghost use Rattle.std.specs.Prelude.{◌≡◌, ◌<◌, ◌≤◌, ◌^◌, ◌↔◌, length, IsTrue, IfOk};
+ghost use Rattle.cha_board.specs.Men.{other_color};
+ghost use Rattle.cha_moves.specs.Ends.{IsMated, IsUnwinnable};
+ghost use Rattle.cha_cert.specs.declared.checking.Checked.TheVariants.{Accepted};
+ghost use Rattle.cha_cert.specs.Certificates.{IsValidCert, Answers, InnerHolds, LeafHolds, NodeHolds, FirstFailing};
+ghost use Rattle.cha_cert.specs.Places.{Shows, AllValid};
+
+use crate::nodes::{Cert, Node, Part};
+use crate::places::Index;
+use cha_board::{Color, Position};
+use cha_list::NoMemory;
+use cha_moves::{Standing, after, legal, state};
+use cha_pack::same_position;
+use mob_check::proves_unwinnable;
+use mob_sets::Sets;
+use std::alloc::Global;
+
+/// What a check of a certificate answers.
+#[derive(Clone, Copy, Debug, PartialEq, Eq)]
+pub enum Checked {
+    /// The certificate is valid: no series of legal moves from the position mates for the side.
+    Accepted,
+    /// The first node that fails, counted from 0: what it says does not hold, or it is node 0 and has another position than
+    /// the one that is asked. A certificate without nodes fails at 0.
+    Fails(u32),
+}
+
+/// Checks that a certificate shows that no series of legal moves from a position mates for a side (this project).
+///
+/// A leaf holds where its mobility sets are closed for its position and have no mate for the side. An inner node holds
+/// where its position is no mate for the side and each legal move leads to the position of some node.
+pub fn check(
+    alloc: Global,
+    position: &Position,
+    winner: Color,
+    cert: &Cert,
+) -> Result<Checked, NoMemory>
+    requires { length cert.now < 2 ^ 32 }
+    ensures answer { IfOk result (λ checked. Answers position.now winner cert.now checked) }
+    ensures accepted { IfOk result (λ checked. (checked ≡ Accepted) ↔ IsValidCert position.now winner cert.now) }
+    ensures law { IfOk result (λ checked. checked ≡ Accepted → IsUnwinnable position.now winner) }
+{
+    let nodes = cert.nodes();
+    let Some(first) = nodes.first() else {
+        return Ok(Checked::Fails(0));
+    };
+    if !same_position(&first.position, position) {
+        return Ok(Checked::Fails(0));
+    }
+    let index = Index::new(alloc, nodes)?;
+    match first_failing(alloc, nodes, &index, winner)? {
+        None => Ok(Checked::Accepted),
+        Some(number) => Ok(Checked::Fails(number)),
+    }
+}
+
+/// The number of the first node that does not hold.
+fn first_failing(
+    alloc: Global,
+    nodes: &[Node],
+    index: &Index,
+    winner: Color,
+) -> Result<Option<u32>, NoMemory>
+    requires few { length nodes.now < 2 ^ 32 }
+    requires shows { Shows nodes.now index.now }
+    ensures { IfOk result (λ failing. FirstFailing (NodeHolds winner nodes.now) nodes.now failing) }
+{
+    for number in 0..nodes.len() {
+        if !node_holds(alloc, nodes, index, winner, &nodes[number])? {
+            return Ok(Some(number as u32));
+        }
+    }
+    Ok(None)
+}
+
+/// Whether what a node says holds.
+fn node_holds(
+    alloc: Global,
+    nodes: &[Node],
+    index: &Index,
+    winner: Color,
+    node: &Node,
+) -> Result<bool, NoMemory>
+    requires { Shows nodes.now index.now }
+    ensures { IfOk result (λ holds. IsTrue holds ↔ NodeHolds winner nodes.now node.now) }
+{
+    match &node.part {
+        Part::Inner => inner_holds(alloc, nodes, index, winner, &node.position),
+        Part::Leaf(sets) => Ok(leaf_holds(winner, &node.position, sets)),
+    }
+}
+
+/// Whether a position is no mate for a side, and each legal move leads to the position of some node.
+fn inner_holds(
+    alloc: Global,
+    nodes: &[Node],
+    index: &Index,
+    winner: Color,
+    position: &Position,
+) -> Result<bool, NoMemory>
+    requires { Shows nodes.now index.now }
+    ensures { IfOk result (λ holds. IsTrue holds ↔ InnerHolds winner nodes.now position.now) }
+{
+    if is_mate_for(winner, position) {
+        return Ok(false);
+    }
+    let moves = legal(alloc, position)?;
+    for m in &moves {
+        if !index.has(&after(position, *m)) {
+            return Ok(false);
+        }
+    }
+    Ok(true)
+}
+
+/// Whether a position is a mate for a side.
+fn is_mate_for(winner: Color, position: &Position) -> bool
+    ensures { IsTrue result ↔ IsMated position.now (other_color winner) }
+{
+    match state(position) {
+        Standing::Mate(by) => by.is(winner),
+        Standing::Stalemate => false,
+        Standing::Running => false,
+    }
+}
+
+/// Whether mobility sets are closed for a position and have no mate for a side.
+fn leaf_holds(winner: Color, position: &Position, sets: &Sets) -> bool
+    ensures { IsTrue result ↔ LeafHolds winner position.now sets.now }
+{
+    proves_unwinnable(position, winner, sets)
+}

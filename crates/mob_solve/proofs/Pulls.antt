@@ -48,9 +48,9 @@ pull_here a long = record {
       same_test (has_square a t) (list_any (λ u. has_square a u && (u == t)) squares)
       (λ h. any_square_at (λ u. has_square a u && (u == t)) t small (and_from (has_square a t) (t == t) h (eq-eqb t t refl)))
       (λ h. let k = some_square (λ u. has_square a u && (u == t)) h in
-          let both = and_parts (has_square a k.0) (k.0 == t) k.2 in
-          let P : ℕ → Type 0 = λ x. has_square a x ≡ true in
-          subst P (eqb-true k.0 t both.1) both.0);
+      let both = and_parts (has_square a k.0) (k.0 == t) k.2 in
+      let P : ℕ → Type 0 = λ x. has_square a x ≡ true in
+      subst P (eqb-true k.0 t both.1) both.0);
 }
 
 pull_moved : (a x y : List Bool) (leads : ℕ → ℕ → Bool) (inside : ℕ → Bool) (from : ℕ → ℕ) → ((t : ℕ) → t < 64 → inside t ≡ true → from t < 64)
@@ -102,11 +102,11 @@ pull_joined a x y z leads others p q is =
                 any_square_at (both t) k.0 k.1 (and_from (has_square a k.0) (leads k.0 t || others k.0 t) two.0 (or_right (leads k.0 t) (others k.0 t) two.1)))
           ])
           (λ h. let k = some_square (both t) h in
-              let two = and_parts (has_square a k.0) (leads k.0 t || others k.0 t) k.2 in
-              elim (or_cases (leads k.0 t) (others k.0 t) two.1) [
-                | inl e ↦ or_left (list_any (first t) squares) (list_any (second t) squares) (any_square_at (first t) k.0 k.1 (and_from (has_square a k.0) (leads k.0 t) two.0 e))
-                | inr e ↦ or_right (list_any (first t) squares) (list_any (second t) squares) (any_square_at (second t) k.0 k.1 (and_from (has_square a k.0) (others k.0 t) two.0 e))
-              ]);
+          let two = and_parts (has_square a k.0) (leads k.0 t || others k.0 t) k.2 in
+          elim (or_cases (leads k.0 t) (others k.0 t) two.1) [
+            | inl e ↦ or_left (list_any (first t) squares) (list_any (second t) squares) (any_square_at (first t) k.0 k.1 (and_from (has_square a k.0) (leads k.0 t) two.0 e))
+            | inr e ↦ or_right (list_any (first t) squares) (list_any (second t) squares) (any_square_at (second t) k.0 k.1 (and_from (has_square a k.0) (others k.0 t) two.0 e))
+          ]);
     })
 
 -- a set whose squares all pass a test besides
@@ -121,13 +121,13 @@ pull_kept a x y leads kept p is =
           has-set_of (λ s. has_square x s && kept s) t small ∙ ap (λ b. b && kept t) (p.same t small)
           ∙ same_test (list_any (first t) squares && kept t) (list_any (both t) squares)
           (λ h. let e = and_parts (list_any (first t) squares) (kept t) h in
-              let k = some_square (first t) e.0 in
-              let two = and_parts (has_square a k.0) (leads k.0 t) k.2 in
-              any_square_at (both t) k.0 k.1 (and_from (has_square a k.0) (leads k.0 t && kept t) two.0 (and_from (leads k.0 t) (kept t) two.1 e.1)))
+          let k = some_square (first t) e.0 in
+          let two = and_parts (has_square a k.0) (leads k.0 t) k.2 in
+          any_square_at (both t) k.0 k.1 (and_from (has_square a k.0) (leads k.0 t && kept t) two.0 (and_from (leads k.0 t) (kept t) two.1 e.1)))
           (λ h. let k = some_square (both t) h in
-              let two = and_parts (has_square a k.0) (leads k.0 t && kept t) k.2 in
-              let e = and_parts (leads k.0 t) (kept t) two.1 in
-              and_from (list_any (first t) squares) (kept t) (any_square_at (first t) k.0 k.1 (and_from (has_square a k.0) (leads k.0 t) two.0 e.0)) e.1);
+          let two = and_parts (has_square a k.0) (leads k.0 t && kept t) k.2 in
+          let e = and_parts (leads k.0 t) (kept t) two.1 in
+          and_from (list_any (first t) squares) (kept t) (any_square_at (first t) k.0 k.1 (and_from (has_square a k.0) (leads k.0 t) two.0 e.0)) e.1);
     })
 
 -- the same by a relation that agrees on the board
@@ -137,11 +137,11 @@ pull_is a x leads others same p = record {
   same = λ t small.
       p.same t small ∙ same_test (list_any (λ u. has_square a u && leads u t) squares) (list_any (λ u. has_square a u && others u t) squares)
       (λ h. let k = some_square (λ u. has_square a u && leads u t) h in
-          let two = and_parts (has_square a k.0) (leads k.0 t) k.2 in
-          any_square_at (λ u. has_square a u && others u t) k.0 k.1 (and_from (has_square a k.0) (others k.0 t) two.0 (sym (same k.0 t k.1 small) ∙ two.1)))
+      let two = and_parts (has_square a k.0) (leads k.0 t) k.2 in
+      any_square_at (λ u. has_square a u && others u t) k.0 k.1 (and_from (has_square a k.0) (others k.0 t) two.0 (sym (same k.0 t k.1 small) ∙ two.1)))
       (λ h. let k = some_square (λ u. has_square a u && others u t) h in
-          let two = and_parts (has_square a k.0) (others k.0 t) k.2 in
-          any_square_at (λ u. has_square a u && leads u t) k.0 k.1 (and_from (has_square a k.0) (leads k.0 t) two.0 (same k.0 t k.1 small ∙ two.1)));
+      let two = and_parts (has_square a k.0) (others k.0 t) k.2 in
+      any_square_at (λ u. has_square a u && leads u t) k.0 k.1 (and_from (has_square a k.0) (leads k.0 t) two.0 (same k.0 t k.1 small ∙ two.1)));
 }
 
 -- a set that is so
@@ -234,8 +234,9 @@ spreads c k a x way same p = pulled a x (steps_to c k) (pull_is a x way (steps_t
 
 pub king_spreads : (c : Color) (a x : List Bool) → Pulls a x king_way → (x ≡ spread_of c King a) × (x ≡ spread_of c Queen a)
 king_spreads c a x p = (
-    spreads c King a x king_way (λ u t small small'. from_pairs king_way (steps_to White King) king_table u t small small' ∙ sym (any_color c u t).0) p,
-    spreads c Queen a x king_way (λ u t small small'. from_pairs king_way (steps_to White Queen) queen_table u t small small' ∙ sym (any_color c u t).1) p)
+  spreads c King a x king_way (λ u t small small'. from_pairs king_way (steps_to White King) king_table u t small small' ∙ sym (any_color c u t).0) p,
+  spreads c Queen a x king_way (λ u t small small'. from_pairs king_way (steps_to White Queen) queen_table u t small small' ∙ sym (any_color c u t).1) p,
+)
 
 pub rook_spreads : (c : Color) (a x : List Bool) → Pulls a x rook_way → x ≡ spread_of c Rook a
 rook_spreads c a x p = spreads c Rook a x rook_way (λ u t small small'. from_pairs rook_way (steps_to White Rook) rook_table u t small small' ∙ sym (any_color c u t).2) p

@@ -35,28 +35,22 @@ some_in f set same some =
     let k = outside set empty_set some in
     any_square_at f k.0 k.1 (sym (same k.0 k.1) ∙ k.2)
 
-less_both : (a b : Bool) → (a && not (a && b)) ≡ (a && not b)
-less_both true b = refl
-less_both false b = refl
-
 -- the squares that are entered where a man does not stay what it is
-pub ends_are : (g : Ground) (c : Color) (k : Kind) (from come kept last : List Bool) → come ≡ entered_from g c k from → kept ≡ set_of (λ t. has_square come t && stays c k t) → last ≡ minus come kept
-    → last ≡ set_of (ends_on g c k from)
+pub ends_are : (g : Ground) (c : Color) (k : Kind) (from come last : List Bool) → come ≡ entered_from g c k from → last ≡ set_of (λ t. has_square come t && not (stays c k t)) → last ≡ set_of (ends_on g c k from)
 unfolding ends_on
-ends_are g c k from come kept last is kept_is last_is =
-    last_is ∙ same_set (λ s. has_square come s && not (has_square kept s)) (ends_on g c k from) (λ t small.
-    let here : has_square come t ≡ is_entered g c k from t = ap (λ x. has_square x t) is ∙ has-set_of (is_entered g c k from) t small in
-    let stay : has_square kept t ≡ (has_square come t && stays c k t) = ap (λ x. has_square x t) kept_is ∙ has-set_of (λ t. has_square come t && stays c k t) t small in
-    ap (λ b. has_square come t && not b) stay ∙ less_both (has_square come t) (stays c k t) ∙ ap (λ b. b && not (stays c k t)) here)
+ends_are g c k from come last is last_is =
+    last_is ∙ same_set (λ t. has_square come t && not (stays c k t)) (ends_on g c k from) (λ t small.
+    let there : has_square come t ≡ is_entered g c k from t = ap (λ x. has_square x t) is ∙ has-set_of (is_entered g c k from) t small in
+    ap (λ b. b && not (stays c k t)) there)
 
-pub struck_are : (g : Ground) (c : Color) (k : Kind) (row prey barred free spread set : List Bool) → prey ≡ meet g.fixed (side_in g (other_color c)).men → barred ≡ set_of (is_barred g c k)
+pub struck_are : (g : Ground) (c : Color) (k : Kind) (row prey barred free spread set : List Bool) → prey ≡ meet g.fixed (side_in g (other_color c)).men → ((t : ℕ) → t < 64 → has_square barred t ≡ is_barred g c k t)
     → free ≡ minus prey barred → spread ≡ spread_of c k row → set ≡ meet free spread → set ≡ set_of (is_struck g c k row)
 unfolding is_struck
 struck_are g c k row prey barred free spread set prey_is barred_is free_is spread_is set_is =
     set_is ∙ same_set (λ s. has_square free s && has_square spread s) (is_struck g c k row) (λ x small.
     let men = (side_in g (other_color c)).men in
     let a : has_square prey x ≡ (has_square g.fixed x && has_square men x) = ap (λ s. has_square s x) prey_is ∙ has-set_of (λ s. has_square g.fixed s && has_square men s) x small in
-    let b : has_square barred x ≡ is_barred g c k x = ap (λ s. has_square s x) barred_is ∙ has-set_of (is_barred g c k) x small in
+    let b : has_square barred x ≡ is_barred g c k x = barred_is x small in
     let f : has_square free x ≡ (has_square prey x && not (has_square barred x)) = ap (λ s. has_square s x) free_is ∙ has-set_of (λ s. has_square prey s && not (has_square barred s)) x small in
     let d : has_square spread x ≡ is_stepped_to c k row x = ap (λ s. has_square s x) spread_is ∙ has-set_of (is_stepped_to c k row) x small in
     ap (λ t. t && has_square spread x) (f ∙ ap (λ t. t && not (has_square barred x)) a ∙ ap (λ t. (has_square g.fixed x && has_square men x) && not t) b)

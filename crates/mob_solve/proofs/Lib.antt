@@ -1,8 +1,11 @@
 pub mod Loops
 pub mod Bits
+pub mod Shifted
+pub mod Pulls
 pub mod Contents
 pub mod Reaches
 pub mod Grounds
+pub mod Going
 pub mod Filling
 pub mod Freeing
 pub mod RowRules

@@ -4,7 +4,7 @@ ghost use Rattle.std.specs.Prelude.{◌≡◌};
 ghost use Rattle.cha_board.specs.SquareSets.{set_of};
 ghost use Rattle.mob_solve.specs.Rules.{is_struck, is_passed, is_left, is_freed};
 
-use crate::goes::{barred_squares, entered};
+use crate::goes::{barred, entered};
 use crate::ground::Ground;
 use crate::squares::{is_none, meeting, single, without};
 use crate::steps::spread;
@@ -24,7 +24,7 @@ fn struck(ground: &Ground, side: Color, kind: Kind, row: SquareSet) -> SquareSet
     ensures { result ≡ set_of (is_struck ground.now side kind row) }
 {
     let prey = meeting(ground.fixed, ground.side(side.other()).men);
-    let free = without(prey, barred_squares(ground, side, kind));
+    let free = without(prey, barred(ground, side, kind));
     meeting(free, spread(side, kind, row))
 }
 

@@ -1,8 +1,8 @@
 //! The least closed sets of a position, and whether any closed sets show that a side cannot win.
 //!
-//! `reach` has the sets as they grow, `ground` what the rules look at, `steps` and `goes` how men go, `rows` the rules for
-//! an origin and a kind, `castling` those for castlings, `passes` all of them, `closure` the least closed sets, and
-//! `verdicts` the static verdict.
+//! `reach` has the sets as they grow, `squares`, `shifts`, `ranks` and `steps` sets of squares, `ground` what the rules look
+//! at, `goes` and `frees` what they ask, `rows` and `castling` the rules, `passes` all of them in turn, `closure` the least
+//! closed sets, `entries` how they are handed out, `sides` what is a side's, and `verdicts` the static verdict.
 #![tactic(auto)]
 
 mod castling;
@@ -12,8 +12,10 @@ mod frees;
 mod goes;
 mod ground;
 mod passes;
+mod ranks;
 mod reach;
 mod rows;
+mod shifts;
 mod sides;
 mod squares;
 mod steps;

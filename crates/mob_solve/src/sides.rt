@@ -1,41 +1,10 @@
-//! What is a side's on the board: ranks, homes and rights.
+//! What is a side's on the board: homes, rights and men.
 
 ghost use Rattle.std.specs.Prelude.{◌≡◌, ◌≤◌, ◌<◌};
 ghost use Rattle.cha_board.specs.Men.{is_non_king};
 ghost use Rattle.cha_board.specs.Board.{home_of, has_short_right, has_long_right};
-ghost use Rattle.cha_moves.specs.Moves.{second_rank, fourth_rank, last_rank};
 
 use cha_board::{Color, Kind, Man, Position};
-
-/// The rank on which the pawns of a side begin.
-pub fn pawn_rank(side: Color) -> u8
-    ensures { result ≡ second_rank side }
-{
-    match side {
-        Color::White => 1,
-        Color::Black => 6,
-    }
-}
-
-/// The rank that a double step of a side reaches.
-pub fn double_step_rank(side: Color) -> u8
-    ensures { result ≡ fourth_rank side }
-{
-    match side {
-        Color::White => 3,
-        Color::Black => 4,
-    }
-}
-
-/// The rank on which the pawns of a side are promoted.
-pub fn promotion_rank(side: Color) -> u8
-    ensures { result ≡ last_rank side }
-{
-    match side {
-        Color::White => 7,
-        Color::Black => 0,
-    }
-}
 
 /// The number of the home square of a side's king.
 pub fn home(side: Color) -> u8

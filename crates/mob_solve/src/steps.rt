@@ -1,69 +1,81 @@
-//! Steps of one square and jumps.
+//! Steps of one square and jumps, of all the men of a set at once.
 
-ghost use Rattle.std.specs.Prelude.{◌≡◌, ◌&&◌};
-ghost use Rattle.cha_board.specs.SquareSets.{has_square};
-ghost use Rattle.mob_law.specs.Reach.{is_leaper};
-ghost use Rattle.mob_solve.specs.Steps.{steps_to, is_stepped_to, spread_of};
-ghost use Rattle.mob_solve.specs.Steps.{stays as stays_on};
+ghost use Rattle.std.specs.Prelude.{◌≡◌};
+ghost use Rattle.cha_board.specs.declared.men.Color.{Color as Side};
+ghost use Rattle.cha_board.specs.declared.men.Kind.TheVariants.{Pawn, Knight, Bishop, Rook, Queen, King};
+ghost use Rattle.mob_solve.specs.Steps.{spread_of};
 
-use crate::sides::promotion_rank;
-use cha_board::{Color, Kind, Square, SquareSet, aims_at, steps_between};
-
-/// Whether a man aims at a square by one step or a jump.
-#[tactic(auto, unfolding(crate::specs::Steps::steps_to))]
-pub fn steps(side: Color, kind: Kind, from: Square, to: Square) -> bool
-    ensures { result ≡ steps_to side kind from to }
-{
-    aims_at(side, kind, from, to) && (leaps(kind) || steps_between(from, to) == 1)
-}
-
-/// Whether a man of a kind attacks by one step or by a jump alone.
-fn leaps(kind: Kind) -> bool
-    ensures { result ≡ is_leaper kind }
-{
-    match kind {
-        Kind::Pawn | Kind::Knight | Kind::King => true,
-        Kind::Bishop | Kind::Rook | Kind::Queen => false,
-    }
-}
+use crate::shifts::{east, north, south, west};
+use cha_board::{Color, Kind, SquareSet};
 
 /// The squares at which men of a kind on some squares aim by one step or a jump.
 pub fn spread(side: Color, kind: Kind, from: SquareSet) -> SquareSet
     ensures { result ≡ spread_of side kind from }
 {
-    let mut to = SquareSet::empty();
-    for index in 0..64 {
-        if stepped_to(side, kind, from, Square::at(index)) {
-            to = to.with(Square::at(index));
-        }
+    match kind {
+        Kind::Pawn => pawn_captures(side, from),
+        Kind::Knight => knight_jumps(from),
+        Kind::Bishop => diagonal_steps(from),
+        Kind::Rook => straight_steps(from),
+        Kind::Queen => king_steps(from),
+        Kind::King => king_steps(from),
     }
-    to
 }
 
-/// Whether a man of a kind on one of some squares aims at a square so.
-#[tactic(auto, unfolding(crate::specs::Steps::is_stepped_to))]
-fn stepped_to(side: Color, kind: Kind, from: SquareSet, to: Square) -> bool
-    ensures { result ≡ is_stepped_to side kind from to }
+/// The squares onto which pawns of a side capture.
+fn pawn_captures(side: Color, from: SquareSet) -> SquareSet
+    ensures { result ≡ spread_of side Pawn from }
 {
-    for index in 0..64 {
-        if steps_from(side, kind, from, Square::at(index), to) {
-            return true;
-        }
+    // The number of a set tells that it has 64 truth values.
+    let _number = from.bits();
+    let beside = east(from).joined(west(from));
+    match side {
+        Color::White => north(beside),
+        Color::Black => south(beside),
     }
-    false
 }
 
-/// Whether a square is one of some, and a man of a kind there aims at another so.
-fn steps_from(side: Color, kind: Kind, from: SquareSet, at: Square, to: Square) -> bool
-    ensures { result ≡ (has_square from at && steps_to side kind at to) }
+/// The squares to which knights jump.
+fn knight_jumps(from: SquareSet) -> SquareSet
+    ensures { (c : Side) → result ≡ spread_of c Knight from }
 {
-    from.has(at) && steps(side, kind, at, to)
+    // The number of a set tells that it has 64 truth values.
+    let _number = from.bits();
+    let near = east(from).joined(west(from));
+    let far = east(east(from)).joined(west(west(from)));
+    let high = north(north(near)).joined(south(south(near)));
+    let wide = north(far).joined(south(far));
+    high.joined(wide)
 }
 
-/// Whether a man that enters a square as a kind stays of that kind there.
-#[tactic(auto, unfolding(crate::specs::Steps::stays))]
-pub fn stays(side: Color, kind: Kind, at: Square) -> bool
-    ensures { result ≡ stays_on side kind at }
+/// The squares one step away on diagonals.
+fn diagonal_steps(from: SquareSet) -> SquareSet
+    ensures { (c : Side) → result ≡ spread_of c Bishop from }
 {
-    !(kind.is(Kind::Pawn) && at.rank() == promotion_rank(side))
+    // The number of a set tells that it has 64 truth values.
+    let _number = from.bits();
+    let beside = east(from).joined(west(from));
+    north(beside).joined(south(beside))
+}
+
+/// The squares one step away on files and ranks.
+fn straight_steps(from: SquareSet) -> SquareSet
+    ensures { (c : Side) → result ≡ spread_of c Rook from }
+{
+    // The number of a set tells that it has 64 truth values.
+    let _number = from.bits();
+    let beside = east(from).joined(west(from));
+    north(from).joined(south(from)).joined(beside)
+}
+
+/// The squares one step away in all directions.
+fn king_steps(from: SquareSet) -> SquareSet
+    ensures king { (c : Side) → result ≡ spread_of c King from }
+    ensures queen { (c : Side) → result ≡ spread_of c Queen from }
+{
+    // The number of a set tells that it has 64 truth values.
+    let _number = from.bits();
+    let beside = east(from).joined(west(from));
+    let row = beside.joined(from);
+    beside.joined(north(row)).joined(south(row))
 }

@@ -11,6 +11,6 @@ pub returns : goal.returns
 returns c =
     let g = c.args.ground.now in
     let side : c.side.result.now ≡ side_in g (other_color c.args.side) = c.side.ensures ∙ ap (λ (x : Color). side_in g x) c.other.ensures in
-    struck_are g c.args.side c.args.kind c.args.row c.meeting-prey.result c.barred_squares.result c.without-free.result c.spread.result c.meeting.result
+    struck_are g c.args.side c.args.kind c.args.row c.meeting-prey.result c.barred.result c.without-free.result c.spread.result c.meeting.result
     (c.meeting-prey.ensures ∙ ap (λ (x : SideGround). set_of (λ (s : ℕ). has_square g.fixed s && has_square x.men s)) side)
-    c.barred_squares.ensures c.without-free.ensures c.spread.ensures c.meeting.ensures
+    c.barred.ensures c.without-free.ensures c.spread.ensures c.meeting.ensures

@@ -3,4 +3,4 @@ use Rattle.mob_solve.proofs.goes.ends.Goals as goal
 
 pub returns : goal.returns
 returns c =
-    ends_are c.args.ground.now c.args.side c.args.kind c.args.from c.entered-come.result c.staying.result c.without.result c.entered-come.ensures c.staying.ensures c.without.ensures
+    ends_are c.args.ground.now c.args.side c.args.kind c.args.from c.entered.result c.ending.result c.entered.ensures c.ending.ensures

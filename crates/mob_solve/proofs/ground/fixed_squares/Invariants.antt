@@ -1,6 +1,6 @@
 use Rattle.mob_law.specs.Reach.{is_fixed}
 use Rattle.mob_solve.specs.Reaching.{sets_in}
-use Rattle.mob_solve.proofs.Loops.{Collects}
+use Rattle.mob_check.proofs.Loops.{Collects}
 use Rattle.mob_solve.proofs.ground.fixed_squares.Given as goal
 
 abbrev pub invariant-loop-index : goal.invariant-loop-index

@@ -46,6 +46,16 @@ impl Sets {
         }
     }
 
+    /// The sets of rows that stand in order, each with some square. It takes no memory.
+    pub fn of_rows(rows: Vec<SetRow>, loose: SquareSet) -> Sets
+        requires { AreTidy rows.items }
+        ensures { result ≡ record { rows = rows.items; loose = loose } }
+    {
+        // The number of a set tells that it says of each of the 64 squares whether it is in the set.
+        let _number = loose.bits();
+        Sets { rows, loose }
+    }
+
     /// Whether the man of an origin may ever stand on a square as a kind.
     pub fn has(&self, origin: Square, kind: Kind, at: Square) -> bool
         ensures { result ≡ (sets_of self.now).has origin kind at }

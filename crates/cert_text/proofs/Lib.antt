@@ -1,0 +1,8 @@
+mod Numbers
+mod Cutting
+mod Writing
+mod Going
+mod Parts
+mod Spelling
+mod Plain
+mod Rereading

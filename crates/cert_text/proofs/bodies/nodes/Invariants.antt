@@ -1,0 +1,14 @@
+use Rattle.std.proofs.Common.{◌≡◌, ◌-◌, ◌≤◌, [], length, drop}
+use Rattle.cert_text.specs.Lines.{lines_of, tail_of}
+use Rattle.cert_text.specs.Texts.{nodes_after}
+use Rattle.cert_text.proofs.bodies.nodes.Given as goal
+
+-- the nodes so far, and what is left, give what the whole gives
+abbrev pub invariant-loop-read : goal.invariant-loop-read
+invariant-loop-read l = record {
+  inside : l.left.at ≤ length l.bytes;
+  tail : tail_of (drop l.left.at l.bytes) ≡ tail_of (drop l.initial.left.at l.bytes);
+  said :
+      nodes_after (tail_of (drop l.initial.left.at l.bytes)) l.count [] l.initial.left.number (lines_of (drop l.initial.left.at l.bytes))
+      ≡ nodes_after (tail_of (drop l.initial.left.at l.bytes)) (l.count - l._read) l.cert l.left.number (lines_of (drop l.left.at l.bytes));
+}

@@ -1,0 +1,59 @@
+//! A certificate read from its text.
+
+ghost use Rattle.std.specs.Prelude.{◌≤◌, drop, length, ◌≡◌, ◌≢◌, ◌<◌, ◌^◌, Ok, Err, IfOk, IfErr};
+ghost use Rattle.cert_text.specs.declared.faults.CertKind.TheVariants.{NoMemory};
+ghost use Rattle.cert_text.specs.Spelled.{cert_text};
+ghost use Rattle.cert_text.specs.Texts.{cert_of};
+
+use crate::bodies::nodes;
+use crate::faults::{CertFault, CertKind};
+use crate::heads::{count_line, winner_line};
+use crate::lines::{fixed_line, misfit};
+use crate::rest::Left;
+use cha_board::Color;
+use cha_cert::Cert;
+use std::alloc::Global;
+
+/// A certificate, and the side that it says cannot mate.
+#[derive(Drop)]
+pub struct Certificate {
+    pub winner: Color,
+    pub cert: Cert,
+}
+
+/// The certificate of a text, or the first line that does not fit its place (certificate text, version 1: this project).
+///
+/// ```text
+/// cha-cert 1
+/// winner w
+/// nodes 2
+/// inner k7/1Q6/8/8/8/8/8/4K3 b - -
+/// leaf 8/1k6/8/8/8/8/8/4K3 w - -
+/// loose 0002000000000010
+/// reach e1 K ffffffffffffffff
+/// reach b7 K ffffffffffffffff
+/// end
+/// ```
+///
+/// Each line ends with a line feed. Whether the certificate is valid is not asked.
+#[tactic(auto, unfolding(crate::specs::Texts::cert_of))]
+pub fn read(alloc: Global, bytes: &[u8]) -> Result<Certificate, CertFault>
+    ensures value { IfOk result (λ read. cert_of bytes.now ≡ Ok read) }
+    ensures fault { IfErr result (λ fault. fault.kind ≢ NoMemory → cert_of bytes.now ≡ Err fault) }
+    ensures spelled { IfOk result (λ read. cert_text read.winner read.cert ≡ bytes.now) }
+    ensures some { IfOk result (λ read. 0 < length read.cert) }
+    ensures few { IfOk result (λ read. length read.cert < 2 ^ 32) }
+{
+    let _len = bytes.len();
+    let left = Left { at: 0, number: 1 };
+    let left = fixed_line(bytes, left, b"cha-cert 1", CertKind::Header)?;
+    let (winner, left) = winner_line(bytes, left)?;
+    let (count, left) = count_line(alloc, bytes, left)?;
+    let (cert, left) = nodes(alloc, count, bytes, left)?;
+    let left = fixed_line(bytes, left, b"end", CertKind::End)?;
+    if left.at == bytes.len() {
+        Ok(Certificate { winner, cert })
+    } else {
+        Err(misfit(left.number, CertKind::End))
+    }
+}

@@ -1,0 +1,172 @@
+//! The text of a certificate, written.
+
+ghost use Rattle.std.specs.Prelude.{◌≡◌, ◌<◌, ◌≤◌, ◌^◌, ◌++◌, [], ◌∷◌, Ok, length, map, OnOk, IfOk};
+ghost use Rattle.std.specs.List.{All, flat_map};
+ghost use Rattle.cha_fen.specs.Written.{kind_letter};
+ghost use Rattle.mob_sets.specs.Tidy.{AreTidy};
+ghost use Rattle.cert_text.specs.Spelled.{header_line, winner_line, count_line, loose_line, row_line, inner_line, leaf_line, node_lines, lines_text, cert_text};
+ghost use Rattle.cert_text.specs.Texts.{cert_of};
+ghost use Rattle.cert_text.specs.Agreeing.{IsWritable};
+
+use crate::digits::{put_decimal, put_hex};
+use cha_board::{Color, Kind, Position, SquareSet};
+use cha_cert::{Cert, Node, Part};
+use cha_list::{NoMemory, Text};
+use mob_sets::{SetRow, Sets};
+use std::alloc::Global;
+
+/// Writes `nodes N`.
+#[tactic(auto, unfolding(crate::specs::Spelled::count_line))]
+pub fn put_count(alloc: Global, count: u64, text: &mut Text) -> Result<(), NoMemory>
+    ensures { OnOk result (text.new ≡ text.old ++ count_line count) }
+{
+    text.append(b"nodes ")?;
+    put_decimal(alloc, count, text)
+}
+
+/// Writes `loose H`.
+#[tactic(auto, unfolding(crate::specs::Spelled::loose_line))]
+pub fn put_loose(loose: SquareSet, text: &mut Text) -> Result<(), NoMemory>
+    ensures { OnOk result (text.new ≡ text.old ++ loose_line loose) }
+{
+    text.append(b"loose ")?;
+    put_hex(16, loose.bits(), text)
+}
+
+/// Writes `reach SQUARE KIND H`.
+#[tactic(auto, unfolding(crate::specs::Spelled::row_line))]
+pub fn put_row(row: SetRow, text: &mut Text) -> Result<(), NoMemory>
+    ensures text { OnOk result (text.new ≡ text.old ++ row_line row) }
+    ensures known { row.origin < 64 }
+{
+    // The number of a square tells that it is below 64.
+    let _number = row.origin.index();
+    text.append(b"reach ")?;
+    text.push(row.origin.file() + b'a')?;
+    text.push(row.origin.rank() + b'1')?;
+    text.push(b' ')?;
+    text.push(letter(row.kind))?;
+    text.push(b' ')?;
+    put_hex(16, row.squares.bits(), text)
+}
+
+/// The letter of a kind.
+fn letter(kind: Kind) -> u8
+    ensures { result ≡ kind_letter kind }
+{
+    match kind {
+        Kind::Pawn => b'P',
+        Kind::Knight => b'N',
+        Kind::Bishop => b'B',
+        Kind::Rook => b'R',
+        Kind::Queen => b'Q',
+        Kind::King => b'K',
+    }
+}
+
+/// Writes `inner FEN`.
+#[tactic(auto, unfolding(crate::specs::Spelled::inner_line))]
+pub fn put_inner(alloc: Global, position: &Position, text: &mut Text) -> Result<(), NoMemory>
+    ensures { OnOk result (text.new ≡ text.old ++ inner_line position.now) }
+{
+    let fen = cha_fen::write(alloc, position)?;
+    text.append(b"inner ")?;
+    text.append(fen.items())
+}
+
+/// Writes `leaf FEN`.
+#[tactic(auto, unfolding(crate::specs::Spelled::leaf_line))]
+pub fn put_leaf(alloc: Global, position: &Position, text: &mut Text) -> Result<(), NoMemory>
+    ensures { OnOk result (text.new ≡ text.old ++ leaf_line position.now) }
+{
+    let fen = cha_fen::write(alloc, position)?;
+    text.append(b"leaf ")?;
+    text.append(fen.items())
+}
+
+/// Writes the lines of rows.
+fn put_rows(rows: &[SetRow], text: &mut Text) -> Result<(), NoMemory>
+    ensures text { OnOk result (text.new ≡ text.old ++ lines_text (map row_line rows.now)) }
+    ensures known { OnOk result (All (λ row. row.origin < 64) rows.now) }
+{
+    for row in rows {
+        put_row(*row, text)?;
+        text.push(b'\n')?;
+    }
+    Ok(())
+}
+
+/// Writes what is behind a leaf's line.
+#[tactic(auto, unfolding(crate::specs::Spelled::lines_text))]
+fn put_sets(sets: &Sets, text: &mut Text) -> Result<(), NoMemory>
+    ensures text { OnOk result (text.new ≡ text.old ++ lines_text (loose_line sets.now.loose ∷ map row_line sets.now.rows)) }
+    ensures tidy { OnOk result (AreTidy sets.now.rows) }
+    ensures known { OnOk result (All (λ row. row.origin < 64) sets.now.rows) }
+    ensures width { OnOk result (length sets.now.loose ≡ 64) }
+{
+    put_loose(sets.loose(), text)?;
+    text.push(b'\n')?;
+    put_rows(sets.rows(), text)
+}
+
+/// Writes the lines of a node.
+#[tactic(auto, unfolding(crate::specs::Spelled::lines_text))]
+fn put_node(alloc: Global, node: &Node, text: &mut Text) -> Result<(), NoMemory>
+    ensures text { OnOk result (text.new ≡ text.old ++ lines_text (node_lines node.now)) }
+    ensures writable { OnOk result (IsWritable node.now) }
+{
+    let _valid = node.position.men();
+    match &node.part {
+        Part::Inner => {
+            put_inner(alloc, &node.position, text)?;
+            text.push(b'\n')?;
+            Ok(())
+        }
+        Part::Leaf(sets) => {
+            put_leaf(alloc, &node.position, text)?;
+            text.push(b'\n')?;
+            put_sets(sets, text)
+        }
+    }
+}
+
+/// Writes the lines of nodes.
+fn put_nodes(alloc: Global, nodes: &[Node], text: &mut Text) -> Result<(), NoMemory>
+    ensures text { OnOk result (text.new ≡ text.old ++ lines_text (flat_map node_lines nodes.now)) }
+    ensures writable { OnOk result (All IsWritable nodes.now) }
+{
+    for node in nodes {
+        put_node(alloc, node, text)?;
+    }
+    Ok(())
+}
+
+/// Writes the first three lines.
+#[tactic(auto, unfolding(crate::specs::Spelled::lines_text, crate::specs::Spelled::winner_line))]
+fn put_head(alloc: Global, winner: Color, count: u64, text: &mut Text) -> Result<(), NoMemory>
+    ensures { OnOk result (text.new ≡ text.old ++ lines_text (header_line ∷ winner_line winner ∷ count_line count ∷ [])) }
+{
+    text.append(b"cha-cert 1\nwinner ")?;
+    match winner {
+        Color::White => text.append(b"w\n")?,
+        Color::Black => text.append(b"b\n")?,
+    }
+    put_count(alloc, count, text)?;
+    text.push(b'\n')?;
+    Ok(())
+}
+
+/// The text of a certificate that no series of legal moves mates for a side. It is read as the same again.
+pub fn write(alloc: Global, winner: Color, cert: &Cert) -> Result<Text, NoMemory>
+    requires some { 0 < length cert.now }
+    requires few { length cert.now < 2 ^ 32 }
+    ensures text { IfOk result (λ text. text ≡ cert_text winner cert.now) }
+    ensures read_again { IfOk result (λ text. cert_of text ≡ Ok (record { winner = winner; cert = cert.now })) }
+{
+    let mut text = Text::new(alloc);
+    let nodes = cert.nodes();
+    put_head(alloc, winner, nodes.len() as u64, &mut text)?;
+    put_nodes(alloc, nodes, &mut text)?;
+    text.append(b"end\n")?;
+    Ok(text)
+}

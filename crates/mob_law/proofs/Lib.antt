@@ -16,3 +16,5 @@ pub mod Keeping
 pub mod Law
 pub mod Growing
 pub mod Widest
+pub mod Guards
+pub mod CastlingFollows

@@ -52,7 +52,7 @@ record Stand (q : Board) (w : Color) : Type 0 where
   far : (steps_apart (loser_on q w) (winner_on q w) == 1) ≡ false
 
 -- kings next to each other would give check
-kings_far : (q : Board) (w : Color) (a b : ℕ) → a < 64 → b < 64 → b ≡ king_of q.men w → in_check q.men w ≡ false → is_man (other_color w) King (man_at q.men a) ≡ true → (steps_apart a b == 1) ≡ true → ⊥
+pub kings_far : (q : Board) (w : Color) (a b : ℕ) → a < 64 → b < 64 → b ≡ king_of q.men w → in_check q.men w ≡ false → is_man (other_color w) King (man_at q.men a) ≡ true → (steps_apart a b == 1) ≡ true → ⊥
 unfolding in_check
 kings_far q w a b small small' place safe king step =
     let k = man_of (man_at q.men a) (other_color w) King king in

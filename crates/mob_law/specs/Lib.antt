@@ -2,3 +2,4 @@ pub mod Reach
 pub mod Closed
 pub mod Threats
 pub mod Static
+pub mod Castling

@@ -24,7 +24,7 @@ use Rattle.mob_sets.proofs.Entries.{entry_parts}
 use Rattle.mob_check.specs.declared.groups.Group.TheVariants.{MenOf}
 use Rattle.mob_check.specs.FixedMen.{fixed_men, has_guard}
 use Rattle.mob_check.specs.Reaches.{is_row_of, reaches_by, reaches, reach_of}
-use Rattle.mob_check.specs.Closing.{leaves_loose, bars, may_go, piece_holds, arrives, pawn_enters, may_step, may_double_step, may_capture, may_capture_target, capture_holds, pawn_holds, target_holds, square_holds, squares_hold, row_holds_as, row_holds, begins_as, begins_at, castles_short_hold, castles_long_hold, castlings_hold, are_closed}
+use Rattle.mob_check.specs.Closing.{leaves_loose, bars, may_go, piece_holds, arrives, pawn_enters, may_step, may_double_step, may_capture, may_capture_target, capture_holds, pawn_holds, target_holds, source_holds, square_holds, squares_hold, row_holds_as, row_holds, begins_as, begins_at, castles_short_hold, castles_long_hold, castlings_hold, are_closed}
 use Rattle.mob_check.proofs.Choices.{if_at, chosen_first, chosen_second}
 use Rattle.mob_check.proofs.Fixing.{free_is, enemy_is, guard_is, clear_is}
 
@@ -135,7 +135,7 @@ module _ (p : Board) (r : SetRows) (size : length p.men ≡ 64) where
 
   -- the rules hold for each entry
   entry_holds : list_all (row_holds p r fixed) r.rows ≡ true → (o : ℕ) (man : Man) (k : Kind) (u t : ℕ) → Entry p (sets_of r) o man k u t → target_holds p fixed (foes man.color) (sets_of r) man.color o k u t ≡ true
-  unfolding row_holds row_holds_as squares_hold square_holds has_entry
+  unfolding row_holds row_holds_as squares_hold square_holds source_holds has_entry
   entry_holds all o man k u t entry =
       let s = sets_of r in
       let found = Any-from_list_any (is_entry o k u) r.rows entry.reach in
@@ -144,9 +144,9 @@ module _ (p : Board) (r : SetRows) (size : length p.men ≡ 64) where
       let holds : row_holds p r fixed row ≡ true = sym (ap (row_holds p r fixed) found.3) ∙ AllPass-from_list_all (row_holds p r fixed) r.rows all found.0 row found.2 in
       let stood : man_at p.men row.origin ≡ Some man = ap (man_at p.men) parts.origin ∙ entry.stood in
       let each : squares_hold p fixed (foes man.color) s man.color row ≡ true = sym (ap (row_holds_as p r fixed row) stood) ∙ holds in
-      let from = all_squares_at (square_holds p fixed (foes man.color) s man.color row) u each entry.from in
-      let to = if_at (has_square row.squares u) (list_all (target_holds p fixed (foes man.color) s man.color row.origin row.kind u) squares) from parts.square in
-      let at = all_squares_at (target_holds p fixed (foes man.color) s man.color row.origin row.kind u) t to entry.to in
+      let to = all_squares_at (square_holds p fixed (foes man.color) s man.color row) t each entry.to in
+      let from = all_squares_at (source_holds p fixed (foes man.color) s man.color row t) u to entry.from in
+      let at = if_at (has_square row.squares u) (target_holds p fixed (foes man.color) s man.color row.origin row.kind u t) from parts.square in
       sym (ap (λ x. target_holds p fixed (foes man.color) s man.color x row.kind u t) parts.origin ∙ ap (λ x. target_holds p fixed (foes man.color) s man.color o x u t) parts.kind) ∙ at
 
   pawn_at : list_all (row_holds p r fixed) r.rows ≡ true → (o : ℕ) (man : Man) (u t : ℕ) → Entry p (sets_of r) o man Pawn u t → pawn_holds p fixed (foes man.color) (sets_of r) o man.color u t ≡ true

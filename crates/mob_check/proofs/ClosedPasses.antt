@@ -25,7 +25,7 @@ use Rattle.mob_sets.proofs.Entries.{entry_from}
 use Rattle.mob_check.specs.declared.groups.Group.TheVariants.{MenOf}
 use Rattle.mob_check.specs.FixedMen.{fixed_men, has_guard}
 use Rattle.mob_check.specs.Reaches.{is_row_of, reaches_by, reaches, reach_of}
-use Rattle.mob_check.specs.Closing.{leaves_loose, bars, may_go, piece_holds, arrives, pawn_enters, may_step, may_double_step, may_capture, may_capture_target, capture_holds, pawn_holds, target_holds, square_holds, squares_hold, row_holds_as, row_holds, begins_as, begins_at, castles_short_hold, castles_long_hold, castlings_hold, are_closed}
+use Rattle.mob_check.specs.Closing.{leaves_loose, bars, may_go, piece_holds, arrives, pawn_enters, may_step, may_double_step, may_capture, may_capture_target, capture_holds, pawn_holds, target_holds, source_holds, square_holds, squares_hold, row_holds_as, row_holds, begins_as, begins_at, castles_short_hold, castles_long_hold, castlings_hold, are_closed}
 use Rattle.mob_check.proofs.Choices.{if_from, chosen}
 use Rattle.mob_check.proofs.Fixing.{fixed_is, enemy_is, guard_is, clear_is}
 
@@ -155,15 +155,16 @@ module _ (p : Board) (r : SetRows) (size : length p.men ≡ 64) where
       (λ other. piece_passes closed o man k u t entry other)
 
   row_passes_as : IsClosed p (sets_of r) → (i : ℕ) (row : Row) → i < length r.rows → get_or r.rows i row ≡ row → (found : Option Man) → man_at p.men row.origin ≡ found → row_holds_as p r fixed row found ≡ true
-  unfolding row_holds_as squares_hold square_holds has_entry
+  unfolding row_holds_as squares_hold square_holds source_holds has_entry
   row_passes_as closed i row inside is None stood = refl
   row_passes_as closed i row inside is (Some man) stood =
       let s = sets_of r in
       let c = man.color in
-      each_square (square_holds p fixed (foes c) s c row) (λ u small.
-      if_from (has_square row.squares u) (list_all (target_holds p fixed (foes c) s c row.origin row.kind u) squares) (λ has.
+      each_square (square_holds p fixed (foes c) s c row) (λ t small'.
+      each_square (source_holds p fixed (foes c) s c row t) (λ u small.
+      if_from (has_square row.squares u) (target_holds p fixed (foes c) s c row.origin row.kind u t) (λ has.
       let reach = list_any_at (is_entry row.origin row.kind u) r.rows i row inside (ap (is_entry row.origin row.kind u) is ∙ entry_from row.origin row.kind u row refl refl has) in
-      each_square (target_holds p fixed (foes c) s c row.origin row.kind u) (λ t small'. target_passes closed row.origin man row.kind u t (record { stood = stood; reach = reach; from = small; to = small' }))))
+      target_passes closed row.origin man row.kind u t (record { stood = stood; reach = reach; from = small; to = small' }))))
 
   rows_pass : IsClosed p (sets_of r) → list_all (row_holds p r fixed) r.rows ≡ true
   unfolding row_holds

@@ -1,8 +1,11 @@
 pub mod Choices
 pub mod Loops
 pub mod Reaching
+pub mod Settled
 pub mod Fixing
 pub mod ClosedGives
 pub mod ClosedPasses
 pub mod MenInReach
+pub mod Unreached
+pub mod NextTo
 pub mod ThreatsSeen

@@ -5,7 +5,7 @@ use Rattle.std.proofs.lemmas.Bool.{both_ways, cases_Bool, cases_eq, eq-eqb, ne_e
 use Rattle.cha_board.specs.Squares.{squares}
 use Rattle.cha_board.specs.SquareSets.{set_of, has_square, set_with}
 use Rattle.cha_board.specs.SetLaws.{length-set_of, has-set_of, same_squares}
-use Rattle.cha_board.proofs.Scans.{any_square_at, no_square, all_squares_at}
+use Rattle.cha_board.proofs.Scans.{any_square_at, no_square, all_squares_at, each_square}
 use Rattle.mob_law.proofs.Attackers.{some_square}
 
 -- a square that fails settles that not all squares pass
@@ -20,6 +20,14 @@ any_same p q same =
           let found = some_square p some in
           some ∙ sym (any_square_at q found.0 found.1 (sym (same found.0 found.1) ∙ found.2)))
       | inr none ↦ none ∙ sym (no_square q (λ s small. sym (same s small) ∙ false_from_ne_true (p s) (λ h. both_ways (list_any p squares) none (any_square_at p s small h))))
+    ]
+
+-- and on whether all do
+pub all_same : (p q : ℕ → Bool) → ((s : ℕ) → s < 64 → p s ≡ q s) → list_all p squares ≡ list_all q squares
+all_same p q same =
+    elim (cases_Bool (list_all p squares)) [
+      | inl all ↦ all ∙ sym (each_square q (λ s small. sym (same s small) ∙ all_squares_at p s all small))
+      | inr some ↦ some ∙ sym (false_from_ne_true (list_all q squares) (λ h. both_ways (list_all p squares) some (each_square p (λ s small. same s small ∙ all_squares_at q s h small))))
     ]
 
 -- the squares below i that pass a test

@@ -13,7 +13,7 @@ use Rattle.cha_board.specs.Squares.{squares}
 use Rattle.cha_board.specs.Board.{Board, man_at}
 use Rattle.cha_board.specs.SquareSets.{has_square}
 use Rattle.cha_board.specs.SetLaws.{has-set_of}
-use Rattle.cha_board.proofs.Scans.{any_square_at}
+use Rattle.cha_board.proofs.Scans.{any_square_at, no_square}
 use Rattle.mob_law.specs.Threats.{KingOn, NonKingOn, HasAtMostOneMan}
 use Rattle.mob_law.proofs.Attackers.{some_square}
 use Rattle.mob_sets.specs.Rows.{Row, SetRows, is_entry, has_entry, sets_of}
@@ -102,6 +102,11 @@ module _ (p : Board) (r : SetRows) where
   unfolding is_row_of
   any_from c k u m =
       on_row p r.rows (MenOf c) m.origin k u m.small m.reach (λ row e f. ap (λ o. is_non_king c (man_at p.men o)) e ∙ m.stood)
+
+-- where no man of c other than its king stands, it has no two
+pub not_two : (men : List (Option Man)) (c : Color) (u : ℕ) → is_non_king c (man_at men u) ≡ false → list_any (are_two men c u) squares ≡ false
+unfolding are_two
+not_two men c u none = no_square (are_two men c u) (λ v small. rw none refl)
 
 -- a man stands on the board
 small_of : (men : List (Option Man)) (c : Color) (u : ℕ) → length men ≡ 64 → is_non_king c (man_at men u) ≡ true → u < 64

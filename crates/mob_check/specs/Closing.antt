@@ -78,13 +78,19 @@ unfoldable pub target_holds : Board → List (Option Man) → List Bool → Sets
 target_holds p fixed foes s c o k u t =
     if same_kind k Pawn then pawn_holds p fixed foes s o c u t else piece_holds fixed s o c k u t
 
--- the rules for a row of a man of c, from u to each square, and from each square
+-- the rules for a row of a man of c, at t from u, from each square of the row, and at each square
+unfoldable pub source_holds : Board → List (Option Man) → List Bool → Sets → Color → Row → ℕ → ℕ → Bool
+source_holds p fixed foes s c row t u = not (has_square row.squares u) || target_holds p fixed foes s c row.origin row.kind u t
+
 unfoldable pub square_holds : Board → List (Option Man) → List Bool → Sets → Color → Row → ℕ → Bool
-square_holds p fixed foes s c row u =
-    not (has_square row.squares u) || list_all (target_holds p fixed foes s c row.origin row.kind u) squares
+square_holds p fixed foes s c row t = list_all (source_holds p fixed foes s c row t) squares
 
 unfoldable pub squares_hold : Board → List (Option Man) → List Bool → Sets → Color → Row → Bool
 squares_hold p fixed foes s c row = list_all (square_holds p fixed foes s c row) squares
+
+-- the piece of a row is loose and in reach on t, where no fixed man stands: there the rules for the row hold
+unfoldable pub settles : List (Option Man) → Sets → Row → ℕ → Bool
+settles fixed s row t = not (same_kind row.kind Pawn) && s.loose row.origin && is_empty fixed t && s.has row.origin row.kind t
 
 -- the rules for a row, whose man stood on its origin
 unfoldable pub row_holds_as : Board → SetRows → List (Option Man) → Row → Option Man → Bool

@@ -1,4 +1,5 @@
 pub mod FixedMen
+pub mod Nearness
 pub mod Reaches
 pub mod Closing
 pub mod Scenes

@@ -8,6 +8,7 @@ use Rattle.cha_board.specs.declared.men.Man.{Man}
 use Rattle.cha_board.specs.Men.{other_color, is_non_king}
 use Rattle.cha_board.specs.Squares.{squares}
 use Rattle.cha_board.specs.Board.{Board, man_at}
+use Rattle.cha_board.specs.SquareSets.{set_joined}
 use Rattle.mob_sets.specs.Rows.{Row, SetRows, sets_of}
 use Rattle.mob_check.specs.declared.groups.Group.TheVariants.{KingOf, MenOf, MenAs}
 use Rattle.mob_check.specs.declared.scene.Reach.{Reach}
@@ -23,6 +24,10 @@ squares_as r Bishop = r.bishops
 squares_as r Rook = r.rooks
 squares_as r Queen = r.queens
 squares_as r King = r.kings
+
+-- the squares on which men are in reach, whatever they may be there
+unfoldable pub all_in_reach : Reach → List Bool
+all_in_reach r = set_joined (set_joined (set_joined (set_joined (set_joined r.pawns r.knights) r.bishops) r.rooks) r.queens) r.kings
 
 unfoldable pub reach_by_kind : Board → List Row → Color → Reach
 reach_by_kind p rows c = record {

@@ -183,6 +183,33 @@ fn least_sets_are_not_closed_without_one_square(rt: HostRuntime) -> Result<(), F
     Ok(())
 }
 
+#[test]
+fn least_sets_are_not_closed_without_one_loose_origin(rt: HostRuntime) -> Result<(), Fail> {
+    for (fen, text) in LEAST {
+        let Ok(position) = read(fen.as_bytes()) else {
+            panic!(rt; "{fen}")
+        };
+        let sets = sets_of(rt.alloc(), text)?;
+        for index in 0..64 {
+            if sets.is_loose(Square::at(index)) {
+                let fewer = with_fixed(rt.alloc(), &sets, index)?;
+                assert!(rt; !closed(&position, &fewer), "{fen} {index}");
+            }
+        }
+    }
+    Ok(())
+}
+
+/// The same sets with an origin that is not loose.
+fn with_fixed(alloc: Global, sets: &Sets, at: u8) -> Result<Sets, Fail> {
+    let mut fewer = Sets::new(alloc);
+    loosen(&mut fewer, sets.loose().bits() & !(1 << (at % 64)));
+    for row in sets.rows() {
+        enter(&mut fewer, row.origin, row.kind, row.squares.bits())?;
+    }
+    Ok(fewer)
+}
+
 /// The same sets without a square of a row.
 fn without(alloc: Global, sets: &Sets, without: usize, at: u8) -> Result<Sets, Fail> {
     let mut fewer = Sets::new(alloc);

@@ -1,7 +1,7 @@
 //! Mobility sets, checked against a position: whether they are closed, and whether they leave a mate in reach.
 //!
 //! `closing` has the rules of closed sets, with `rows`, `pieces` and `pawns`; `mates` the search for a mate, with `scene`
-//! and `strikes`; `bound` both together. `fixed` has the fixed men, `groups` entries of sets, and `sides` what is a side's.
+//! `strikes` and `near`; `bound` both together. `fixed` has the fixed men, `groups` entries of sets, and `sides` what is a side's.
 #![tactic(auto)]
 
 mod bound;
@@ -13,6 +13,7 @@ mod groups;
 #[cfg(test)]
 mod mate_tests;
 mod mates;
+mod near;
 mod pawns;
 mod pieces;
 mod rows;

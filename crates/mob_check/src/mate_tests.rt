@@ -7,7 +7,7 @@ use cha_fen::read;
 use std::test::Fail;
 
 /// Positions, sets, and whether they have no mate for White.
-const SETS: [(&str, &str, bool); 12] = [
+const SETS: [(&str, &str, bool); 26] = [
     // No man of White can give check.
     (
         "4k3/8/8/p1p1p1p1/P1P1P1P1/8/8/4K3 w - -",
@@ -83,6 +83,83 @@ const SETS: [(&str, &str, bool); 12] = [
         "4k3/8/8/8/8/8/8/R3K3 w - -",
         "1000000000000011 e1K0000100000000000 e8K1000000000000000 a1R0100000000000000",
         false,
+    ),
+    // Either king is nowhere in reach.
+    (
+        "4k3/8/8/8/8/8/8/RR2K3 w - -",
+        "1000000000000013 e1K0000000000000010 a1Rffffffffffffffff b1Rffffffffffffffff",
+        true,
+    ),
+    (
+        "4k3/8/8/8/8/8/8/RR2K3 w - -",
+        "1000000000000013 e8K8000000000000000 a1Rffffffffffffffff b1Rffffffffffffffff",
+        true,
+    ),
+    // The kings are in reach on one square, or on two squares next to each other.
+    (
+        "4k3/8/8/8/8/8/8/R3K3 w - -",
+        "1000000000000011 e1K8000000000000000 e8K8000000000000000 a1Rffffffffffffffff",
+        true,
+    ),
+    (
+        "4k3/8/8/8/8/8/8/RR2K3 w - -",
+        "1000000000000013 e1K0040000000000000 e8K8000000000000000 a1Rffffffffffffffff b1Rffffffffffffffff",
+        true,
+    ),
+    // A queen on f7 shuts in a king on h8 without a check; on g7, next to its king, it mates.
+    (
+        "4k3/8/8/8/8/8/8/Q3K3 w - -",
+        "1000000000000011 e1K0000000000000010 e8K8000000000000000 a1Q0020000000000000",
+        true,
+    ),
+    (
+        "4k3/8/8/8/8/8/8/Q3K3 w - -",
+        "1000000000000011 e1K0000200000000000 e8K8000000000000000 a1Q0040000000000000",
+        false,
+    ),
+    // A rook on h1 gives check to a king on h8 past a loose man on h4, and not past a fixed one.
+    (
+        "1n2k3/8/8/8/7p/8/8/R3K3 w - -",
+        "1200000000000011 e1K0000400000000000 e8K8000000000000000 a1R0000000000000080 b8N4000000000000000",
+        true,
+    ),
+    (
+        "1n2k3/8/8/8/7p/8/8/R3K3 w - -",
+        "1200000080000011 e1K0000400000000000 e8K8000000000000000 a1R0000000000000080 b8N4000000000000000",
+        false,
+    ),
+    // Another rook on a8 attacks g8 past a loose man on d8, and not past a fixed one.
+    (
+        "3nk3/8/8/8/8/8/8/RR2K3 w - -",
+        "1000000000000013 e1K0000200000000000 e8K8000000000000000 a1R0000000000000080 b1R0100000000000000",
+        true,
+    ),
+    (
+        "3nk3/8/8/8/8/8/8/RR2K3 w - -",
+        "1800000000000013 e1K0000200000000000 e8K8000000000000000 a1R0000000000000080 b1R0100000000000000",
+        false,
+    ),
+    // A queen attacks no square from where the king stands; from g6 it does.
+    (
+        "4k3/8/8/8/8/8/8/RQ2K3 w - -",
+        "1000000000000013 e1K0000000000000010 e8K8000000000000000 a1R0000000000000080 b1Q8000000000000000",
+        true,
+    ),
+    (
+        "4k3/8/8/8/8/8/8/RQ2K3 w - -",
+        "1000000000000013 e1K0000000000000010 e8K8000000000000000 a1R0000000000000080 b1Q0000400000000000",
+        false,
+    ),
+    // The man on g7 gives check to a king on h8 as a pawn, and not as a knight.
+    (
+        "4k3/7p/8/8/8/8/P7/4K3 w - -",
+        "1080000000000110 e1K0020000000000000 e8K8000000000000000 a2P0040000000000000 h7P0080000000000000",
+        false,
+    ),
+    (
+        "4k3/7p/8/8/8/8/P7/4K3 w - -",
+        "1080000000000110 e1K0020000000000000 e8K8000000000000000 a2N0040000000000000 h7P0080000000000000",
+        true,
     ),
 ];
 

@@ -3,11 +3,13 @@
 ghost use Rattle.std.specs.Prelude.{◌≡◌, ◌↔◌, IsTrue};
 ghost use Rattle.mob_law.specs.Threats.{HasNoMate};
 ghost use Rattle.mob_sets.specs.Rows.{sets_of};
-ghost use Rattle.mob_check.specs.Mates.{keeps_from, is_shut, shuts_from, may_shut, mates_with_all, mates_as, mates_from, mates_with_one, may_mate_on, may_mate};
+ghost use Rattle.mob_check.specs.Nearness.{near_all};
+ghost use Rattle.mob_check.specs.Mates.{is_shut, shuts_from, may_shut, mates_with_all, mates_as, mates_from, mates_with_one, may_mate_on, may_mate};
 
-use crate::scene::Scene;
+use crate::near::{is_near, near_squares};
+use crate::scene::{Scene, somewhere};
 use crate::strikes::{check_as, some_check, struck, struck_from, through_king};
-use cha_board::{Color, Kind, Man, Position, Square, SquareSet, steps_between};
+use cha_board::{Color, Kind, Man, Position, Square, SquareSet};
 use mob_sets::Sets;
 
 /// Whether mobility sets have no mate for a winner: wherever the two kings may stand, either no man of the winner may give
@@ -24,8 +26,12 @@ pub fn no_mate(position: &Position, winner: Color, sets: &Sets) -> bool
 fn some_mate(scene: &Scene) -> bool
     ensures { result ≡ may_mate scene.now }
 {
+    if somewhere(&scene.men).bits() == 0 {
+        return false;
+    }
+    let near = near_squares();
     for index in 0..64 {
-        if mate_on(scene, Square::at(index)) {
+        if mate_on(scene, &near, Square::at(index)) {
             return true;
         }
     }
@@ -34,7 +40,8 @@ fn some_mate(scene: &Scene) -> bool
 
 /// Whether a mate of the king on a square is in reach.
 #[tactic(auto, unfolding(crate::specs::Mates::may_mate_on))]
-fn mate_on(scene: &Scene, king: Square) -> bool
+fn mate_on(scene: &Scene, near: &[SquareSet; 64], king: Square) -> bool
+    requires { near.now ≡ near_all }
     ensures { result ≡ may_mate_on scene.now king }
 {
     if !scene.loser_king.has(king) {
@@ -42,32 +49,47 @@ fn mate_on(scene: &Scene, king: Square) -> bool
     }
     let seen = through_king(scene, king);
     if scene.one_man {
-        mate_with_one(scene, &seen, king)
+        mate_with_one(scene, near, &seen, king)
     } else {
-        mate_with_all(scene, &seen, king)
+        mate_with_all(scene, near, &seen, king)
     }
 }
 
 /// Whether one man of the winner may give check while its men and its king keep the other king in.
 #[tactic(auto, unfolding(crate::specs::Mates::mates_with_all))]
-fn mate_with_all(scene: &Scene, seen: &[Option<Man>; 64], king: Square) -> bool
+fn mate_with_all(
+    scene: &Scene,
+    near: &[SquareSet; 64],
+    seen: &[Option<Man>; 64],
+    king: Square,
+) -> bool
+    requires { near.now ≡ near_all }
     ensures { result ≡ mates_with_all scene.now seen.now king }
 {
     some_check(scene, king)
         && some_shut(
             scene,
-            scene.loser_men.joined(struck(scene, seen, king)),
+            near,
+            scene.loser_men.joined(struck(scene, near, seen, king)),
             king,
         )
 }
 
 /// Whether the only man of the winner may give check while it and its king keep the other king in.
-#[tactic(auto, unfolding(crate::specs::Mates::mates_with_one))]
-fn mate_with_one(scene: &Scene, seen: &[Option<Man>; 64], king: Square) -> bool
+#[tactic(auto, unfolding(crate::specs::Mates::mates_with_one), using(crate::proofs::Unreached::no_mate_from))]
+fn mate_with_one(
+    scene: &Scene,
+    near: &[SquareSet; 64],
+    seen: &[Option<Man>; 64],
+    king: Square,
+) -> bool
+    requires { near.now ≡ near_all }
     ensures { result ≡ mates_with_one scene.now seen.now king }
 {
+    let men = somewhere(&scene.men);
     for index in 0..64 {
-        if mate_from(scene, seen, king, Square::at(index)) {
+        let from = Square::at(index);
+        if men.has(from) && mate_from(scene, near, seen, king, from) {
             return true;
         }
     }
@@ -76,39 +98,56 @@ fn mate_with_one(scene: &Scene, seen: &[Option<Man>; 64], king: Square) -> bool
 
 /// The same from a square.
 #[tactic(auto, unfolding(crate::specs::Mates::mates_from))]
-fn mate_from(scene: &Scene, seen: &[Option<Man>; 64], king: Square, from: Square) -> bool
+fn mate_from(
+    scene: &Scene,
+    near: &[SquareSet; 64],
+    seen: &[Option<Man>; 64],
+    king: Square,
+    from: Square,
+) -> bool
+    requires { near.now ≡ near_all }
     ensures { result ≡ mates_from scene.now seen.now king from }
 {
-    mate_as(scene, seen, king, from, Kind::Pawn)
-        || mate_as(scene, seen, king, from, Kind::Knight)
-        || mate_as(scene, seen, king, from, Kind::Bishop)
-        || mate_as(scene, seen, king, from, Kind::Rook)
-        || mate_as(scene, seen, king, from, Kind::Queen)
-        || mate_as(scene, seen, king, from, Kind::King)
+    mate_as(scene, near, seen, king, from, Kind::Pawn)
+        || mate_as(scene, near, seen, king, from, Kind::Knight)
+        || mate_as(scene, near, seen, king, from, Kind::Bishop)
+        || mate_as(scene, near, seen, king, from, Kind::Rook)
+        || mate_as(scene, near, seen, king, from, Kind::Queen)
+        || mate_as(scene, near, seen, king, from, Kind::King)
 }
 
 /// The same from a square, as a kind.
 #[tactic(auto, unfolding(crate::specs::Mates::mates_as))]
-fn mate_as(scene: &Scene, seen: &[Option<Man>; 64], king: Square, from: Square, kind: Kind) -> bool
+fn mate_as(
+    scene: &Scene,
+    near: &[SquareSet; 64],
+    seen: &[Option<Man>; 64],
+    king: Square,
+    from: Square,
+    kind: Kind,
+) -> bool
+    requires { near.now ≡ near_all }
     ensures { result ≡ mates_as scene.now seen.now king from kind }
 {
     check_as(scene, king, from, kind)
         && some_shut(
             scene,
+            near,
             scene
                 .loser_men
-                .joined(struck_from(scene.winner, seen, king, from, kind)),
+                .joined(struck_from(scene.winner, near, seen, king, from, kind)),
             king,
         )
 }
 
 /// Whether the winner's king may stand so that with covered squares it keeps the other king in.
 #[tactic(auto, unfolding(crate::specs::Mates::may_shut))]
-fn some_shut(scene: &Scene, covered: SquareSet, king: Square) -> bool
+fn some_shut(scene: &Scene, near: &[SquareSet; 64], covered: SquareSet, king: Square) -> bool
+    requires { near.now ≡ near_all }
     ensures { result ≡ may_shut scene.now covered king }
 {
     for index in 0..64 {
-        if shut_from(scene, covered, king, Square::at(index)) {
+        if shut_from(scene, near, covered, king, Square::at(index)) {
             return true;
         }
     }
@@ -117,32 +156,27 @@ fn some_shut(scene: &Scene, covered: SquareSet, king: Square) -> bool
 
 /// Whether the winner's king may stand on a square and does so there.
 #[tactic(auto, unfolding(crate::specs::Mates::shuts_from))]
-fn shut_from(scene: &Scene, covered: SquareSet, king: Square, winner_king: Square) -> bool
+fn shut_from(
+    scene: &Scene,
+    near: &[SquareSet; 64],
+    covered: SquareSet,
+    king: Square,
+    winner_king: Square,
+) -> bool
+    requires { near.now ≡ near_all }
     ensures { result ≡ shuts_from scene.now covered king winner_king }
 {
     scene.winner_king.has(winner_king)
         && winner_king.index() != king.index()
-        && steps_between(king, winner_king) != 1
-        && shut_in(covered, king, winner_king)
+        && !is_near(near, king, winner_king)
+        && shut_in(near, covered, king, winner_king)
 }
 
 /// Whether the king is kept from each square next to it.
-#[tactic(auto, unfolding(crate::specs::Mates::is_shut))]
-fn shut_in(covered: SquareSet, king: Square, winner_king: Square) -> bool
+fn shut_in(near: &[SquareSet; 64], covered: SquareSet, king: Square, winner_king: Square) -> bool
+    requires { near.now ≡ near_all }
     ensures { result ≡ is_shut covered king winner_king }
 {
-    for index in 0..64 {
-        if !kept_from(covered, king, winner_king, Square::at(index)) {
-            return false;
-        }
-    }
-    true
-}
-
-/// Whether the king is kept from a square, if that is next to it.
-#[tactic(auto, unfolding(crate::specs::Mates::keeps_from))]
-fn kept_from(covered: SquareSet, king: Square, winner_king: Square, at: Square) -> bool
-    ensures { result ≡ keeps_from covered king winner_king at }
-{
-    steps_between(king, at) != 1 || covered.has(at) || steps_between(winner_king, at) == 1
+    let others = near[usize::from(winner_king.index())];
+    near[usize::from(king.index())].within(covered.joined(others))
 }

@@ -1,10 +1,8 @@
 //! The rules of closed sets, row by row.
 
 ghost use Rattle.std.specs.Prelude.{◌≡◌};
-ghost use Rattle.std.specs.List.{list_all};
-ghost use Rattle.cha_board.specs.Squares.{squares};
 ghost use Rattle.mob_sets.specs.Rows.{sets_of};
-ghost use Rattle.mob_check.specs.Closing.{target_holds, square_holds, squares_hold, row_holds};
+ghost use Rattle.mob_check.specs.Closing.{target_holds, source_holds, settles, square_holds, squares_hold, row_holds};
 
 use crate::groups::{Group, squares_of};
 use crate::pawns::pawn_rules;
@@ -26,7 +24,7 @@ pub fn row_rules(position: &Position, sets: &Sets, fixed: &[Option<Man>; 64], ro
     }
 }
 
-/// Whether the rules for a row of a side hold from each of its squares.
+/// Whether the rules for a row of a side hold at each square.
 #[tactic(auto, unfolding(crate::specs::Closing::squares_hold))]
 fn squares_rules(
     position: &Position,
@@ -46,8 +44,7 @@ fn squares_rules(
     true
 }
 
-/// Whether the rules for a row hold from a square, if it is in the row.
-#[tactic(auto, unfolding(crate::specs::Closing::square_holds))]
+/// Whether the rules for a row hold at a square. Where it is settled, no square from which the man comes is looked at.
 fn square_rules(
     position: &Position,
     fixed: &[Option<Man>; 64],
@@ -55,45 +52,72 @@ fn square_rules(
     sets: &Sets,
     side: Color,
     row: SetRow,
-    from: Square,
+    to: Square,
 ) -> bool
-    ensures { result ≡ square_holds position.now fixed.now foes (sets_of sets.now) side row from }
+    ensures { result ≡ square_holds position.now fixed.now foes (sets_of sets.now) side row to }
 {
-    !row.has(from)
-        || targets_rules(
-            position, fixed, foes, sets, side, row.origin, row.kind, from,
-        )
+    settled(fixed, sets, row, to) || sources_rules(position, fixed, foes, sets, side, row, to)
 }
 
-/// Whether the rules for a man that is in reach on a square as a kind hold at each square.
-fn targets_rules(
+/// Whether a loose piece is in reach on a square that has no fixed man.
+#[tactic(auto, unfolding(crate::specs::Closing::settles))]
+fn settled(fixed: &[Option<Man>; 64], sets: &Sets, row: SetRow, to: Square) -> bool
+    ensures { result ≡ settles fixed.now (sets_of sets.now) row to }
+{
+    !row.kind.is(Kind::Pawn)
+        && sets.is_loose(row.origin)
+        && fixed[usize::from(to.index())].is_none()
+        && sets.has(row.origin, row.kind, to)
+}
+
+/// Whether the rules for a row hold at a square from each of its squares.
+#[tactic(auto, unfolding(crate::specs::Closing::square_holds))]
+fn sources_rules(
     position: &Position,
     fixed: &[Option<Man>; 64],
     foes: SquareSet,
     sets: &Sets,
     side: Color,
-    origin: Square,
-    kind: Kind,
-    from: Square,
+    row: SetRow,
+    to: Square,
 ) -> bool
-    ensures { result ≡ list_all (target_holds position.now fixed.now foes (sets_of sets.now) side origin kind from) squares }
+    ensures { result ≡ square_holds position.now fixed.now foes (sets_of sets.now) side row to }
 {
     for index in 0..64 {
-        if !target_rules(
+        if !source_rules(
             position,
             fixed,
             foes,
             sets,
             side,
-            origin,
-            kind,
-            from,
+            row,
+            to,
             Square::at(index),
         ) {
             return false;
         }
     }
     true
+}
+
+/// Whether the rules for a row hold at a square from another, if that is in the row.
+#[tactic(auto, unfolding(crate::specs::Closing::source_holds))]
+fn source_rules(
+    position: &Position,
+    fixed: &[Option<Man>; 64],
+    foes: SquareSet,
+    sets: &Sets,
+    side: Color,
+    row: SetRow,
+    to: Square,
+    from: Square,
+) -> bool
+    ensures { result ≡ source_holds position.now fixed.now foes (sets_of sets.now) side row to from }
+{
+    !row.has(from)
+        || target_rules(
+            position, fixed, foes, sets, side, row.origin, row.kind, from, to,
+        )
 }
 
 /// Whether the rules for a man that is in reach on a square as a kind hold at another.

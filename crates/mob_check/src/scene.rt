@@ -3,7 +3,7 @@
 ghost use Rattle.std.specs.Prelude.{◌≡◌, not};
 ghost use Rattle.std.specs.List.{list_any};
 ghost use Rattle.cha_board.specs.Squares.{squares};
-ghost use Rattle.mob_check.specs.Scenes.{squares_as, reach_by_kind, are_two, has_two, scene_of};
+ghost use Rattle.mob_check.specs.Scenes.{squares_as, all_in_reach, reach_by_kind, are_two, has_two, scene_of};
 
 use crate::fixed::fixed_alone;
 use crate::groups::{Group, is_man_other_than_king, squares_of};
@@ -52,6 +52,20 @@ pub fn reach_as(reach: &Reach, kind: Kind) -> SquareSet
         Kind::Queen => reach.queens,
         Kind::King => reach.kings,
     }
+}
+
+/// The squares on which some man is in reach, whatever it may be there.
+#[tactic(auto, unfolding(crate::specs::Scenes::all_in_reach))]
+pub fn somewhere(reach: &Reach) -> SquareSet
+    ensures { result ≡ all_in_reach reach.now }
+{
+    reach
+        .pawns
+        .joined(reach.knights)
+        .joined(reach.bishops)
+        .joined(reach.rooks)
+        .joined(reach.queens)
+        .joined(reach.kings)
 }
 
 impl Scene {
@@ -103,9 +117,13 @@ fn two_men(men: &[Option<Man>; 64], side: Color) -> bool
 }
 
 /// Whether a side has a man beside its king on a square, and one on another.
+#[tactic(auto, using(crate::proofs::MenInReach::not_two))]
 fn another_man(men: &[Option<Man>; 64], side: Color, at: Square) -> bool
     ensures { result ≡ list_any (are_two men.now side at) squares }
 {
+    if !is_man_other_than_king(men[usize::from(at.index())], side) {
+        return false;
+    }
     for index in 0..64 {
         if two_on(men, side, at, Square::at(index)) {
             return true;

@@ -7,8 +7,8 @@ use Rattle.mob_check.proofs.mates.mate_with_one.Goals as goal
 pub returns-then-mate_from : goal.returns-then-mate_from
 unfolding mates_with_one
 returns-then-mate_from c =
-    let small : c.at.result < 64 = omega arith in
-    sym (any_square_at (mates_from c.args.scene.now c.args.seen.now c.args.king) c.at.result small (sym c.mate_from.ensures ∙ c.if-mate_from.true))
+    let small : c.at-from.result < 64 = omega arith in
+    sym (any_square_at (mates_from c.args.scene.now c.args.seen.now c.args.king) c.at-from.result small (sym c.mate_from.ensures ∙ c.if-mate_from.true))
 
 pub returns : goal.returns
 unfolding mates_with_one

@@ -1,16 +1,12 @@
-use Rattle.std.proofs.Common.{◌<◌, sym, ◌∙◌, arith}
-use Rattle.cha_board.proofs.Scans.{each_square}
-use Rattle.mob_check.proofs.Loops.{not_all_squares}
-use Rattle.mob_check.specs.Mates.{keeps_from}
-use Rattle.mob_check.specs.Mates.{is_shut}
+use Rattle.std.proofs.Common.{◌<◌, ◌∙◌, ap, get_or, arith}
+use Rattle.cha_board.specs.SquareSets.{is_subset}
+use Rattle.mob_check.proofs.NextTo.{table_shuts}
 use Rattle.mob_check.proofs.mates.shut_in.Goals as goal
 
-pub returns-then-not-kept_from : goal.returns-then-not-kept_from
-unfolding is_shut
-returns-then-not-kept_from c =
-    let small : c.at.result < 64 = omega arith in
-    sym (not_all_squares (keeps_from c.args.covered c.args.king c.args.winner_king) c.at.result small (sym c.kept_from.ensures ∙ c.if-not-kept_from.true))
-
 pub returns : goal.returns
-unfolding is_shut
-returns c = sym (each_square (keeps_from c.args.covered c.args.king c.args.winner_king) (λ x small. c.loop-index.invariant x (omega arith)))
+returns c =
+    let near = c.args.near.now in
+    let small : c.args.king < 64 = omega arith in
+    let small' : c.args.winner_king < 64 = omega arith in
+    c.within.ensures ∙ ap (is_subset (get_or near c.from-2.result c.index-near-from-2.result)) c.joined.ensures
+    ∙ table_shuts near c.from-2.result c.from.result c.args.king c.args.winner_king c.index-near-from-2.result c.index-near-from.result c.args.covered c.requires (c.from-2.ensures ∙ c.index-2.ensures.value) small (c.from.ensures ∙ c.index.ensures.value) small'

@@ -1,8 +1,14 @@
-use Rattle.std.proofs.Common.{◌<◌, sym, ◌∙◌, arith}
+use Rattle.std.proofs.Common.{◌<◌, ap, sym, ◌∙◌, arith}
 use Rattle.cha_board.proofs.Scans.{any_square_at, no_square}
 use Rattle.mob_check.specs.Mates.{may_mate_on}
 use Rattle.mob_check.specs.Mates.{may_mate}
+use Rattle.cha_board.specs.SquareSets.{set_of_bits}
+use Rattle.mob_check.proofs.Unreached.{no_mate_without}
 use Rattle.mob_check.proofs.mates.some_mate.Goals as goal
+
+pub returns-then-bits-eq0 : goal.returns-then-bits-eq0
+returns-then-bits-eq0 c =
+    sym (no_mate_without c.args.scene.now (sym c.somewhere.ensures ∙ c.bits.ensures.shown ∙ ap set_of_bits c.if-bits-eq0.true))
 
 pub returns-then-mate_on : goal.returns-then-mate_on
 unfolding may_mate

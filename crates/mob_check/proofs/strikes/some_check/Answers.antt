@@ -7,8 +7,8 @@ use Rattle.mob_check.proofs.strikes.some_check.Goals as goal
 pub returns-then-check_from : goal.returns-then-check_from
 unfolding has_check
 returns-then-check_from c =
-    let small : c.at.result < 64 = omega arith in
-    sym (any_square_at (checks_from c.args.scene.now c.args.king) c.at.result small (sym c.check_from.ensures ∙ c.if-check_from.true))
+    let small : c.at-from.result < 64 = omega arith in
+    sym (any_square_at (checks_from c.args.scene.now c.args.king) c.at-from.result small (sym c.check_from.ensures ∙ c.if-check_from.true))
 
 pub returns : goal.returns
 unfolding has_check

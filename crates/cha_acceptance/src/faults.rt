@@ -63,11 +63,26 @@ fn other_words_are_refused(rt: HostRuntime) -> Result<(), Fail> {
     let alloc = rt.alloc();
     for line in [
         "",
+        " ",
         "solve",
-        "position -",
-        "position --certs=yes",
         "Position",
         "--help",
+        "--certs",
+        "position -",
+        "position --",
+        "position ",
+        "position --certs=yes",
+        "position --certs --certs",
+        "position --cert",
+        "--certs position",
+        "position adjudicate",
+        "adjudicate --certs=yes",
+        "adjudicate --certs ",
+        "adjudicate --workers 17",
+        "check --certs",
+        "check check",
+        "gen 1",
+        "gen 1 0",
     ] {
         let mut source = Bytes::new(INPUT.to_vec(alloc)?);
         let found = run_over(&rt, alloc, line, &mut source, 4096, Vec::new(alloc))?;

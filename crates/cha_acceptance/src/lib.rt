@@ -1,13 +1,32 @@
 //! Whole runs over sources and sinks in memory, compared with known outputs.
 //!
-//! `running` makes one run; `positions`, `games` and `faults` have the tables.
+//! `running` makes one run. `positions`, `games`, `faults`, `printed` and `checks` have tables of whole outputs; `known` goes
+//! through the tables of positions with known verdicts: `walls`, `walls_men`, `bishops`, `knights`, `pawns` and `ends`.
 #![tactic(auto)]
 
+#[cfg(test)]
+mod bishops;
+#[cfg(test)]
+mod checks;
+#[cfg(test)]
+mod ends;
 #[cfg(test)]
 mod faults;
 #[cfg(test)]
 mod games;
 #[cfg(test)]
+mod knights;
+#[cfg(test)]
+mod known;
+#[cfg(test)]
+mod pawns;
+#[cfg(test)]
 mod positions;
 #[cfg(test)]
+mod printed;
+#[cfg(test)]
 mod running;
+#[cfg(test)]
+mod walls;
+#[cfg(test)]
+mod walls_men;

@@ -7,7 +7,7 @@ use std::alloc::Global;
 use std::test::Fail;
 
 /// Inputs of `position` with the whole output.
-const ROWS: [(&[u8], &[u8]); 13] = [
+const ROWS: [(&[u8], &[u8]); 14] = [
     (b"", b"positions: 0, refused: 0, dead: 0, undecided: 0\n"),
     (
         b"4k3/8/8/8/8/8/8/4K3 w - -",
@@ -31,7 +31,11 @@ const ROWS: [(&[u8], &[u8]); 13] = [
     ),
     (
         b"8/8/8/4k3/8/8/8/4KB2 w - -",
-        b"position 1\nfen: 8/8/8/4k3/8/8/8/4KB2 w - -\nwhite: undecided, depth 2\nblack: unwinnable\nstatus: unclear\npositions: 1, refused: 0, dead: 0, undecided: 1\n",
+        b"position 1\nfen: 8/8/8/4k3/8/8/8/4KB2 w - -\nwhite: unwinnable\nblack: unwinnable\nstatus: dead\npositions: 1, refused: 0, dead: 1, undecided: 0\n",
+    ),
+    (
+        b"4k3/8/5p2/p1p1pPp1/P1P1P1P1/8/8/4K3 b - g6",
+        b"position 1\nfen: 4k3/8/5p2/p1p1pPp1/P1P1P1P1/8/8/4K3 b - -\nwhite: unwinnable\nblack: unwinnable\nstatus: dead\npositions: 1, refused: 0, dead: 1, undecided: 0\n",
     ),
     (
         b"7k/4P3/6K1/8/8/8/8/8 w - -",

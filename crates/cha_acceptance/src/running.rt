@@ -14,9 +14,12 @@ pub struct Ran {
     pub written: Vec<u8>,
 }
 
-/// The words of a line, between single spaces.
+/// The words of a line, between single spaces; none of an empty one.
 pub fn words_of(alloc: Global, line: &str) -> Result<Vec<String>, Fail> {
     let mut words = Vec::new(alloc);
+    if line.is_empty() {
+        return Ok(words);
+    }
     for word in line.split(' ') {
         words.push(String::from_str(alloc, word)?)?;
     }

@@ -1,0 +1,197 @@
+//! Certificates that `check` reads.
+
+use crate::running::run_over;
+use adjudicate::Status;
+use cha_outside::{Bytes, Pieces};
+use std::test::Fail;
+
+/// The queen on b7 can only be taken, and then both kings are bare.
+const FORCED: &str = "\
+cha-cert 1
+winner w
+nodes 2
+inner k7/1Q6/8/8/8/8/8/4K3 b - -
+leaf 8/1k6/8/8/8/8/8/4K3 w - -
+loose 0002000000000010
+reach e1 K ffffffffffffffff
+reach b7 K ffffffffffffffff
+end
+";
+
+/// Certificates that are accepted, with the winner.
+const ACCEPTED: [(&str, &str); 9] = [
+    (FORCED, "accepted w\n"),
+    // Two bare kings, for either side.
+    (
+        "cha-cert 1\nwinner w\nnodes 1\nleaf 4k3/8/8/8/8/8/8/4K3 w - -\nloose 1000000000000010\nreach e1 K ffffffffffffffff\nreach e8 K ffffffffffffffff\nend\n",
+        "accepted w\n",
+    ),
+    (
+        "cha-cert 1\nwinner b\nnodes 1\nleaf 4k3/8/8/8/8/8/8/4K3 w - -\nloose 1000000000000010\nreach e1 K ffffffffffffffff\nreach e8 K ffffffffffffffff\nend\n",
+        "accepted b\n",
+    ),
+    // A bishop, though its set has the dark squares too: one man still covers squares of one colour at a time.
+    (
+        "cha-cert 1\nwinner w\nnodes 1\nleaf 8/8/8/4k3/8/8/8/4KB2 w - -\nloose 0000001000000030\nreach e1 K ffffffffffffffff\nreach f1 B ffffffffffffffff\nreach e5 K ffffffffffffffff\nend\n",
+        "accepted w\n",
+    ),
+    // The king that is bare, against a queen.
+    (
+        "cha-cert 1\nwinner b\nnodes 1\nleaf 8/8/8/4k3/8/8/8/3QK3 w - -\nloose 0000001000000018\nreach d1 Q ffffffffffffffff\nreach e1 K ffffffffffffffff\nreach e5 K ffffffffffffffff\nend\n",
+        "accepted b\n",
+    ),
+    // A stalemate has no successors, and is no mate.
+    (
+        "cha-cert 1\nwinner w\nnodes 1\ninner 7k/5Q2/6K1/8/8/8/8/8 b - -\nend\n",
+        "accepted w\n",
+    ),
+    // A mate by White, for Black.
+    (
+        "cha-cert 1\nwinner b\nnodes 1\ninner R5k1/5ppp/8/8/8/8/8/4K3 b - -\nend\n",
+        "accepted b\n",
+    ),
+    // The same node twice, and one that nothing leads to.
+    (
+        "cha-cert 1\nwinner w\nnodes 2\ninner 7k/5Q2/6K1/8/8/8/8/8 b - -\ninner 7k/5Q2/6K1/8/8/8/8/8 b - -\nend\n",
+        "accepted w\n",
+    ),
+    (
+        "cha-cert 1\nwinner w\nnodes 2\ninner 7k/5Q2/6K1/8/8/8/8/8 b - -\nleaf 4k3/8/8/8/8/8/8/4K3 w - -\nloose 1000000000000010\nreach e1 K ffffffffffffffff\nreach e8 K ffffffffffffffff\nend\n",
+        "accepted w\n",
+    ),
+];
+
+/// Certificates that are refused, with the node or the line.
+const REFUSED: [(&str, &str); 26] = [
+    // The capture leads to no node.
+    (
+        "cha-cert 1\nwinner w\nnodes 1\ninner k7/1Q6/8/8/8/8/8/4K3 b - -\nend\n",
+        "refused: node 0\n",
+    ),
+    // The king may go to a1, which its set does not have.
+    (
+        "cha-cert 1\nwinner w\nnodes 2\ninner k7/1Q6/8/8/8/8/8/4K3 b - -\nleaf 8/1k6/8/8/8/8/8/4K3 w - -\nloose 0002000000000010\nreach e1 K fffffffffffffffe\nreach b7 K ffffffffffffffff\nend\n",
+        "refused: node 1\n",
+    ),
+    // The king that moves is not loose.
+    (
+        "cha-cert 1\nwinner w\nnodes 1\nleaf 4k3/8/8/8/8/8/8/4K3 w - -\nloose 1000000000000000\nreach e1 K ffffffffffffffff\nreach e8 K ffffffffffffffff\nend\n",
+        "refused: node 0\n",
+    ),
+    // Black's king is in no set.
+    (
+        "cha-cert 1\nwinner w\nnodes 1\nleaf 4k3/8/8/8/8/8/8/4K3 w - -\nloose 1000000000000010\nreach e1 K ffffffffffffffff\nend\n",
+        "refused: node 0\n",
+    ),
+    // The sets are closed, and a queen mates.
+    (
+        "cha-cert 1\nwinner w\nnodes 1\nleaf 8/8/8/4k3/8/8/8/3QK3 w - -\nloose 0000001000000018\nreach d1 Q ffffffffffffffff\nreach e1 K ffffffffffffffff\nreach e5 K ffffffffffffffff\nend\n",
+        "refused: node 0\n",
+    ),
+    // A mate by White, for White.
+    (
+        "cha-cert 1\nwinner w\nnodes 1\ninner R5k1/5ppp/8/8/8/8/8/4K3 b - -\nend\n",
+        "refused: node 0\n",
+    ),
+    ("", "refused: line 1 header\n"),
+    ("cha-cert 1", "refused: line 1 header\n"),
+    ("cha-cert 2\nwinner w\n", "refused: line 1 header\n"),
+    ("cha-cert 1\r\nwinner w\n", "refused: line 1 header\n"),
+    ("cha-cert 1\n", "refused: line 2 winner\n"),
+    ("cha-cert 1\nwinner white\n", "refused: line 2 winner\n"),
+    ("cha-cert 1\nwinner w\nnodes 0\n", "refused: line 3 count\n"),
+    (
+        "cha-cert 1\nwinner w\nnodes 01\n",
+        "refused: line 3 count\n",
+    ),
+    (
+        "cha-cert 1\nwinner w\nnodes 4294967296\n",
+        "refused: line 3 count\n",
+    ),
+    (
+        "cha-cert 1\nwinner w\nnodes 4294967295\nend\n",
+        "refused: line 4 node\n",
+    ),
+    // A FEN is written with four fields and single spaces.
+    (
+        "cha-cert 1\nwinner w\nnodes 1\nleaf 4k3/8/8/8/8/8/8/4K3 w - - 0 1\n",
+        "refused: line 4 node\n",
+    ),
+    (
+        "cha-cert 1\nwinner w\nnodes 1\ninner 4k3/8/8/8/8/8/8/4K3 w KQ -\n",
+        "refused: line 4 node\n",
+    ),
+    (
+        "cha-cert 1\nwinner w\nnodes 1\nleaf 4k3/8/8/8/8/8/8/4K3 w - -\nend\n",
+        "refused: line 5 loose\n",
+    ),
+    (
+        "cha-cert 1\nwinner w\nnodes 1\nleaf 4k3/8/8/8/8/8/8/4K3 w - -\nloose 000000000000001F\n",
+        "refused: line 5 loose\n",
+    ),
+    // An empty set, and sets out of order.
+    (
+        "cha-cert 1\nwinner w\nnodes 1\nleaf 4k3/8/8/8/8/8/8/4K3 w - -\nloose 1000000000000010\nreach e1 K 0000000000000000\n",
+        "refused: line 6 reach\n",
+    ),
+    (
+        "cha-cert 1\nwinner w\nnodes 1\nleaf 4k3/8/8/8/8/8/8/4K3 w - -\nloose 1000000000000010\nreach e8 K ffffffffffffffff\nreach e1 K ffffffffffffffff\n",
+        "refused: line 7 reach\n",
+    ),
+    // One node is counted where there are two, and three.
+    (
+        "cha-cert 1\nwinner w\nnodes 1\ninner k7/1Q6/8/8/8/8/8/4K3 b - -\nleaf 8/1k6/8/8/8/8/8/4K3 w - -\nloose 0002000000000010\nreach e1 K ffffffffffffffff\nreach b7 K ffffffffffffffff\nend\n",
+        "refused: line 5 end\n",
+    ),
+    (
+        "cha-cert 1\nwinner w\nnodes 3\ninner k7/1Q6/8/8/8/8/8/4K3 b - -\nleaf 8/1k6/8/8/8/8/8/4K3 w - -\nloose 0002000000000010\nreach e1 K ffffffffffffffff\nreach b7 K ffffffffffffffff\nend\n",
+        "refused: line 9 node\n",
+    ),
+    // No line feed after the last line, and a line too many.
+    (
+        "cha-cert 1\nwinner w\nnodes 1\ninner 7k/5Q2/6K1/8/8/8/8/8 b - -\nend",
+        "refused: line 5 end\n",
+    ),
+    (
+        "cha-cert 1\nwinner w\nnodes 1\ninner 7k/5Q2/6K1/8/8/8/8/8 b - -\nend\n\n",
+        "refused: line 6 end\n",
+    ),
+];
+
+#[test]
+fn certificates_are_accepted_or_refused(rt: HostRuntime) -> Result<(), Fail> {
+    let alloc = rt.alloc();
+    for (text, want) in ACCEPTED {
+        let mut source = Bytes::new(text.as_bytes().to_vec(alloc)?);
+        let found = run_over(&rt, alloc, "check", &mut source, 4096, Vec::new(alloc))?;
+        assert_eq!(rt; str::from_utf8(&found.written), Ok(want), "{text}");
+        assert_eq!(rt; found.status, Status::Done, "{text}");
+    }
+    for (text, want) in REFUSED {
+        let mut source = Bytes::new(text.as_bytes().to_vec(alloc)?);
+        let found = run_over(&rt, alloc, "check", &mut source, 4096, Vec::new(alloc))?;
+        assert_eq!(rt; str::from_utf8(&found.written), Ok(want), "{text}");
+        assert_eq!(rt; found.status, Status::NotAccepted, "{text}");
+    }
+    Ok(())
+}
+
+#[test]
+fn a_certificate_comes_in_pieces_or_not_at_all(rt: HostRuntime) -> Result<(), Fail> {
+    let alloc = rt.alloc();
+    for (fails, room, want, text) in [
+        ([0], 4096, Status::Done, "accepted w\n"),
+        ([3], 4096, Status::ReadFault, ""),
+        ([0], 8, Status::WriteFault, "accepted"),
+    ] {
+        let mut source = Pieces::new(
+            FORCED.as_bytes().to_vec(alloc)?,
+            [7, 80].to_vec(alloc)?,
+            fails.to_vec(alloc)?,
+        );
+        let found = run_over(&rt, alloc, "check", &mut source, room, Vec::new(alloc))?;
+        assert_eq!(rt; found.status, want);
+        assert_eq!(rt; str::from_utf8(&found.written), Ok(text));
+    }
+    Ok(())
+}

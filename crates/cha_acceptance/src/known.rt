@@ -1,0 +1,136 @@
+//! Positions with known verdicts, table by table.
+//!
+//! A side is unwinnable exactly where sets of squares exist that no legal move leaves and that no mate by it fits into. The sets
+//! let each man go wherever it could go alone, past all men that may ever move; so they know nothing of tempo, pins and captures
+//! that would answer a check, and a few sides that never mate are left undecided.
+
+use crate::running::run_over;
+use crate::{bishops, ends, knights, pawns, walls, walls_men};
+use adjudicate::Status;
+use cha_outside::Bytes;
+use std::alloc::Global;
+use std::test::Fail;
+
+/// What is known of a position.
+#[derive(Clone, Copy)]
+pub enum Known {
+    /// Neither side can mate.
+    Dead,
+    /// Neither side is shown unwinnable, and no mate is near.
+    Open,
+    /// Black alone is shown unwinnable, and no mate is near.
+    OnlyWhite,
+    /// White alone is.
+    OnlyBlack,
+    /// White mates by this many moves, which follow.
+    White(&'static str),
+    /// Black does, and White is open.
+    Black(&'static str),
+    /// Black does, and White is unwinnable.
+    BareWhite(&'static str),
+    /// The game is over: both verdicts and the status.
+    Ended(&'static str, &'static str, &'static str),
+}
+
+/// A position and what is known of it.
+pub type Row = (&'static str, Known);
+
+const OPEN: &str = "undecided, depth 2";
+
+/// The tables, each with its theme.
+pub const TABLES: [(&str, &[Row]); 15] = [
+    ("walls of pawns", &walls::PAWNS),
+    ("walls with one pawn more", &walls::PAWNS_MORE),
+    ("walls with a bishop", &walls_men::ONE_BISHOP),
+    ("walls with bishops", &walls_men::BISHOPS),
+    ("walls with other men", &walls_men::OTHERS),
+    ("bishops at other walls", &walls_men::OTHER_WALLS),
+    ("bishops of one colour", &bishops::ONE_COLOUR),
+    ("bishops and more", &bishops::MORE),
+    ("lone knights", &knights::LONE),
+    ("bare kings", &knights::BARE),
+    ("promotions", &pawns::PROMOTIONS),
+    ("captures in passing", &pawns::IN_PASSING),
+    ("castling", &pawns::CASTLING),
+    ("mates", &ends::MATES),
+    ("stalemates", &ends::STALEMATES),
+];
+
+/// The positions of a table, one on each line.
+pub fn lines_of(alloc: Global, rows: &[Row]) -> Result<Vec<u8>, Fail> {
+    let mut lines = Vec::new(alloc);
+    for (fen, _) in rows {
+        lines.extend_from_slice(fen.as_bytes())?;
+        lines.push(b'\n')?;
+    }
+    Ok(lines)
+}
+
+/// The last three lines of a position's block.
+fn findings_of(alloc: Global, known: Known) -> Result<String, Fail> {
+    let text = match known {
+        Known::Dead => format!(in alloc; "white: unwinnable\nblack: unwinnable\nstatus: dead\n")?,
+        Known::Open => format!(in alloc; "white: {OPEN}\nblack: {OPEN}\nstatus: unclear\n")?,
+        Known::OnlyWhite => format!(in alloc;
+            "white: {OPEN}\nblack: unwinnable\nstatus: unclear\n"
+        )?,
+        Known::OnlyBlack => format!(in alloc;
+            "white: unwinnable\nblack: {OPEN}\nstatus: unclear\n"
+        )?,
+        Known::White(line) => format!(in alloc;
+            "white: winnable in {line}\nblack: skipped\nstatus: live\n"
+        )?,
+        Known::Black(line) => format!(in alloc;
+            "white: {OPEN}\nblack: winnable in {line}\nstatus: live\n"
+        )?,
+        Known::BareWhite(line) => format!(in alloc;
+            "white: unwinnable\nblack: winnable in {line}\nstatus: live\n"
+        )?,
+        Known::Ended(white, black, status) => format!(in alloc;
+            "white: {white}\nblack: {black}\nstatus: {status}\n"
+        )?,
+    };
+    Ok(text)
+}
+
+/// The report that a table asks for.
+fn report_of(alloc: Global, rows: &[Row]) -> Result<String, Fail> {
+    let mut report = String::new(alloc);
+    let mut number = 0u64;
+    let mut dead = 0u64;
+    let mut undecided = 0u64;
+    for (fen, known) in rows {
+        number = number.wrapping_add(1);
+        let findings = findings_of(alloc, *known)?;
+        let block = format!(in alloc; "position {number}\nfen: {fen}\n{findings}")?;
+        report.push_str(&block)?;
+        if findings.contains("status: dead") {
+            dead = dead.wrapping_add(1);
+        }
+        if findings.contains(OPEN) {
+            undecided = undecided.wrapping_add(1);
+        }
+    }
+    let summary = format!(in alloc;
+        "positions: {number}, refused: 0, dead: {dead}, undecided: {undecided}\n"
+    )?;
+    report.push_str(&summary)?;
+    Ok(report)
+}
+
+#[test]
+fn positions_have_their_known_verdicts(rt: HostRuntime) -> Result<(), Fail> {
+    let alloc = rt.alloc();
+    for (theme, rows) in TABLES {
+        let mut source = Bytes::new(lines_of(alloc, rows)?);
+        let found = run_over(&rt, alloc, "position", &mut source, 65536, Vec::new(alloc))?;
+        let want = report_of(alloc, rows)?;
+        assert_eq!(rt; found.status, Status::Done, "{theme}");
+        assert_eq!(rt;
+            str::from_utf8(&found.written),
+            Ok(want.as_str()),
+            "{theme}"
+        );
+    }
+    Ok(())
+}

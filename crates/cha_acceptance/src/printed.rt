@@ -1,0 +1,205 @@
+//! Certificates as `--certs` prints them.
+
+use crate::known::{TABLES, lines_of};
+use crate::running::run_over;
+use adjudicate::Status;
+use cha_outside::Bytes;
+use std::alloc::Global;
+use std::test::Fail;
+
+/// Two bare kings: each may stand anywhere.
+const BARE_KINGS: &str = "\
+game 1
+fen: 4k3/8/8/8/8/8/8/4K3 w - -
+white: unwinnable
+cha-cert 1
+winner w
+nodes 1
+leaf 4k3/8/8/8/8/8/8/4K3 w - -
+loose 1000000000000010
+reach e1 K ffffffffffffffff
+reach e8 K ffffffffffffffff
+end
+black: unwinnable
+cha-cert 1
+winner b
+nodes 1
+leaf 4k3/8/8/8/8/8/8/4K3 w - -
+loose 1000000000000010
+reach e1 K ffffffffffffffff
+reach e8 K ffffffffffffffff
+end
+status: dead
+result: * -> 1/2-1/2 by 5.2.2
+games: 1, unreadable: 0, changed: 1, undecided: 0
+";
+
+/// A bishop beyond the wall: the kings have the three ranks on their sides, the bishop the light squares of ranks 5 to 8.
+const BISHOP_BEYOND: &str = "\
+position 1
+fen: 4k3/7B/8/p1p1p1p1/P1P1P1P1/8/8/4K3 w - -
+white: unwinnable
+cha-cert 1
+winner w
+nodes 1
+leaf 4k3/7B/8/p1p1p1p1/P1P1P1P1/8/8/4K3 w - -
+loose 1080000000000010
+reach e1 K 0000000000ffffff
+reach a4 P 0000000001000000
+reach c4 P 0000000004000000
+reach e4 P 0000000010000000
+reach g4 P 0000000040000000
+reach a5 P 0000000100000000
+reach c5 P 0000000400000000
+reach e5 P 0000001000000000
+reach g5 P 0000004000000000
+reach h7 B 55aa55aa00000000
+reach e8 K ffffff0000000000
+end
+black: unwinnable
+cha-cert 1
+winner b
+nodes 1
+leaf 4k3/7B/8/p1p1p1p1/P1P1P1P1/8/8/4K3 w - -
+loose 1080000000000010
+reach e1 K 0000000000ffffff
+reach a4 P 0000000001000000
+reach c4 P 0000000004000000
+reach e4 P 0000000010000000
+reach g4 P 0000000040000000
+reach a5 P 0000000100000000
+reach c5 P 0000000400000000
+reach e5 P 0000001000000000
+reach g5 P 0000004000000000
+reach h7 B 55aa55aa00000000
+reach e8 K ffffff0000000000
+end
+status: dead
+positions: 1, refused: 0, dead: 1, undecided: 0
+";
+
+/// A queen against a bare king: a certificate for Black alone.
+const BARE_BLACK: &str = "\
+position 1
+fen: 8/8/8/4k3/8/8/8/3QK3 w - -
+white: undecided, depth 2
+black: unwinnable
+cha-cert 1
+winner b
+nodes 1
+leaf 8/8/8/4k3/8/8/8/3QK3 w - -
+loose 0000001000000018
+reach d1 Q ffffffffffffffff
+reach e1 K ffffffffffffffff
+reach e5 K ffffffffffffffff
+end
+status: unclear
+positions: 1, refused: 0, dead: 0, undecided: 1
+";
+
+/// Words and input with the whole output.
+const ROWS: [(&str, &str, &str); 7] = [
+    (
+        "adjudicate --certs",
+        "[FEN \"4k3/8/8/8/8/8/8/4K3 w - -\"]\n*",
+        BARE_KINGS,
+    ),
+    (
+        "position --certs",
+        "4k3/7B/8/p1p1p1p1/P1P1P1P1/8/8/4K3 w - -",
+        BISHOP_BEYOND,
+    ),
+    ("position --certs", "8/8/8/4k3/8/8/8/3QK3 w - -", BARE_BLACK),
+    (
+        "position --certs",
+        "6rk/8/7K/4N3/8/8/8/8 w - -",
+        "position 1\nfen: 6rk/8/7K/4N3/8/8/8/8 w - -\nwhite: winnable in 1: e5f7\nblack: skipped\nstatus: live\npositions: 1, refused: 0, dead: 0, undecided: 0\n",
+    ),
+    (
+        "position --certs",
+        "hello",
+        "position 1\nrefused: shape\npositions: 1, refused: 1, dead: 0, undecided: 0\n",
+    ),
+    (
+        "position --certs",
+        "",
+        "positions: 0, refused: 0, dead: 0, undecided: 0\n",
+    ),
+    (
+        "adjudicate --certs",
+        "",
+        "games: 0, unreadable: 0, changed: 0, undecided: 0\n",
+    ),
+];
+
+#[test]
+fn certificates_follow_the_lines_of_unwinnable_sides(rt: HostRuntime) -> Result<(), Fail> {
+    let alloc = rt.alloc();
+    for (words, input, want) in ROWS {
+        let mut source = Bytes::new(input.as_bytes().to_vec(alloc)?);
+        let found = run_over(&rt, alloc, words, &mut source, 4096, Vec::new(alloc))?;
+        assert_eq!(rt; found.status, Status::Done, "{words} {input}");
+        assert_eq!(rt; str::from_utf8(&found.written), Ok(want));
+    }
+    Ok(())
+}
+
+/// The certificates in a report, in order.
+fn certificates_in(alloc: Global, report: &str) -> Result<Vec<String>, Fail> {
+    let mut certificates = Vec::new(alloc);
+    let mut text = String::new(alloc);
+    let mut inside = false;
+    for line in report.lines() {
+        inside = inside || line == "cha-cert 1";
+        if inside {
+            text.push_str(line)?;
+            text.push('\n')?;
+        }
+        if line == "end" {
+            certificates.push(text)?;
+            text = String::new(alloc);
+            inside = false;
+        }
+    }
+    Ok(certificates)
+}
+
+#[test]
+fn printed_certificates_are_accepted(rt: HostRuntime) -> Result<(), Fail> {
+    let alloc = rt.alloc();
+    for (theme, rows) in TABLES {
+        let mut source = Bytes::new(lines_of(alloc, rows)?);
+        let printed = run_over(
+            &rt,
+            alloc,
+            "position --certs",
+            &mut source,
+            1_000_000,
+            Vec::new(alloc),
+        )?;
+        let report = str::from_utf8(&printed.written).unwrap_or("");
+        let certificates = certificates_in(alloc, report)?;
+        assert_eq!(rt;
+            certificates.len(),
+            report.matches(": unwinnable\n").count(),
+            "{theme}"
+        );
+        for certificate in &certificates {
+            let winner = if certificate.contains("\nwinner w\n") {
+                "w"
+            } else {
+                "b"
+            };
+            let want = format!(in alloc; "accepted {winner}\n")?;
+            let mut source = Bytes::new(certificate.as_bytes().to_vec(alloc)?);
+            let found = run_over(&rt, alloc, "check", &mut source, 4096, Vec::new(alloc))?;
+            assert_eq!(rt; found.status, Status::Done, "{certificate}");
+            assert_eq!(rt;
+                str::from_utf8(&found.written),
+                Ok(want.as_str()),
+                "{certificate}"
+            );
+        }
+    }
+    Ok(())
+}

@@ -3,6 +3,7 @@
 //! `reach` has the sets as they grow, `squares`, `shifts`, `ranks` and `steps` sets of squares, `ground` what the rules look
 //! at, `goes` and `frees` what they ask, `rows` and `castling` the rules, `passes` all of them in turn, `closure` the least
 //! closed sets, `entries` how they are handed out, `sides` what is a side's, and `verdicts` the static verdict.
+//! For tests `plain` and `plain_rules` have the solver in its plain form.
 #![tactic(auto)]
 
 mod castling;
@@ -12,6 +13,12 @@ mod frees;
 mod goes;
 mod ground;
 mod passes;
+#[cfg(test)]
+mod plain;
+#[cfg(test)]
+mod plain_rules;
+#[cfg(test)]
+mod plain_tests;
 mod ranks;
 mod reach;
 mod rows;

@@ -126,7 +126,7 @@ const OPEN: [(&str, &str); 10] = [
         "1000000000000110 e1Kffffffffffffffff e8Kffffffffffffffff a2P0001010101010100 a2Nffffffffffffffff \
          a2Bffffffffffffffff a2Qffffffffffffffff",
     ),
-    // Castling leaves e1.
+    // Castling leaves e1, as the king's steps do: the rules for castling alone refuse nothing (`mob_law::castling_follows`).
     (
         "4k3/8/8/8/8/8/8/4K2R w K -",
         "1000000000000080 e1Kffffffffffffffff e8Kffffffffffffffff h1Rffffffffffffffff",

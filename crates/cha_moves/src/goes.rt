@@ -1,11 +1,14 @@
 //! How men go: one function for each way to move, as the Laws have them (Laws of Chess, Articles 3.2 to 3.8).
 
-ghost use Rattle.std.specs.Prelude.{◌≡◌, ◌<◌, ◌≤◌};
-ghost use Rattle.cha_board.specs.Board.{man_at, is_empty, home_of, has_short_right, has_long_right};
-ghost use Rattle.cha_moves.specs.Moves.{second_rank, fourth_rank, last_rank, is_target, is_step, is_double_step, is_pawn_capture, is_en_passant};
+ghost use Rattle.std.specs.Prelude.{◌≡◌, ◌<◌};
+ghost use Rattle.cha_board.specs.Board.{man_at, is_empty};
+ghost use Rattle.cha_moves.specs.Moves.{is_target, is_step, is_double_step, is_pawn_capture, is_en_passant};
 ghost use Rattle.cha_moves.specs.Moves.{is_short_castling, is_long_castling, goes, goes_as, is_promotion};
 ghost use Rattle.cha_moves.specs.Moves.{may_enter as may_enter_square, promotes_well as promotes_well_on, is_pseudo_legal as is_pseudo_legal_in};
 
+use crate::sides::{
+    double_step_rank, first_pawn_rank, home, long_right, promotion_rank, short_right,
+};
 use crate::step::Move;
 use cha_board::{
     Color, Kind, Man, Position, Square, aims_at, attacks, files_between, rank_ahead, sees,
@@ -17,48 +20,6 @@ fn is_empty_at(position: &Position, at: u8) -> bool
     ensures { result ≡ is_empty position.now.men at }
 {
     position.man(Square::at(at)).is_none()
-}
-
-/// The number of the square that the king of a side has as its home.
-pub fn home(side: Color) -> u8
-    ensures value { result ≡ home_of side }
-    ensures low { 4 ≤ result }
-    ensures high { result ≤ 60 }
-{
-    match side {
-        Color::White => 4,
-        Color::Black => 60,
-    }
-}
-
-/// The rank on which the pawns of a side begin.
-fn first_pawn_rank(side: Color) -> u8
-    ensures { result ≡ second_rank side }
-{
-    match side {
-        Color::White => 1,
-        Color::Black => 6,
-    }
-}
-
-/// The rank that a double step of a side reaches.
-fn double_step_rank(side: Color) -> u8
-    ensures { result ≡ fourth_rank side }
-{
-    match side {
-        Color::White => 3,
-        Color::Black => 4,
-    }
-}
-
-/// The rank on which the pawns of a side are promoted.
-fn promotion_rank(side: Color) -> u8
-    ensures { result ≡ last_rank side }
-{
-    match side {
-        Color::White => 7,
-        Color::Black => 0,
-    }
 }
 
 /// Whether a square is the one that a pawn has just passed over.
@@ -108,26 +69,6 @@ pub fn goes_en_passant(position: &Position, s: Square, t: Square) -> bool
     ensures { result ≡ is_en_passant position.now s t }
 {
     aims_at(position.side(), Kind::Pawn, s, t) && is_target_at(position, t)
-}
-
-/// Whether a side may still castle on the king's side, as far as king and rook have not moved.
-fn short_right(position: &Position, side: Color) -> bool
-    ensures { result ≡ has_short_right position.now.rights side }
-{
-    match side {
-        Color::White => position.rights().white_king,
-        Color::Black => position.rights().black_king,
-    }
-}
-
-/// The same on the queen's side.
-fn long_right(position: &Position, side: Color) -> bool
-    ensures { result ≡ has_long_right position.now.rights side }
-{
-    match side {
-        Color::White => position.rights().white_queen,
-        Color::Black => position.rights().black_queen,
-    }
 }
 
 /// Whether the king of the side to move goes so by castling on the king's side.

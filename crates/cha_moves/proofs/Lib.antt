@@ -5,4 +5,6 @@ pub mod Validity
 pub mod Pieces
 pub mod Listed
 pub mod Bare
+pub mod Filling
+pub mod Sureness
 pub mod Examples

@@ -115,7 +115,7 @@ fn put_node(alloc: Global, node: &Node, text: &mut Text) -> Result<(), NoMemory>
     ensures text { OnOk result (text.new ≡ text.old ++ lines_text (node_lines node.now)) }
     ensures writable { OnOk result (IsWritable node.now) }
 {
-    let _valid = node.position.men();
+    node.position.known();
     match &node.part {
         Part::Inner => {
             put_inner(alloc, &node.position, text)?;

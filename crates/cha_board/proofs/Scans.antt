@@ -1,11 +1,12 @@
 -- Tests of all squares.
-use Rattle.std.proofs.Common.{◌≡◌, ℕ, suc, zero, ◌<◌, ◌≤◌, Bool, true, false, List, length, get_or, take, refl, ◌∙◌, arith, zero-add, add-one}
-use Rattle.std.specs.List.{All, list_all, list_any, count_by}
+use Rattle.std.proofs.Common.{◌≡◌, ℕ, suc, zero, ◌+◌, ◌<◌, ◌≤◌, Bool, true, false, List, length, get_or, take, refl, ◌∙◌, arith, zero-add, add-one}
+use Rattle.std.specs.List.{All, list_all, list_any, count_by, range_with_len}
 use Rattle.std.proofs.lemmas.List.{take_all}
 use Rattle.std.proofs.lemmas.List.FromFn.{length-range_with_len, get_or-range_with_len}
 use Rattle.std.proofs.lemmas.List.Folds.{list_any_at, list_any_none}
 use Rattle.std.proofs.lemmas.List.Sums.{AllPass-from_list_all, list_all-from_AllPass, count_by_more_no}
 use Rattle.cha_board.specs.Squares.{squares}
+use Rattle.cha_board.specs.SetLaws.{squares_are}
 
 pub length_squares : length squares ≡ 64
 unfolding squares
@@ -39,6 +40,18 @@ pub each_square : (p : ℕ → Bool) → ((s : ℕ) → s < 64 → p s ≡ true)
 each_square p passes =
     let n = length_squares in
     list_all-from_AllPass p squares (λ k d inside. let small : k < 64 = omega arith in rw (square_at k d small) (passes k small))
+
+any_alike_of : (p q : ℕ → Bool) (a n : ℕ) → ((k : ℕ) → a ≤ k → k < a + n → p k ≡ q k) → list_any p (range_with_len a n) ≡ list_any q (range_with_len a n)
+any_alike_of p q a zero same = refl
+any_alike_of p q a (suc n) same =
+    rw (same a (omega arith) (omega arith), any_alike_of p q (a + 1) n (λ k low high. same k (omega (arith, low)) (omega (arith, high)))) refl
+
+any_alike_in : (p q : ℕ → Bool) (n : ℕ) (xs : List ℕ) → xs ≡ range_with_len 0 n → ((k : ℕ) → k < n → p k ≡ q k) → list_any p xs ≡ list_any q xs
+any_alike_in p q n xs e same = rw e (any_alike_of p q 0 n (λ k _ small. same k (omega (arith, small))))
+
+-- tests that agree at each square agree on whether some square passes
+pub any_alike : (p q : ℕ → Bool) → ((s : ℕ) → s < 64 → p s ≡ q s) → list_any p squares ≡ list_any q squares
+any_alike p q same = any_alike_in p q 64 squares squares_are same
 
 -- where each element fails, none is counted
 none_counted_below : {X : Type 0} (p : X → Bool) (xs : List X) (n : ℕ) (d : X) → All (λ x. p x ≡ false) xs → n ≤ length xs → count_by p (take n xs) ≡ 0

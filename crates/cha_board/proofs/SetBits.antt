@@ -1,12 +1,12 @@
 -- Sets of squares, as what is done to their bits.
-use Rattle.std.proofs.Common.{◌≡◌, ℕ, ◌*◌, ◌-◌, ◌/◌, ◌%◌, ◌^◌, ◌<◌, min, max, zero, suc, Bool, true, not, ◌||◌, ◌==◌, List, refl, sym, ap, ◌∙◌, arith, inl, inr}
+use Rattle.std.proofs.Common.{◌≡◌, ℕ, ◌*◌, ◌-◌, ◌/◌, ◌%◌, ◌^◌, ◌<◌, min, max, zero, suc, Bool, true, not, ◌&&◌, ◌||◌, ◌==◌, List, refl, sym, ap, ◌∙◌, arith, inl, inr}
 use Rattle.std.specs.Int.{bit_at, bit_not}
 use Rattle.std.specs.Int.RustNames.{bit_or}
 use lib.Bits.{bit_and}
 use mir.Syntax.{w64}
 use Rattle.std.proofs.lemmas.Bool.{cases_eq, cases_lt, eq-eqb, ne_eqb, false_from_ne_true}
-use Rattle.std.proofs.lemmas.Nat.Bits.{bit_at-zero, bit_at-lt, bit_at_above, same_from_bits, shr_and_one, bit_at_or, bit_at_and, bit_at_not, bit_at_set_same, bit_at_set_other}
-use Rattle.cha_board.specs.SquareSets.{has_square, set_of_bits, bits_of_set, set_with, set_joined, is_subset}
+use Rattle.std.proofs.lemmas.Nat.Bits.{bit_at-zero, bit_at-lt, bit_at_above, same_from_bits, shr_and_one, bit_at_or, bit_at_and, bit_at_not, bit_at_set_same, bit_at_set_other, bit_at_clear_same, bit_at_clear_other}
+use Rattle.cha_board.specs.SquareSets.{has_square, set_of_bits, bits_of_set, set_with, set_without, set_joined, set_common, set_minus, is_subset}
 use Rattle.cha_board.specs.SetLaws.{same_set, has-set_of, bits_of_set-set_of_bits}
 use Rattle.cha_board.proofs.Scans.{all_squares_at, each_square}
 
@@ -41,6 +41,48 @@ shown_with n at small =
       | inr ne ↦ rw (ne_eqb s at ne, shown_at n s inside, bit_at_set_other w64 n at small s ne) refl
     ])
 
+pub shown_without : (n at : ℕ) → at < 64 → set_of_bits (bit_and n (bit_not w64 (1 * 2 ^ at % 2 ^ 64))) ≡ set_without (set_of_bits n) at
+unfolding set_without
+shown_without n at small =
+    same_set (λ s. bit_at (bit_and n (bit_not w64 (1 * 2 ^ at % 2 ^ 64))) s == 1) (λ s. not (s == at) && has_square (set_of_bits n) s) (λ s inside.
+    elim (cases_eq s at) [
+      | inl e ↦ rw (e, eq-eqb at at refl, bit_at_clear_same w64 n at small) refl
+      | inr ne ↦ rw (ne_eqb s at ne, shown_at n s inside, bit_at_clear_other w64 n at small s inside ne) refl
+    ])
+
+both_bits : (a b : ℕ) → a < 2 → b < 2 → (min a b == 1) ≡ ((a == 1) && (b == 1))
+both_bits zero zero _ _ = refl
+both_bits zero (suc zero) _ _ = refl
+both_bits zero (suc (suc b)) _ small = absurd (omega arith)
+both_bits (suc zero) zero _ _ = refl
+both_bits (suc zero) (suc zero) _ _ = refl
+both_bits (suc zero) (suc (suc b)) _ small = absurd (omega arith)
+both_bits (suc (suc a)) b small _ = absurd (omega arith)
+
+pub shown_common : (a b : ℕ) → set_of_bits (bit_and a b) ≡ set_common (set_of_bits a) (set_of_bits b)
+unfolding set_common
+shown_common a b =
+    same_set (λ s. bit_at (bit_and a b) s == 1) (λ s. has_square (set_of_bits a) s && has_square (set_of_bits b) s) (λ s small.
+    rw (bit_at_and a b s, shown_at a s small, shown_at b s small) (both_bits (bit_at a s) (bit_at b s) (bit_at-lt a s) (bit_at-lt b s)))
+
+bit_outside : (a b s : ℕ) → b < 2 ^ 64 → s < 64 → bit_at (bit_and a (bit_not w64 b)) s ≡ min (bit_at a s) (1 - bit_at b s)
+bit_outside a b s bound small = bit_at_and a (bit_not w64 b) s ∙ ap (λ x. min (bit_at a s) x) (bit_at_not w64 b s bound small)
+
+one_bit_only : (a b : ℕ) → a < 2 → b < 2 → (min a (1 - b) == 1) ≡ ((a == 1) && not (b == 1))
+one_bit_only zero zero _ _ = refl
+one_bit_only zero (suc zero) _ _ = refl
+one_bit_only zero (suc (suc b)) _ small = absurd (omega arith)
+one_bit_only (suc zero) zero _ _ = refl
+one_bit_only (suc zero) (suc zero) _ _ = refl
+one_bit_only (suc zero) (suc (suc b)) _ small = absurd (omega arith)
+one_bit_only (suc (suc a)) b small _ = absurd (omega arith)
+
+pub shown_minus : (a b : ℕ) → b < 2 ^ 64 → set_of_bits (bit_and a (bit_not w64 b)) ≡ set_minus (set_of_bits a) (set_of_bits b)
+unfolding set_minus
+shown_minus a b bound =
+    same_set (λ s. bit_at (bit_and a (bit_not w64 b)) s == 1) (λ s. has_square (set_of_bits a) s && not (has_square (set_of_bits b) s)) (λ s small.
+    rw (bit_outside a b s bound small, shown_at a s small, shown_at b s small) (one_bit_only (bit_at a s) (bit_at b s) (bit_at-lt a s) (bit_at-lt b s)))
+
 lesser_bit : (a b : ℕ) → a < 2 → b < 2 → min a (1 - b) ≡ 0 → (not (a == 1) || (b == 1)) ≡ true
 lesser_bit zero b _ _ none = refl
 lesser_bit (suc zero) zero _ _ none = absurd (omega (arith, none))
@@ -56,9 +98,6 @@ no_lesser_bit (suc (suc a)) b small _ test = absurd (omega arith)
 
 test_of_bits : (a b s : ℕ) → s < 64 → (not (has_square (set_of_bits a) s) || has_square (set_of_bits b) s) ≡ (not (bit_at a s == 1) || (bit_at b s == 1))
 test_of_bits a b s small = rw (shown_at a s small, shown_at b s small) refl
-
-bit_outside : (a b s : ℕ) → b < 2 ^ 64 → s < 64 → bit_at (bit_and a (bit_not w64 b)) s ≡ min (bit_at a s) (1 - bit_at b s)
-bit_outside a b s bound small = bit_at_and a (bit_not w64 b) s ∙ ap (λ x. min (bit_at a s) x) (bit_at_not w64 b s bound small)
 
 none_outside : (a b : ℕ) → b < 2 ^ 64 → bit_and a (bit_not w64 b) ≡ 0 → is_subset (set_of_bits a) (set_of_bits b) ≡ true
 unfolding is_subset

@@ -4,3 +4,4 @@ pub mod Board
 pub mod Build
 pub mod SquareSets
 pub mod SetLaws
+pub mod Aims

@@ -1,6 +1,6 @@
 -- Sets of squares: a truth value for each of the 64 squares (this project).
-use Rattle.std.specs.Prelude.{ℕ, ◌+◌, ◌*◌, ◌==◌, Bool, false, not, ◌||◌, List, [], ◌∷◌, if◌then◌else◌, map, slice_index_or}
-use Rattle.std.specs.List.{list_all}
+use Rattle.std.specs.Prelude.{ℕ, ◌+◌, ◌*◌, ◌==◌, Bool, false, not, ◌&&◌, ◌||◌, List, [], ◌∷◌, if◌then◌else◌, map, filter, slice_index_or}
+use Rattle.std.specs.List.{list_all, list_any}
 use Rattle.std.specs.Int.{bit_at}
 use Rattle.cha_board.specs.Squares.{squares}
 
@@ -21,6 +21,10 @@ unfoldable pub bits_of_set : List Bool → ℕ
 bits_of_set [] = 0
 bits_of_set (b ∷ bs) = (if b then 1 else 0) + 2 * bits_of_set bs
 
+-- the squares of a set, in order
+abbrev pub squares_in : List Bool → List ℕ
+squares_in set = filter (has_square set) squares
+
 -- the set of no square
 abbrev pub empty_set : List Bool
 empty_set = set_of (λ _. false)
@@ -29,9 +33,25 @@ empty_set = set_of (λ _. false)
 unfoldable pub set_with : List Bool → ℕ → List Bool
 set_with set at = set_of (λ s. (s == at) || has_square set s)
 
+-- a set without a square
+unfoldable pub set_without : List Bool → ℕ → List Bool
+set_without set at = set_of (λ s. not (s == at) && has_square set s)
+
 -- the squares of either set
 unfoldable pub set_joined : List Bool → List Bool → List Bool
 set_joined a b = set_of (λ s. has_square a s || has_square b s)
+
+-- the squares of both sets
+unfoldable pub set_common : List Bool → List Bool → List Bool
+set_common a b = set_of (λ s. has_square a s && has_square b s)
+
+-- the squares of a set that are not in another
+unfoldable pub set_minus : List Bool → List Bool → List Bool
+set_minus a b = set_of (λ s. has_square a s && not (has_square b s))
+
+-- a set has no square
+unfoldable pub has_no_square : List Bool → Bool
+has_no_square set = not (list_any (has_square set) squares)
 
 -- each square of a set is in another
 unfoldable pub is_subset : List Bool → List Bool → Bool

@@ -6,7 +6,8 @@ ghost use Rattle.cha_board.specs.Board.{has_pawn_at_end, is_pawn_at_end, are_at_
 ghost use Rattle.cha_board.specs.Build.{build_fault, kept_rights, kept_target, built};
 
 use crate::men::{Color, Kind, Man, is_man_of};
-use crate::position::{Position, Rights, king_attacked, one_king};
+use crate::placement::Men;
+use crate::position::{Position, Rights};
 use crate::squares::Square;
 
 /// Why men and a side to move are no valid position. The first rule that is broken, in this order, is the fault.
@@ -32,13 +33,14 @@ impl Position {
         ensures ok { IfOk result (λ q. q ≡ built men.now side rights target) }
         ensures fault { result_err result ≡ build_fault men.now side }
     {
-        match first_fault(men, side) {
+        let placed = Men::of_list(men);
+        match first_fault(&placed, side) {
             Some(fault) => Err(fault),
             None => Ok(Position::of_parts(
-                *men,
+                placed,
                 side,
-                rights_kept(men, rights),
-                target_kept(men, side, target),
+                rights_kept(&placed, rights),
+                target_kept(&placed, side, target),
             )),
         }
     }
@@ -46,23 +48,23 @@ impl Position {
 
 /// The first rule that men and a side to move break.
 #[tactic(auto, unfolding(crate::specs::Build::build_fault))]
-fn first_fault(men: &[Option<Man>; 64], side: Color) -> Option<BuildFault>
+fn first_fault(men: &Men, side: Color) -> Option<BuildFault>
     ensures { result ≡ build_fault men.now side }
 {
-    if !(one_king(men, Color::White) && one_king(men, Color::Black)) {
+    if !(men.one_king(Color::White) && men.one_king(Color::Black)) {
         return Some(BuildFault::Kings);
     }
     if pawn_at_end(men) {
         return Some(BuildFault::PawnRank);
     }
-    if king_attacked(men, side.other()) {
+    if men.in_check(side.other()) {
         return Some(BuildFault::OpponentInCheck);
     }
     None
 }
 
 /// Whether some pawn stands on the first or the last rank.
-fn pawn_at_end(men: &[Option<Man>; 64]) -> bool
+fn pawn_at_end(men: &Men) -> bool
     ensures { result ≡ has_pawn_at_end men.now }
 {
     for index in 0..64 {
@@ -75,29 +77,29 @@ fn pawn_at_end(men: &[Option<Man>; 64]) -> bool
 
 /// Whether a pawn stands on a square, which is of the first or the last rank.
 #[tactic(auto, unfolding(crate::specs::Board::is_pawn_at_end))]
-fn pawn_ends_on(men: &[Option<Man>; 64], at: Square) -> bool
+fn pawn_ends_on(men: &Men, at: Square) -> bool
     ensures { result ≡ is_pawn_at_end men.now at }
 {
-    let man = men[usize::from(at.index())];
+    let man = men.man(at);
     (is_man_of(man, Color::White, Kind::Pawn) || is_man_of(man, Color::Black, Kind::Pawn))
         && (at.rank() == 0 || at.rank() == 7)
 }
 
 /// Whether the king of a side and its rook on a square are at home.
 #[tactic(auto, unfolding(crate::specs::Board::are_at_home))]
-fn at_home(men: &[Option<Man>; 64], side: Color, rook: Square) -> bool
+fn at_home(men: &Men, side: Color, rook: Square) -> bool
     ensures { result ≡ are_at_home men.now side rook }
 {
     let king = match side {
-        Color::White => men[4],
-        Color::Black => men[60],
+        Color::White => men.man(Square::at(4)),
+        Color::Black => men.man(Square::at(60)),
     };
-    is_man_of(king, side, Kind::King) && is_man_of(men[usize::from(rook.index())], side, Kind::Rook)
+    is_man_of(king, side, Kind::King) && is_man_of(men.man(rook), side, Kind::Rook)
 }
 
 /// The rights whose king and rook are at home.
 #[tactic(auto, unfolding(crate::specs::Build::kept_rights))]
-fn rights_kept(men: &[Option<Man>; 64], rights: Rights) -> Rights
+fn rights_kept(men: &Men, rights: Rights) -> Rights
     ensures { result ≡ kept_rights men.now rights }
 {
     Rights {
@@ -110,29 +112,29 @@ fn rights_kept(men: &[Option<Man>; 64], rights: Rights) -> Rights
 
 /// Whether a pawn can just have passed over a square, with this side to move.
 #[tactic(auto, unfolding(crate::specs::Board::target_fits))]
-fn passed_over(men: &[Option<Man>; 64], side: Color, at: Square) -> bool
+fn passed_over(men: &Men, side: Color, at: Square) -> bool
     ensures { result ≡ target_fits men.now side at }
 {
-    let index = usize::from(at.index());
+    let index = at.index();
     match side {
         Color::White => {
             at.rank() == 5
-                && men[index].is_none()
-                && men[index + 8].is_none()
-                && is_man_of(men[index - 8], Color::Black, Kind::Pawn)
+                && men.man(at).is_none()
+                && men.man(Square::at(index + 8)).is_none()
+                && is_man_of(men.man(Square::at(index - 8)), Color::Black, Kind::Pawn)
         }
         Color::Black => {
             at.rank() == 2
-                && men[index].is_none()
-                && men[index - 8].is_none()
-                && is_man_of(men[index + 8], Color::White, Kind::Pawn)
+                && men.man(at).is_none()
+                && men.man(Square::at(index - 8)).is_none()
+                && is_man_of(men.man(Square::at(index + 8)), Color::White, Kind::Pawn)
         }
     }
 }
 
 /// The target, where a pawn can just have passed over it.
 #[tactic(auto, unfolding(crate::specs::Build::kept_target))]
-fn target_kept(men: &[Option<Man>; 64], side: Color, target: Option<Square>) -> Option<Square>
+fn target_kept(men: &Men, side: Color, target: Option<Square>) -> Option<Square>
     ensures { result ≡ kept_target men.now side target }
 {
     match target {

@@ -7,8 +7,11 @@
 
 mod aim;
 mod build;
+mod lines;
 mod men;
 mod opening;
+mod over;
+mod placement;
 mod position;
 mod sets;
 mod sight;
@@ -18,9 +21,11 @@ pub use aim::{
     aims_at, diagonal, files_between, in_line, rank_ahead, ranks_between, steps_between, straight,
 };
 pub use build::BuildFault;
-pub use men::{Color, Kind, Man, is_man_of};
+pub use men::{Color, Kind, Man, is_man_of, is_of_side};
 pub use opening::OPENING_MEN;
-pub use position::{Position, Rights, attacks, king_attacked, king_square, one_king};
+pub use over::{aims, squares_between};
+pub use placement::Men;
+pub use position::{Position, Rights, attacks};
 pub use sets::SquareSet;
 pub use sight::{attacks_square, sees};
 pub use squares::Square;

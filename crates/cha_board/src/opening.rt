@@ -5,6 +5,7 @@ ghost use Rattle.cha_board.specs.declared.men.Color.TheVariants.{White};
 ghost use Rattle.cha_board.specs.declared.opening.TheConstants.{OPENING_MEN};
 
 use crate::men::{Color, Kind, Man};
+use crate::placement::Men;
 use crate::position::{Position, Rights};
 
 const WHITE_PAWN: Option<Man> = Some(Man {
@@ -102,9 +103,9 @@ impl Position {
     }
 }
 
-/// What stands on each square in the opening position.
-fn opening_men() -> [Option<Man>; 64]
+/// What stands on the squares in the opening position.
+fn opening_men() -> Men
     ensures { result ≡ OPENING_MEN }
 {
-    OPENING_MEN
+    Men::of_list(&OPENING_MEN)
 }

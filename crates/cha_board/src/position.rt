@@ -1,12 +1,14 @@
 //! Valid positions.
 
-ghost use Rattle.std.specs.Prelude.{◌≡◌, ◌==◌, IsTrue, count_by};
-ghost use Rattle.cha_board.specs.declared.men.Kind.TheVariants.{King};
+ghost use Rattle.std.specs.Prelude.{◌≡◌, not};
 ghost use Rattle.cha_board.specs.Men.{is_man};
-ghost use Rattle.cha_board.specs.Board.{man_at, attacked, king_of, in_check, has_one_king, IsValid};
+ghost use Rattle.cha_board.specs.Board.{man_at, is_empty, attacked, king_of, IsValid};
+ghost use Rattle.cha_board.specs.Board.{in_check as in_check_among};
+ghost use Rattle.cha_board.specs.SquareSets.{set_of};
 
-use crate::men::{Color, Kind, Man, is_man_of};
-use crate::sight::attacks_square;
+use crate::men::{Color, Kind, Man};
+use crate::placement::Men;
+use crate::sets::SquareSet;
 use crate::squares::Square;
 use std::marker::Model;
 
@@ -30,7 +32,7 @@ pub struct Rights {
 /// the rights and the target fit the men.
 #[derive(Clone, Copy, Debug, PartialEq, Eq)]
 pub struct Position {
-    men: [Option<Man>; 64],
+    men: Men,
     side: Color,
     rights: Rights,
     target: Option<Square>,
@@ -50,12 +52,7 @@ impl Model for Position {
 
 impl Position {
     /// The position of parts that are valid together.
-    pub fn of_parts(
-        men: [Option<Man>; 64],
-        side: Color,
-        rights: Rights,
-        target: Option<Square>,
-    ) -> Position
+    pub fn of_parts(men: Men, side: Color, rights: Rights, target: Option<Square>) -> Position
         requires { IsValid (record { men = men; side = side; rights = rights; target = target }) }
         ensures { result ≡ record { men = men; side = side; rights = rights; target = target } }
     {
@@ -71,15 +68,36 @@ impl Position {
     pub fn man(&self, at: Square) -> Option<Man>
         ensures { result ≡ man_at self.now.men at }
     {
-        self.men[usize::from(at.index())]
+        self.men.man(at)
     }
 
-    /// What stands on each square, from a1 to h8.
-    pub fn men(&self) -> &[Option<Man>; 64]
+    /// What stands on the squares.
+    pub fn placement(&self) -> &Men
         ensures value { result.now ≡ self.now.men }
         ensures valid { IsValid self.now }
     {
         &self.men
+    }
+
+    /// That the position is valid.
+    pub fn known(&self)
+        ensures { IsValid self.now }
+    {
+        let _men = &self.men;
+    }
+
+    /// The squares on which men of this side and this kind stand.
+    pub fn men(&self, of: Color, kind: Kind) -> SquareSet
+        ensures { result ≡ set_of (λ s. is_man of kind (man_at self.now.men s)) }
+    {
+        self.men.of_kind(of, kind)
+    }
+
+    /// The squares on which a man stands.
+    pub fn occupied(&self) -> SquareSet
+        ensures { result ≡ set_of (λ s. not (is_empty self.now.men s)) }
+    {
+        self.men.occupied()
     }
 
     /// The side to move.
@@ -107,7 +125,14 @@ impl Position {
     pub fn king(&self, of: Color) -> Square
         ensures { result ≡ king_of self.now.men of }
     {
-        king_square(&self.men, of)
+        self.men.king(of)
+    }
+
+    /// Whether the king of a side is attacked.
+    pub fn in_check(&self, of: Color) -> bool
+        ensures { result ≡ in_check_among self.now.men of }
+    {
+        self.men.in_check(of)
     }
 }
 
@@ -115,38 +140,5 @@ impl Position {
 pub fn attacks(position: &Position, by: Color, at: Square) -> bool
     ensures { result ≡ attacked position.now.men by at }
 {
-    attacks_square(position.men(), by, at)
-}
-
-/// Whether a side has exactly one king.
-#[tactic(auto, unfolding(crate::specs::Board::has_one_king))]
-pub fn one_king(men: &[Option<Man>; 64], of: Color) -> bool
-    ensures { result ≡ has_one_king men.now of }
-{
-    men.iter()
-        .filter(|man| is_man_of(**man, of, Kind::King))
-        .count()
-        == 1
-}
-
-/// Where the king of a side stands that has one.
-pub fn king_square(men: &[Option<Man>; 64], of: Color) -> Square
-    requires { IsTrue (has_one_king men.now of) }
-    ensures { result ≡ king_of men.now of }
-{
-    for index in 0..64 {
-        if is_man_of(men[usize::from(index)], of, Kind::King) {
-            return Square::at(index);
-        }
-    }
-    unreachable!()
-}
-
-/// Whether the king of a side is attacked.
-#[tactic(auto, unfolding(crate::specs::Board::in_check))]
-pub fn king_attacked(men: &[Option<Man>; 64], of: Color) -> bool
-    requires { IsTrue (has_one_king men.now of) }
-    ensures { result ≡ in_check men.now of }
-{
-    attacks_square(men, of.other(), king_square(men, of))
+    position.men.attacks(by, at)
 }

@@ -1,7 +1,7 @@
 //! Sets of squares.
 
-ghost use Rattle.std.specs.Prelude.{◌≡◌};
-ghost use Rattle.cha_board.specs.SquareSets.{set_of_bits, bits_of_set, empty_set, has_square, set_with, set_joined, is_subset};
+ghost use Rattle.std.specs.Prelude.{◌≡◌, ◌≤◌, length, slice_get};
+ghost use Rattle.cha_board.specs.SquareSets.{set_of_bits, bits_of_set, squares_in, empty_set, has_square, set_with, set_without, set_joined, set_common, set_minus, has_no_square, is_subset};
 
 use crate::squares::Square;
 use std::marker::Model;
@@ -70,12 +70,65 @@ impl SquareSet {
         }
     }
 
+    /// The set without a square.
+    pub fn without(self, at: Square) -> SquareSet
+        ensures { result ≡ set_without self at }
+    {
+        SquareSet {
+            bits: self.bits & !(1 << at.index()),
+        }
+    }
+
     /// The squares of either set.
     pub fn joined(self, other: SquareSet) -> SquareSet
         ensures { result ≡ set_joined self other }
     {
         SquareSet {
             bits: self.bits | other.bits,
+        }
+    }
+
+    /// The squares of both sets.
+    pub fn common(self, other: SquareSet) -> SquareSet
+        ensures { result ≡ set_common self other }
+    {
+        SquareSet {
+            bits: self.bits & other.bits,
+        }
+    }
+
+    /// The squares of this set that are not in the other.
+    pub fn minus(self, other: SquareSet) -> SquareSet
+        ensures { result ≡ set_minus self other }
+    {
+        SquareSet {
+            bits: self.bits & !other.bits,
+        }
+    }
+
+    /// Whether the set has no square.
+    pub fn is_empty(self) -> bool
+        ensures { result ≡ has_no_square self }
+    {
+        self.bits == 0
+    }
+
+    /// How many squares the set has.
+    pub fn len(self) -> u8
+        ensures value { result ≡ length (squares_in self) }
+        ensures bound { result ≤ 64 }
+    {
+        self.bits.count_ones() as u8
+    }
+
+    /// The first square of the set, in the order from a1 to h8, or None where it has none.
+    pub fn first(self) -> Option<Square>
+        ensures { result ≡ slice_get (squares_in self) 0 }
+    {
+        if self.bits == 0 {
+            None
+        } else {
+            Some(Square::at(self.bits.trailing_zeros() as u8))
         }
     }
 

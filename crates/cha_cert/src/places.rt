@@ -46,7 +46,7 @@ impl Index {
         ensures found { IsTrue result ↔ Contains self.now (packed_of position.now) }
         ensures valid { IsValid position.now }
     {
-        let _valid = position.men();
+        position.known();
         found(self.places.as_slice(), &pack(position))
     }
 }
@@ -58,7 +58,7 @@ fn packed(alloc: Global, nodes: &[Node]) -> Result<Vec<Packed>, NoMemory>
 {
     let mut places = Vec::with_capacity(alloc, nodes.len())?;
     for node in nodes {
-        let _valid = node.position.men();
+        node.position.known();
         places.push(pack(&node.position))?;
     }
     Ok(places)

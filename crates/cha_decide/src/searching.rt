@@ -7,7 +7,7 @@ ghost use Rattle.cha_moves.specs.Ends.{HasNoMateWithin};
 ghost use Rattle.cha_decide.specs.MateLines.{is_mated, mate_lines};
 ghost use Rattle.cha_decide.specs.Sound.{IsShortestMate, searched_plies};
 
-use cha_board::{Color, Position, king_attacked};
+use cha_board::{Color, Position};
 use cha_list::NoMemory;
 use cha_moves::{Move, Moves, after, any_legal, legal};
 use std::alloc::Global;
@@ -20,7 +20,7 @@ pub const SEARCHED_PLIES: u8 = 2;
 pub fn mated(position: &Position, loser: Color) -> bool
     ensures { result ≡ is_mated position.now loser }
 {
-    position.side().is(loser) && king_attacked(position.men(), loser) && !any_legal(position)
+    position.side().is(loser) && position.in_check(loser) && !any_legal(position)
 }
 
 /// A move and the moves behind it.

@@ -131,7 +131,7 @@ fn put_position(position: &Position, text: &mut Text) -> Result<(), NoMemory>
     ensures text { OnOk result (text.new ≡ text.old ++ fen_text position.now) }
     ensures valid { IsValid position.now }
 {
-    put_ranks(position.men(), text)?;
+    put_ranks(&position.placement().list(), text)?;
     text.push(b' ')?;
     put_side(position.side(), text)?;
     text.push(b' ')?;

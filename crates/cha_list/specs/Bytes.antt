@@ -15,7 +15,7 @@ is_digit b = is_from 48 57 b
 abbrev pub is_letter : ℕ → Bool
 is_letter b = is_from 65 90 b || is_from 97 122 b
 
--- _ + # = : - / ! ?
+-- an underscore, plus, number sign, equals sign, colon, hyphen, slash, exclamation mark or question mark
 abbrev pub is_word_sign : ℕ → Bool
 is_word_sign b =
     (b == 95) || (b == 43) || (b == 35) || (b == 61) || (b == 58) || (b == 45) || (b == 47) || (b == 33) || (b == 63)

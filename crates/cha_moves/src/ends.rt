@@ -3,7 +3,7 @@
 ghost use Rattle.cha_moves.specs.Standings.{Stands};
 
 use crate::list::any_legal;
-use cha_board::{Color, Position, king_attacked};
+use cha_board::{Color, Position};
 
 /// How a position stands.
 #[derive(Clone, Copy, Debug, PartialEq, Eq)]
@@ -24,7 +24,7 @@ pub fn state(position: &Position) -> Standing
         return Standing::Running;
     }
     let side = position.side();
-    if king_attacked(position.men(), side) {
+    if position.in_check(side) {
         Standing::Mate(side.other())
     } else {
         Standing::Stalemate

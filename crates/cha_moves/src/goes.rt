@@ -126,7 +126,7 @@ fn has_way(position: &Position, kind: Kind, s: Square, t: Square) -> bool
                 || castles_short(position, s, t)
                 || castles_long(position, s, t)
         }
-        _ => aims_at(side, kind, s, t) && sees(position.men(), s, t),
+        _ => aims_at(side, kind, s, t) && sees(&position.placement().list(), s, t),
     }
 }
 

@@ -10,7 +10,7 @@ ghost use Rattle.cha_moves.specs.Moves.{legal as legal_moves, after as position_
 use crate::goes::{can_go, is_pseudo_legal};
 use crate::makes::{men_made, rights_made, target_made};
 use crate::step::Move;
-use cha_board::{Kind, Man, Position, Square, king_attacked};
+use cha_board::{Kind, Men, Position, Square};
 use cha_list::{Listed, NoMemory};
 use std::alloc::Global;
 
@@ -21,14 +21,14 @@ pub type Moves = Listed<Move>;
 pub type Positions = Listed<Position>;
 
 /// The men after a move that may be made but for what its king suffers.
-fn men_kept(position: &Position, m: Move) -> [Option<Man>; 64]
+fn men_kept(position: &Position, m: Move) -> Men
     requires { IsTrue (is_pseudo_legal_in position.now m) }
     ensures value { result ≡ men_after position.now m }
     ensures kings { (c : Side) → IsTrue (has_one_king result c) }
 {
     m.known();
-    // What is said of the men rests on the position being valid, of which `men` tells.
-    let _valid = position.men();
+    // What is said of the men rests on the position being valid.
+    position.known();
     men_made(position, m)
 }
 
@@ -37,7 +37,7 @@ fn men_kept(position: &Position, m: Move) -> [Option<Man>; 64]
 fn is_allowed(position: &Position, m: Move) -> bool
     ensures { result ≡ is_legal_in position.now m }
 {
-    is_pseudo_legal(position, m) && !king_attacked(&men_kept(position, m), position.side())
+    is_pseudo_legal(position, m) && !men_kept(position, m).in_check(position.side())
 }
 
 /// Appends a move that is legal.
@@ -117,8 +117,8 @@ pub fn after(position: &Position, m: Move) -> Position
     requires { Contains (legal_moves position.now) m }
     ensures { result ≡ position_after position.now m }
 {
-    // The position is valid, of which `men` tells, and so is what a legal move leaves.
-    let _valid = position.men();
+    // The position is valid, and so is what a legal move leaves.
+    position.known();
     Position::of_parts(
         men_made(position, m),
         position.side().other(),

@@ -23,8 +23,8 @@ pub fn has_bare_king(position: &Position, of: Color) -> bool
     ensures value { result ≡ not (has_non_king position.now.men of) }
     ensures never { OnTrue result (IsUnwinnable position.now of) }
 {
-    // The law holds of valid positions, of which `men` tells.
-    let _valid = position.men();
+    // The law holds of valid positions.
+    position.known();
     for index in 0..64 {
         if is_other_than_king(position.man(Square::at(index)), of) {
             return false;

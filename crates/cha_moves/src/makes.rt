@@ -7,7 +7,7 @@ ghost use Rattle.cha_moves.specs.Moves.{arriving, victim_of, moved, is_en_passan
 use crate::goes::{castles_long, castles_short, double_steps, goes_en_passant};
 use crate::sides::home;
 use crate::step::Move;
-use cha_board::{Color, Kind, Man, Position, Rights, Square, is_man_of};
+use cha_board::{Color, Kind, Man, Men, Position, Rights, Square, is_man_of};
 
 /// What arrives where this man goes and becomes that.
 fn arrives(man: Option<Man>, promotion: Option<Kind>) -> Option<Man>
@@ -40,39 +40,32 @@ fn victim(position: &Position, s: Square, t: Square) -> u8
 }
 
 /// The men once what stands on one square has gone to another, where it shows as this.
-fn shift(men: [Option<Man>; 64], from: u8, to: u8, man: Option<Man>) -> [Option<Man>; 64]
-    requires from { from < 64 }
-    requires to { to < 64 }
+fn shift(men: Men, from: Square, to: Square, man: Option<Man>) -> Men
     ensures { result ≡ moved men from to man }
 {
-    let mut shifted = men;
-    shifted[usize::from(from)] = None;
-    shifted[usize::from(to)] = man;
-    shifted
+    men.put(from, None).put(to, man)
 }
 
 /// The men after a move.
 #[tactic(auto, unfolding(crate::specs::Moves::men_after))]
-pub fn men_made(position: &Position, m: Move) -> [Option<Man>; 64]
+pub fn men_made(position: &Position, m: Move) -> Men
     ensures { result ≡ men_after position.now m }
 {
-    m.known();
     let side = position.side();
     let man = position.man(m.from);
     let arrived = arrives(man, m.promotion);
-    let mut men = shift(*position.men(), m.from.index(), m.to.index(), arrived);
+    let men = shift(*position.placement(), m.from, m.to, arrived);
     let h = home(side);
     let rook = Some(Man {
         color: side,
         kind: Kind::Rook,
     });
     if is_man_of(man, side, Kind::Pawn) && goes_en_passant(position, m.from, m.to) {
-        men[usize::from(victim(position, m.from, m.to))] = None;
-        men
+        men.put(Square::at(victim(position, m.from, m.to)), None)
     } else if is_man_of(man, side, Kind::King) && castles_short(position, m.from, m.to) {
-        shift(men, h + 3, h + 1, rook)
+        shift(men, Square::at(h + 3), Square::at(h + 1), rook)
     } else if is_man_of(man, side, Kind::King) && castles_long(position, m.from, m.to) {
-        shift(men, h - 4, h - 1, rook)
+        shift(men, Square::at(h - 4), Square::at(h - 1), rook)
     } else {
         men
     }

@@ -18,7 +18,7 @@ pub struct Packed {
 pub fn pack(position: &Position) -> Packed
     ensures { result.words ≡ words_of position.now }
 {
-    let men = position.men();
+    let men = position.placement().list();
     Packed {
         words: [
             men_word(&men[0..16]),
@@ -39,8 +39,8 @@ pub fn words_tell_positions()
 pub fn same_position(a: &Position, b: &Position) -> bool
     ensures { IsTrue result ↔ (a.now ≡ b.now) }
 {
-    let _valid = a.men();
-    let _also_valid = b.men();
+    a.known();
+    b.known();
     pack(a).words == pack(b).words
 }
 

@@ -18,6 +18,6 @@ pub fn proves_unwinnable(position: &Position, winner: Color, sets: &Sets) -> boo
     ensures value { IsTrue result ↔ (IsClosed position.now (sets_of sets.now) × HasNoMate position.now (sets_of sets.now) winner) }
     ensures law { OnTrue result (IsUnwinnable position.now winner) }
 {
-    let _men = position.men();
+    position.known();
     closed(position, sets) && no_mate(position, winner, sets)
 }

@@ -19,7 +19,7 @@ use mob_sets::Sets;
 pub fn closed(position: &Position, sets: &Sets) -> bool
     ensures { IsTrue result ↔ IsClosed position.now (sets_of sets.now) }
 {
-    let _men = position.men();
+    position.known();
     rules(position, sets)
 }
 

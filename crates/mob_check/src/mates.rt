@@ -15,7 +15,7 @@ use mob_sets::Sets;
 pub fn no_mate(position: &Position, winner: Color, sets: &Sets) -> bool
     ensures { IsTrue result ↔ HasNoMate position.now (sets_of sets.now) winner }
 {
-    let _men = position.men();
+    position.known();
     !some_mate(&Scene::of(position, sets, winner))
 }
 

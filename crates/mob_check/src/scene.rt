@@ -65,7 +65,7 @@ impl Scene {
         Scene {
             fixed: fixed_alone(position, sets),
             winner,
-            one_man: !two_men(position.men(), winner),
+            one_man: !two_men(&position.placement().list(), winner),
             men: reach_kinds(position, rows, winner),
             winner_king: squares_of(position, rows, Group::KingOf(winner)),
             loser_king: squares_of(position, rows, Group::KingOf(loser)),

@@ -198,7 +198,7 @@ fn target_squares(position: &Position, side: Color) -> SquareSet
 fn victim_squares(position: &Position, side: Color) -> SquareSet
     ensures { result ≡ set_of (is_victim_for position.now side) }
 {
-    let _men = position.men();
+    position.known();
     match position.target() {
         None => SquareSet::empty(),
         Some(target) => {

@@ -23,7 +23,7 @@ pub fn pass(position: &Position, reach: &mut Reach) -> bool
     ensures closed { result ≡ false → IsClosed position.now (sets_in reach.old) }
     ensures inside { (r : Sets) → IsClosed position.now r → IsWithin (sets_in reach.old) r → IsWithin (sets_in reach.new) r }
 {
-    let _men = position.men();
+    position.known();
     let ground = Ground::of(position, reach);
     let men = grow_men(position, &ground, reach);
     let white = grow_castlings(position, &ground, reach, Color::White);

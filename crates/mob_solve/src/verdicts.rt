@@ -26,7 +26,7 @@ pub fn static_verdict(
     ensures law { IfOk result (λ o. IfSome o (λ s. IsUnwinnable position.now winner)) }
     ensures none { IfOk result (λ o. IfNone o (IsStaticallyUnwinnable position.now winner → ⊥)) }
 {
-    let _men = position.men();
+    position.known();
     let sets = least(alloc, position)?;
     if no_mate(position, winner, &sets) {
         Ok(Some(sets))

@@ -12,5 +12,5 @@ loop-node-preserved c = record {
       (c.pack.ensures ∙ ap (λ node. words_of node.position) c.node-item.is) c.in_ok-push.ensures.items;
   valid =
       valid_more c.args.nodes.now c.loop-node.node-index c.node-item.result c.loop-node.invariant.valid
-      (λ d. subst (λ node. IsValid node.position) (get_or_read c.args.nodes.now c.loop-node.node-index c.node-item.result c.loop-node-test.true c.node-item.is d) c.men-valid.ensures.valid);
+      (λ d. subst (λ node. IsValid node.position) (get_or_read c.args.nodes.now c.loop-node.node-index c.node-item.result c.loop-node-test.true c.node-item.is d) c.known.ensures);
 }

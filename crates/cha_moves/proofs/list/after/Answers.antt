@@ -10,7 +10,7 @@ of_parts-requires c =
     let q = c.args.position.now in
     let m = c.args.m in
     let found = is_listed q m c.requires in
-    rw (c.men_made.ensures, c.other.ensures, c.side.ensures, c.rights_made.ensures, c.rights.ensures, c.target_made.ensures) (after_is_valid q m c.men-valid.ensures.valid found.from found.to found.legal)
+    rw (c.men_made.ensures, c.other.ensures, c.side.ensures, c.rights_made.ensures, c.rights.ensures, c.target_made.ensures) (after_is_valid q m c.known.ensures found.from found.to found.legal)
 
 pub returns : goal.returns
 unfolding after

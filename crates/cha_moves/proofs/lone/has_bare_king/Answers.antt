@@ -17,4 +17,4 @@ returns-clause-value c =
 
 pub returns-clause-never : goal.returns-clause-never
 returns-clause-never c =
-    bare_never_mates c.args.position.now c.args.of c.men-valid.ensures.valid (non_king_nowhere c.args.position.now.men c.args.of (λ s small. c.loop-index.invariant s (omega arith)))
+    bare_never_mates c.args.position.now c.args.of c.known.ensures (non_king_nowhere c.args.position.now.men c.args.of (λ s small. c.loop-index.invariant s (omega arith)))

@@ -8,5 +8,5 @@ use Rattle.cha_pack.proofs.words.same_position.Goals as goal
 pub returns : goal.returns
 returns c =
     let equal = slice_eq-Decides Decides-eqb _ _ _ c.eq.ensures in
-    let tell = words_tell c.args.a.now c.args.b.now c.men-valid.ensures.valid c.men-also_valid.ensures.valid in
+    let tell = words_tell c.args.a.now c.args.b.now c.known.ensures c.known-2.ensures in
     (λ same. tell (sym c.pack.ensures ∙ equal.0 same ∙ c.pack-2.ensures), λ one. equal.1 (c.pack.ensures ∙ ap words_of one ∙ sym c.pack-2.ensures))

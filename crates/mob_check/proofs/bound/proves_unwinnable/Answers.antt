@@ -7,4 +7,4 @@ returns-then-closed-clause-value c = (λ h. (c.closed.ensures.0 c.if-closed.true
 
 pub returns-then-closed-clause-law : goal.returns-then-closed-clause-law
 returns-then-closed-clause-law c =
-    OnTrue_from c.no_mate.result _ (λ h. bounded _ _ _ c.men-men.ensures.valid (c.closed.ensures.0 c.if-closed.true) (c.no_mate.ensures.0 h))
+    OnTrue_from c.no_mate.result _ (λ h. bounded _ _ _ c.known.ensures (c.closed.ensures.0 c.if-closed.true) (c.no_mate.ensures.0 h))

@@ -5,10 +5,10 @@ use Rattle.mob_solve.proofs.Grounds.{no_victim, victim_of_other, victim_of_own, 
 use Rattle.mob_solve.proofs.ground.victim_squares.Goals as goal
 
 pub victim-requires-clause-low : goal.victim-requires-clause-low
-victim-requires-clause-low c = (target_inside c.args.position.now c.in-Some.target c.men-men.ensures.valid (sym c.target.ensures ∙ c.in-Some.is)).0
+victim-requires-clause-low c = (target_inside c.args.position.now c.in-Some.target c.known.ensures (sym c.target.ensures ∙ c.in-Some.is)).0
 
 pub victim-requires-clause-high : goal.victim-requires-clause-high
-victim-requires-clause-high c = (target_inside c.args.position.now c.in-Some.target c.men-men.ensures.valid (sym c.target.ensures ∙ c.in-Some.is)).1
+victim-requires-clause-high c = (target_inside c.args.position.now c.in-Some.target c.known.ensures (sym c.target.ensures ∙ c.in-Some.is)).1
 
 pub returns-in-None : goal.returns-in-None
 returns-in-None c = c.empty.ensures ∙ no_victim c.args.position.now c.args.side (sym c.target.ensures ∙ c.in-None.is)

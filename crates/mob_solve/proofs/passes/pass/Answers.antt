@@ -37,7 +37,7 @@ returns-else-white-clause-closed c = λ last.
     let old = c.args.reach.now in
     let one = c.grow_men-men.ensures.change.still none.0 in
     let two = c.grow_castlings-white.ensures.change.still none.1 ∙ one in
-    let valid = c.men-men.ensures.valid in
+    let valid = c.known.ensures in
     let rules = all_rules p c.of-ground.result old c.grow_men-men.new.reach c.grow_castlings-white.new.reach valid.size one two
     (c.grow_men-men.ensures.rules none.0) (c.grow_castlings-white.ensures.rules none.1) (c.grow_castlings-black.ensures.rules last) in
     let P : Ground → Type 0 = λ (g : Ground). AllRules p g (sets_in old) in

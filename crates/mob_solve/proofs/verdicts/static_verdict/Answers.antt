@@ -13,7 +13,7 @@ returns-then-no_mate-clause-no_mate c = c.no_mate.ensures.0 c.if-no_mate.true
 
 pub returns-then-no_mate-clause-law : goal.returns-then-no_mate-clause-law
 returns-then-no_mate-clause-law c =
-    bounded c.args.position.now (sets_of c.in_ok-sets.sets) c.args.winner c.men-men.ensures.valid c.in_ok-sets.ensures.closed (c.no_mate.ensures.0 c.if-no_mate.true)
+    bounded c.args.position.now (sets_of c.in_ok-sets.sets) c.args.winner c.known.ensures c.in_ok-sets.ensures.closed (c.no_mate.ensures.0 c.if-no_mate.true)
 
 pub returns-else-no_mate-clause-none : goal.returns-else-no_mate-clause-none
 returns-else-no_mate-clause-none c = λ static.

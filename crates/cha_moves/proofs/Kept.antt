@@ -19,7 +19,7 @@ use Rattle.cha_moves.proofs.Identity.{same_color_equal, same_kind_equal, side_ot
 use Rattle.cha_moves.proofs.Made.{Mover, Step, put_other, length-moved, moved_other, men_moved, Plainly, Passing, Shortly, Longly, makes}
 
 -- the mover's own man bars a square
-own_bars : (c : Color) (o : Option Man) (man : Man) → o ≡ Some man → same_color man.color c ≡ true → may_enter c o ≡ true → ⊥
+pub own_bars : (c : Color) (o : Option Man) (man : Man) → o ≡ Some man → same_color man.color c ≡ true → may_enter c o ≡ true → ⊥
 own_bars c None man e own h = cc
 own_bars c (Some x) man e own h =
     let both = and_parts (not (same_color x.color c)) (not (same_kind x.kind King)) h in

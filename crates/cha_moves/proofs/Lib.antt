@@ -5,4 +5,10 @@ pub mod Validity
 pub mod Pieces
 pub mod Listed
 pub mod Bare
+pub mod Filling
+pub mod Sureness
+pub mod WayLaws
+pub mod Arriving
+pub mod Goings
+pub mod Pushes
 pub mod Examples

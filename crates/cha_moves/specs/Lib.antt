@@ -3,3 +3,4 @@ pub mod Moves
 pub mod Ends
 pub mod Standings
 pub mod Texts
+pub mod Ways

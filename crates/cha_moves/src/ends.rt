@@ -2,7 +2,7 @@
 
 ghost use Rattle.cha_moves.specs.Standings.{Stands};
 
-use crate::list::any_legal;
+use crate::some::any_legal;
 use cha_board::{Color, Position};
 
 /// How a position stands.

@@ -1,16 +1,18 @@
-//! The legal moves, and the position after one (Laws of Chess, Articles 3.9.2 and 3.10.1).
+//! The list of the legal moves, and the position after one (Laws of Chess, Articles 3.9.2 and 3.10.1).
 
-ghost use Rattle.std.specs.Prelude.{ℕ, ◌≡◌, ◌≢◌, ◌<◌, ◌↔◌, ◌++◌, [], ◌∷◌, filter, IsTrue, OnOk, IfOk, Contains};
-ghost use Rattle.std.specs.Bool.{OnTrue, OnFalse};
-ghost use Rattle.cha_board.specs.declared.men.Color.{Color as Side};
-ghost use Rattle.cha_board.specs.Board.{has_one_king};
-ghost use Rattle.cha_moves.specs.Moves.{is_pseudo_legal as is_pseudo_legal_in, men_after, is_legal_in, moves_between, moves_from};
+ghost use Rattle.std.specs.Prelude.{◌≡◌, ◌<◌, ◌↔◌, ◌++◌, [], ◌∷◌, if◌then◌else◌, filter, IsTrue, Some, OnOk, IfOk, Contains};
+ghost use Rattle.std.specs.Bool.{OnTrue};
+ghost use Rattle.cha_board.specs.Board.{man_at};
+ghost use Rattle.cha_moves.specs.Moves.{is_pseudo_legal as is_pseudo_legal_in, is_legal_in, moves_from};
 ghost use Rattle.cha_moves.specs.Moves.{legal as legal_moves, after as position_after};
+ghost use Rattle.cha_moves.specs.Ways.{is_way, legal_between, IsSure};
 
-use crate::goes::{can_go, is_pseudo_legal};
+use crate::goes::promotes;
 use crate::makes::{men_made, rights_made, target_made};
+use crate::safety::{is_sure, stays_safe};
 use crate::step::Move;
-use cha_board::{Kind, Men, Position, Square};
+use crate::ways::{is_pseudo_legal, ways_of};
+use cha_board::{Kind, Man, Position, Square};
 use cha_list::{Listed, NoMemory};
 use std::alloc::Global;
 
@@ -20,86 +22,119 @@ pub type Moves = Listed<Move>;
 /// A list of positions.
 pub type Positions = Listed<Position>;
 
-/// The men after a move that may be made but for what its king suffers.
-fn men_kept(position: &Position, m: Move) -> Men
-    requires { IsTrue (is_pseudo_legal_in position.now m) }
-    ensures value { result ≡ men_after position.now m }
-    ensures kings { (c : Side) → IsTrue (has_one_king result c) }
-{
-    m.known();
-    // What is said of the men rests on the position being valid.
-    position.known();
-    men_made(position, m)
-}
+/// How many moves the list of legal moves has room for from the start. Few positions of games have more.
+const ROOM: usize = 48;
 
-/// Whether the Laws allow a move.
-#[tactic(auto, unfolding(crate::specs::Moves::is_legal_in))]
-fn is_allowed(position: &Position, m: Move) -> bool
-    ensures { result ≡ is_legal_in position.now m }
-{
-    is_pseudo_legal(position, m) && !men_kept(position, m).in_check(position.side())
-}
-
-/// Appends a move that is legal.
-fn add_if_legal(
+/// Appends a move without a promotion, if it is legal.
+fn add_move(
     position: &Position,
     moves: &mut Vec<Move>,
     from: Square,
     to: Square,
-    promotion: Option<Kind>,
+    sure: bool,
 ) -> Result<(), NoMemory>
-    ensures { OnOk result (moves.new.items ≡ moves.old.items ++ filter (is_legal_in position.now) (record { from = from; to = to; promotion = promotion } ∷ [])) }
+    requires may { IsTrue (is_pseudo_legal_in position.now (record { from = from; to = to; promotion = None })) }
+    requires sure { OnTrue sure (IsSure position.now from) }
+    ensures { OnOk result (moves.new.items ≡ moves.old.items ++ (if is_legal_in position.now (record { from = from; to = to; promotion = None }) then record { from = from; to = to; promotion = None } ∷ [] else [])) }
 {
+    let _to = to.index();
     let m = Move {
         from,
         to,
-        promotion,
+        promotion: None,
     };
-    if is_allowed(position, m) {
+    if stays_safe(position, m, sure) {
         moves.push(m)?;
     }
     Ok(())
 }
 
-/// Appends the legal moves from one square to another. A man that cannot go so is asked no more.
-fn add_between(
+/// A promotion.
+fn promotion(from: Square, to: Square, kind: Kind) -> Move
+    ensures { result ≡ record { from = from; to = to; promotion = Some kind } }
+{
+    Move {
+        from,
+        to,
+        promotion: Some(kind),
+    }
+}
+
+/// Appends the four promotions of a pawn, if they are legal. They are legal alike, so the king is asked once.
+fn add_promotions(
     position: &Position,
     moves: &mut Vec<Move>,
     from: Square,
     to: Square,
+    sure: bool,
 ) -> Result<(), NoMemory>
-    ensures { OnOk result (moves.new.items ≡ moves.old.items ++ filter (is_legal_in position.now) (moves_between from to)) }
+    requires may { IsTrue (is_pseudo_legal_in position.now (record { from = from; to = to; promotion = Some Kind.Queen })) }
+    requires sure { OnTrue sure (IsSure position.now from) }
+    ensures { OnOk result (moves.new.items ≡ moves.old.items ++ (if is_legal_in position.now (record { from = from; to = to; promotion = Some Kind.Queen }) then record { from = from; to = to; promotion = Some Kind.Queen } ∷ record { from = from; to = to; promotion = Some Kind.Rook } ∷ record { from = from; to = to; promotion = Some Kind.Bishop } ∷ record { from = from; to = to; promotion = Some Kind.Knight } ∷ [] else [])) }
 {
-    if !can_go(position, from, to) {
-        return Ok(());
+    let _to = to.index();
+    if stays_safe(position, promotion(from, to, Kind::Queen), sure) {
+        moves.push(promotion(from, to, Kind::Queen))?;
+        moves.push(promotion(from, to, Kind::Rook))?;
+        moves.push(promotion(from, to, Kind::Bishop))?;
+        moves.push(promotion(from, to, Kind::Knight))?;
     }
-    add_if_legal(position, moves, from, to, None)?;
-    add_if_legal(position, moves, from, to, Some(Kind::Queen))?;
-    add_if_legal(position, moves, from, to, Some(Kind::Rook))?;
-    add_if_legal(position, moves, from, to, Some(Kind::Bishop))?;
-    add_if_legal(position, moves, from, to, Some(Kind::Knight))
+    Ok(())
+}
+
+/// Appends the legal moves from one square to another to which the man there may go.
+fn add_way(
+    position: &Position,
+    moves: &mut Vec<Move>,
+    man: Man,
+    from: Square,
+    to: Square,
+    sure: bool,
+) -> Result<(), NoMemory>
+    requires man { man_at position.now.men from ≡ Some man }
+    requires way { IsTrue (is_way position.now from to) }
+    requires sure { OnTrue sure (IsSure position.now from) }
+    ensures { OnOk result (moves.new.items ≡ moves.old.items ++ legal_between position.now from to) }
+{
+    // The moves of a way are told of valid positions.
+    position.known();
+    let _squares = (from.index(), to.index());
+    if promotes(position.side(), man.kind, to) {
+        add_promotions(position, moves, from, to, sure)
+    } else {
+        add_move(position, moves, from, to, sure)
+    }
 }
 
 /// Appends the legal moves from a square.
-#[tactic(auto, using(crate::proofs::Pieces::filter_pieces_more, crate::proofs::Pieces::pieces_all), unfolding(crate::specs::Moves::moves_from))]
 fn add_from(position: &Position, moves: &mut Vec<Move>, from: Square) -> Result<(), NoMemory>
     ensures { OnOk result (moves.new.items ≡ moves.old.items ++ filter (is_legal_in position.now) (moves_from from)) }
 {
-    for index in 0..64 {
-        add_between(position, moves, from, Square::at(index))?;
+    let Some(man) = position.man(from) else {
+        return Ok(());
+    };
+    let mut left = ways_of(position, man, from);
+    if left.is_empty() {
+        return Ok(());
+    }
+    let sure = is_sure(position, man, from);
+    while let Some(to) = left.first() {
+        add_way(position, moves, man, from, to, sure)?;
+        left = left.without(to);
     }
     Ok(())
 }
 
 /// The legal moves: by the square that they leave, then by the one that they enter, then by promotion to queen, rook,
 /// bishop and knight.
-#[tactic(auto, using(crate::proofs::Pieces::filter_pieces_grow, crate::proofs::Pieces::pieces_all), unfolding(crate::specs::Moves::legal, crate::specs::Moves::all_moves))]
 pub fn legal(alloc: Global, position: &Position) -> Result<Vec<Move>, NoMemory>
     ensures { IfOk result (λ moves. moves.items ≡ legal_moves position.now) }
 {
-    let mut moves = Vec::new(alloc);
-    for index in 0..64 {
-        add_from(position, &mut moves, Square::at(index))?;
+    let mut moves = Vec::with_capacity(alloc, ROOM)?;
+    let mut left = position.placement().of_side(position.side());
+    while let Some(from) = left.first() {
+        add_from(position, &mut moves, from)?;
+        left = left.without(from);
     }
     Ok(moves)
 }
@@ -110,6 +145,14 @@ pub fn is_legal(position: &Position, m: Move) -> bool
 {
     m.known();
     is_allowed(position, m)
+}
+
+/// Whether the Laws allow a move.
+#[tactic(auto, unfolding(crate::specs::Moves::is_legal_in))]
+fn is_allowed(position: &Position, m: Move) -> bool
+    ensures { result ≡ is_legal_in position.now m }
+{
+    is_pseudo_legal(position, m) && stays_safe(position, m, false)
 }
 
 /// The position after a legal move.
@@ -125,58 +168,4 @@ pub fn after(position: &Position, m: Move) -> Position
         rights_made(position.rights(), m),
         target_made(position, m),
     )
-}
-
-/// Whether the Laws allow a move from one square to another with this promotion.
-fn allows(position: &Position, from: Square, to: Square, promotion: Option<Kind>) -> bool
-    ensures { result ≡ is_legal_in position.now (record { from = from; to = to; promotion = promotion }) }
-{
-    let m = Move {
-        from,
-        to,
-        promotion,
-    };
-    is_allowed(position, m)
-}
-
-/// Whether some move between two squares is legal.
-#[tactic(auto, using(crate::proofs::Listed::none_between))]
-fn any_between(position: &Position, from: Square, to: Square) -> bool
-    ensures some { OnTrue result (filter (is_legal_in position.now) (moves_between from to) ≢ []) }
-    ensures none { OnFalse result (filter (is_legal_in position.now) (moves_between from to) ≡ []) }
-{
-    can_go(position, from, to)
-        && (allows(position, from, to, None)
-            || allows(position, from, to, Some(Kind::Queen))
-            || allows(position, from, to, Some(Kind::Rook))
-            || allows(position, from, to, Some(Kind::Bishop))
-            || allows(position, from, to, Some(Kind::Knight)))
-}
-
-/// Whether some move from a square is legal.
-#[tactic(auto, using(crate::proofs::Pieces::some_piece, crate::proofs::Pieces::no_piece), unfolding(crate::specs::Moves::moves_from))]
-fn any_from(position: &Position, from: Square) -> bool
-    ensures some { OnTrue result (filter (is_legal_in position.now) (moves_from from) ≢ []) }
-    ensures none { OnFalse result (filter (is_legal_in position.now) (moves_from from) ≡ []) }
-{
-    for index in 0..64 {
-        if any_between(position, from, Square::at(index)) {
-            return true;
-        }
-    }
-    false
-}
-
-/// Whether some move is legal. It stops at the first.
-#[tactic(auto, using(crate::proofs::Pieces::some_piece, crate::proofs::Pieces::no_piece), unfolding(crate::specs::Moves::legal, crate::specs::Moves::all_moves))]
-pub fn any_legal(position: &Position) -> bool
-    ensures some { OnTrue result (legal_moves position.now ≢ []) }
-    ensures none { OnFalse result (legal_moves position.now ≡ []) }
-{
-    for index in 0..64 {
-        if any_from(position, Square::at(index)) {
-            return true;
-        }
-    }
-    false
 }

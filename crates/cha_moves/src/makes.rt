@@ -4,7 +4,8 @@ ghost use Rattle.std.specs.Prelude.{◌≡◌, ◌<◌, IsTrue};
 ghost use Rattle.cha_board.specs.Board.{man_at};
 ghost use Rattle.cha_moves.specs.Moves.{arriving, victim_of, moved, is_en_passant, touches, men_after, rights_after, target_after};
 
-use crate::goes::{castles_long, castles_short, double_steps, goes_en_passant, home};
+use crate::goes::{castles_long, castles_short, double_steps, goes_en_passant};
+use crate::sides::home;
 use crate::step::Move;
 use cha_board::{Color, Kind, Man, Men, Position, Rights, Square, is_man_of};
 

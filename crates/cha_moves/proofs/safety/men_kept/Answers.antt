@@ -1,6 +1,6 @@
 use Rattle.cha_moves.proofs.Made.{Step, may_gives}
 use Rattle.cha_moves.proofs.Kept.{kings_kept}
-use Rattle.cha_moves.proofs.list.men_kept.Goals as goal
+use Rattle.cha_moves.proofs.safety.men_kept.Goals as goal
 
 pub returns-clause-kings : goal.returns-clause-kings
 returns-clause-kings c =

@@ -1,7 +1,0 @@
-use Rattle.std.proofs.Common.{◌≡◌, ℕ, ◌<◌, []}
-use Rattle.std.specs.List.{filter}
-use Rattle.cha_moves.specs.Moves.{is_legal_in, moves_from}
-use Rattle.cha_moves.proofs.list.any_legal.Given as goal
-
-abbrev pub invariant-loop-index : goal.invariant-loop-index
-invariant-loop-index l = (s : ℕ) → s < l.index → filter (is_legal_in l.position) (moves_from s) ≡ []

@@ -1,0 +1,16 @@
+use Rattle.std.proofs.Common.{◌≡◌, ℕ, true, length}
+use Rattle.std.specs.List.{Contains, filter, flat_map}
+use Rattle.cha_board.specs.SquareSets.{squares_in}
+use Rattle.cha_moves.specs.Moves.{is_legal_in, moves_between, moves_from}
+use Rattle.cha_moves.specs.Ways.{is_way}
+use Rattle.cha_moves.proofs.some.any_from.Given as goal
+
+abbrev pub decreases-loop-to : goal.decreases-loop-to
+decreases-loop-to l = length (squares_in l.left)
+
+-- the legal moves of the square are those to the squares that are left, each of which is a way
+abbrev pub invariant-loop-to : goal.invariant-loop-to
+invariant-loop-to l = record {
+  so_far : filter (is_legal_in l.position) (moves_from l.from) ≡ filter (is_legal_in l.position) (flat_map (moves_between l.from) (squares_in l.left));
+  ways : (t : ℕ) → Contains (squares_in l.left) t → is_way l.position l.from t ≡ true;
+}

@@ -1,0 +1,133 @@
+//! Where men may go, as sets of squares (Laws of Chess, Articles 3.1 to 3.8).
+
+ghost use Rattle.std.specs.Prelude.{◌≡◌, ◌≢◌, ◌==◌, not, ◌&&◌, ◌||◌, Some};
+ghost use Rattle.cha_board.specs.Squares.{rank_of};
+ghost use Rattle.cha_board.specs.Board.{man_at};
+ghost use Rattle.cha_board.specs.SquareSets.{set_of, has_square};
+ghost use Rattle.cha_moves.specs.Moves.{last_rank, is_step, is_double_step, is_pawn_capture, is_en_passant, goes, may_enter};
+ghost use Rattle.cha_moves.specs.Moves.{is_pseudo_legal as is_pseudo_legal_in};
+ghost use Rattle.cha_moves.specs.Ways.{ahead_of, is_way};
+
+use crate::goes::{castles_long, castles_short, promotes_well};
+use crate::sides::{first_pawn_rank, home, promotion_rank};
+use crate::step::Move;
+use cha_board::{Color, Kind, Man, Position, Square, SquareSet, aims};
+
+/// The squares that the side to move may not enter: those of its own men and that of the other king.
+fn barred(position: &Position) -> SquareSet
+    ensures { result ≡ set_of (λ t. not (may_enter position.now.side (man_at position.now.men t))) }
+{
+    let side = position.side();
+    let own = position.placement().of_side(side);
+    own.joined(position.men(side.other(), Kind::King))
+}
+
+/// The set with one more square, where that is so.
+fn with_where(set: SquareSet, at: Square, so: bool) -> SquareSet
+    ensures { result ≡ set_of (λ t. (so && (t == at)) || has_square set t) }
+{
+    let _bits = set.bits();
+    if so { set.with(at) } else { set }
+}
+
+/// The square ahead of a pawn, which is not on the last rank.
+fn ahead(side: Color, s: Square) -> Square
+    requires { rank_of s ≢ last_rank side }
+    ensures { result ≡ ahead_of side s }
+{
+    let _rank = s.rank();
+    match side {
+        Color::White => Square::at(s.index() + 8),
+        Color::Black => Square::at(s.index() - 8),
+    }
+}
+
+/// The squares to which a pawn of the side to move steps.
+fn pawn_steps(position: &Position, s: Square) -> SquareSet
+    ensures { result ≡ set_of (λ t. is_step position.now s t || is_double_step position.now s t) }
+{
+    let side = position.side();
+    if s.rank() == promotion_rank(side) {
+        return SquareSet::empty();
+    }
+    let occupied = position.occupied();
+    let one = ahead(side, s);
+    if occupied.has(one) {
+        return SquareSet::empty();
+    }
+    let steps = SquareSet::empty().with(one);
+    if s.rank() != first_pawn_rank(side) {
+        return steps;
+    }
+    let two = ahead(side, one);
+    if occupied.has(two) {
+        return steps;
+    }
+    steps.with(two)
+}
+
+/// The squares onto which a pawn of the side to move captures, en passant too.
+fn pawn_captures(position: &Position, s: Square) -> SquareSet
+    ensures { result ≡ set_of (λ t. is_pawn_capture position.now s t || is_en_passant position.now s t) }
+{
+    let _from = s.index();
+    let occupied = position.occupied();
+    let aimed = aims(position.side(), Kind::Pawn, s, occupied);
+    let captures = aimed.common(occupied);
+    match position.target() {
+        None => captures,
+        Some(target) => {
+            let _to = target.index();
+            with_where(captures, target, aimed.has(target))
+        }
+    }
+}
+
+/// The squares to which a king of the side to move goes, by castling too.
+fn king_ways(position: &Position, s: Square) -> SquareSet
+    ensures { result ≡ set_of (goes position.now Kind.King s) }
+{
+    let _from = s.index();
+    let side = position.side();
+    let short = Square::at(home(side) + 2);
+    let long = Square::at(home(side) - 2);
+    let near = aims(side, Kind::King, s, position.occupied());
+    let shortly = with_where(near, short, castles_short(position, s, short));
+    with_where(shortly, long, castles_long(position, s, long))
+}
+
+/// The squares to which a man of the side to move and of this kind goes, whatever stands there.
+fn kind_ways(position: &Position, kind: Kind, s: Square) -> SquareSet
+    ensures { result ≡ set_of (goes position.now kind s) }
+{
+    match kind {
+        Kind::Pawn => pawn_steps(position, s).joined(pawn_captures(position, s)),
+        Kind::King => king_ways(position, s),
+        _ => aims(position.side(), kind, s, position.occupied()),
+    }
+}
+
+/// The squares to which the man on a square may go, as far as its way and what stands there are concerned.
+pub fn ways_of(position: &Position, man: Man, from: Square) -> SquareSet
+    requires { man_at position.now.men from ≡ Some man }
+    ensures { result ≡ set_of (is_way position.now from) }
+{
+    if !man.color.is(position.side()) {
+        return SquareSet::empty();
+    }
+    kind_ways(position, man.kind, from).minus(barred(position))
+}
+
+/// Whether what stands on `m.from` may make the move, whether or not its king is attacked afterwards.
+pub fn is_pseudo_legal(position: &Position, m: Move) -> bool
+    ensures { result ≡ is_pseudo_legal_in position.now m }
+{
+    m.known();
+    match position.man(m.from) {
+        None => false,
+        Some(man) => {
+            promotes_well(position.side(), man.kind, m.to, m.promotion)
+                && ways_of(position, man, m.from).has(m.to)
+        }
+    }
+}

@@ -1,5 +1,5 @@
 -- Sets of squares, as what is done to their bits.
-use Rattle.std.proofs.Common.{◌≡◌, ℕ, zero, suc, ◌-◌, ◌<◌, ◌^◌, min, Bool, not, ◌&&◌, ◌==◌, List, refl, sym, ap, ◌∙◌, arith}
+use Rattle.std.proofs.Common.{◌≡◌, ℕ, zero, suc, ◌-◌, ◌<◌, ◌^◌, min, Bool, not, ◌&&◌, ◌==◌, List, refl, arith}
 use Rattle.std.specs.Int.{bit_at, bit_not}
 use lib.Bits.{bit_and}
 use mir.Syntax.{w64}

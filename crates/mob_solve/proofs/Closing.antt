@@ -12,17 +12,17 @@ use Rattle.cha_board.specs.Squares.{squares, rank_of, files_apart, is_rank_ahead
 use Rattle.cha_board.specs.SquareSets.{empty_set, has_square, set_with}
 use Rattle.cha_board.specs.Board.{Board, man_at, home_of, has_short_right, has_long_right}
 use Rattle.cha_board.proofs.Scans.{any_square_at}
-use Rattle.cha_moves.specs.Moves.{second_rank, fourth_rank, last_rank, middle, is_target, is_promotion, victim_of}
+use Rattle.cha_moves.specs.Moves.{second_rank, fourth_rank, last_rank, middle, is_target, victim_of}
 use Rattle.cha_moves.proofs.Identity.{on_board}
 use Rattle.mob_law.specs.Reach.{Sets, is_fixed, is_open, is_leaper, is_guarded}
-use Rattle.mob_law.specs.Closed.{has_fixed_enemy, Entry, PieceGoes, Enters, EnemyReaches, PawnCaptures, Castles, IsClosed}
+use Rattle.mob_law.specs.Closed.{has_fixed_enemy, PieceGoes, Enters, EnemyReaches, PawnCaptures, Castles, IsClosed}
 use Rattle.mob_law.proofs.Standing.{fixed_stands}
 use Rattle.mob_solve.specs.Steps.{steps_to, is_stepped_to, stays}
 use Rattle.mob_solve.specs.Grounds.{kinds, reaches_from, is_reached, is_victim_at, ground_of, side_in}
-use Rattle.mob_solve.specs.Rules.{is_barred, piece_goes, pawn_steps, pawn_double_steps, is_capturable, pawn_captures, pawn_goes, goes_on, is_struck, passes_on, is_passed, is_left, is_freed, AreRules, ManRules, AllRules}
+use Rattle.mob_solve.specs.Rules.{is_barred, piece_goes, pawn_steps, pawn_double_steps, is_capturable, pawn_captures, pawn_goes, goes_on, is_struck, passes_on, is_passed, is_left, is_freed, AreRules, AllRules}
 use Rattle.mob_solve.proofs.Contents.{in_single, single_has}
 use Rattle.mob_solve.proofs.Grounded.{fixed_at, guards_at, reach_at, men_at, target_at, victim_at, any_kind, piece_stays}
-use Rattle.mob_solve.proofs.Lines.{is_slider, LastStep, last_step, last_open}
+use Rattle.mob_solve.proofs.Lines.{is_slider, last_step, last_open}
 
 abbrev one : ℕ → List Bool
 one u = set_with empty_set u

@@ -1,5 +1,5 @@
 -- Sets into which others are entered.
-use Rattle.std.proofs.Common.{◌≡◌, ℕ, ◌+◌, ◌*◌, ◌<◌, ◌≤◌, Bool, true, false, ◌&&◌, ◌||◌, ◌==◌, List, [], length, get_or, refl, sym, ap, subst, ◌∙◌, arith, inl, inr}
+use Rattle.std.proofs.Common.{◌≡◌, ℕ, ◌<◌, ◌≤◌, Bool, true, false, ◌&&◌, ◌==◌, [], length, refl, sym, ap, subst, arith, inl, inr}
 use Rattle.std.proofs.lemmas.Bool.{and_parts, or_cases, or_left, or_right, and_from, both_ways, cases_lt, eq-eqb, eqb-true}
 use Rattle.std.proofs.lemmas.List.{get_or_past}
 use Rattle.cha_board.specs.declared.men.Kind.{Kind}
@@ -7,12 +7,11 @@ use Rattle.cha_board.specs.declared.men.Kind.TheVariants.{Pawn, Knight, Bishop, 
 use Rattle.cha_board.specs.Men.{same_kind}
 use Rattle.cha_board.specs.SquareSets.{empty_set, has_square}
 use Rattle.mob_law.specs.Reach.{Sets}
-use Rattle.mob_law.specs.Closed.{IsClosed}
-use Rattle.mob_sets.specs.Rows.{SetRows, has_entry, sets_of, place_of, sets_with, sets_loosened}
+use Rattle.mob_sets.specs.Rows.{has_entry, sets_of, place_of, sets_with, sets_loosened}
 use Rattle.mob_sets.proofs.Order.{same_kind_tells, same_kind_self}
 use Rattle.mob_solve.specs.declared.reach.Reach.{Reach}
 use Rattle.mob_solve.specs.Least.{IsWithin, IsLeast}
-use Rattle.mob_solve.specs.Reaching.{row_of, sets_in}
+use Rattle.mob_solve.specs.Reaching.{sets_in}
 use Rattle.cha_board.specs.Board.{Board}
 use Rattle.mob_solve.proofs.Contents.{in_empty}
 

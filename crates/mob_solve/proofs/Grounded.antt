@@ -1,5 +1,5 @@
 -- The ground of sets, square by square, and that closed sets keep the rules on the ground of any sets within them.
-use Rattle.std.proofs.Common.{◌≡◌, ℕ, ◌+◌, ◌-◌, ◌<◌, Bool, true, false, not, ◌&&◌, ◌||◌, ◌==◌, List, Option, Some, None, refl, sym, ap, subst, ◌∙◌, arith, inl, inr}
+use Rattle.std.proofs.Common.{◌≡◌, ℕ, ◌<◌, Bool, true, false, not, ◌&&◌, ◌||◌, ◌==◌, List, Option, Some, None, refl, sym, ap, subst, ◌∙◌, arith, inl, inr}
 use Rattle.std.specs.List.{list_any}
 use Rattle.std.proofs.lemmas.Bool.{and_parts, and_from, or_cases, or_left, or_right, both_ways, not-true, not-false, eqb-true, cases_Bool}
 use Rattle.cha_board.specs.declared.men.Color.{Color}
@@ -9,9 +9,9 @@ use Rattle.cha_board.specs.declared.men.Kind.TheVariants.{Pawn, Knight, Bishop, 
 use Rattle.cha_board.specs.declared.men.Man.{Man}
 use Rattle.cha_board.specs.Men.{other_color, same_color, same_kind, is_non_king}
 use Rattle.cha_board.specs.Squares.{squares, rank_of, files_apart, is_rank_ahead, aims_at, steps_apart}
-use Rattle.cha_board.specs.SquareSets.{set_of, has_square}
+use Rattle.cha_board.specs.SquareSets.{has_square}
 use Rattle.cha_board.specs.SetLaws.{has-set_of}
-use Rattle.cha_board.specs.Board.{Board, man_at, home_of}
+use Rattle.cha_board.specs.Board.{Board, man_at}
 use Rattle.cha_moves.specs.Moves.{second_rank, fourth_rank, last_rank, middle, is_target, is_promotion, victim_of}
 use Rattle.cha_moves.proofs.Identity.{same_color_equal, same_kind_equal}
 use Rattle.mob_law.specs.Reach.{Sets, is_fixed, is_open, is_leaper, is_guarded}
@@ -23,7 +23,7 @@ use Rattle.mob_law.proofs.Standing.{open_near}
 use Rattle.mob_solve.specs.Least.{IsWithin}
 use Rattle.mob_solve.specs.Steps.{steps_to, is_stepped_to, stays}
 use Rattle.mob_solve.specs.Grounds.{kinds, reaches_from, is_reached, has_own, is_target_for, is_victim_at, is_victim_for, side_ground_of, ground_of, side_in}
-use Rattle.mob_solve.specs.Rules.{is_barred, piece_goes, pawn_steps, pawn_double_steps, is_capturable, pawn_captures, pawn_goes, goes_on, StaysIn, is_struck, passes_on, is_passed, is_left, is_freed, AreRules, ManRules, ShortRule, LongRule, CastlingRules, AllRules}
+use Rattle.mob_solve.specs.Rules.{is_barred, piece_goes, pawn_steps, pawn_double_steps, is_capturable, pawn_captures, pawn_goes, goes_on, is_struck, passes_on, is_passed, is_left, is_freed, AreRules, CastlingRules, AllRules}
 
 pub fixed_at : (p : Board) (s : Sets) (u : ℕ) → u < 64 → has_square (ground_of p s).fixed u ≡ is_fixed p s u
 unfolding ground_of

@@ -1,7 +1,7 @@
 -- What the parts of a ground are.
-use Rattle.std.proofs.Common.{◌≡◌, ℕ, ◌<◌, Bool, true, false, not, ◌&&◌, ◌||◌, ◌==◌, List, [], ◌∷◌, Option, Some, None, refl, sym, ap, subst, ◌∙◌, arith, inl, inr, ◌+◌, ◌-◌, ◌≤◌, ◌/◌, IsTrue}
+use Rattle.std.proofs.Common.{◌≡◌, ℕ, ◌<◌, Bool, true, false, ◌&&◌, ◌||◌, ◌==◌, List, Option, Some, None, refl, sym, ap, subst, ◌∙◌, arith, inl, inr, ◌+◌, ◌-◌, ◌≤◌, IsTrue}
 use Rattle.std.specs.List.{list_any}
-use Rattle.std.proofs.lemmas.Bool.{and_parts, and_from, and_left, and_right, or_cases, or_left, both_ways, false_from_ne_true, eq-eqb, eqb-true, cases_Bool}
+use Rattle.std.proofs.lemmas.Bool.{and_parts, and_from, and_left, and_right, or_cases, or_left, both_ways, eq-eqb, eqb-true}
 use Rattle.cha_board.specs.declared.men.Color.{Color}
 use Rattle.cha_board.specs.declared.men.Color.TheVariants.{White, Black}
 use Rattle.cha_board.specs.declared.men.Kind.{Kind}
@@ -10,7 +10,7 @@ use Rattle.cha_board.specs.declared.men.Man.{Man}
 use Rattle.cha_board.specs.Men.{same_color, is_man, is_non_king}
 use Rattle.cha_board.specs.Squares.{squares, rank_of, aims_at, steps_apart}
 use Rattle.cha_board.specs.SquareSets.{set_of, empty_set, has_square, set_with, set_joined}
-use Rattle.cha_board.specs.SetLaws.{length-set_of, has-set_of, same_set, same_squares}
+use Rattle.cha_board.specs.SetLaws.{has-set_of, same_set}
 use Rattle.cha_board.specs.Board.{Board, man_at, is_empty, target_fits, target_is_good, IsValid}
 use Rattle.cha_board.proofs.Scans.{any_square_at}
 use Rattle.cha_moves.specs.Moves.{is_target, victim_of}

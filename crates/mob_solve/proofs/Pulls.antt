@@ -1,5 +1,5 @@
 -- Sets made of others by moves of one square: from which squares of the first set each of their squares comes.
-use Rattle.std.proofs.Common.{◌≡◌, ℕ, ◌+◌, ◌-◌, ◌<◌, ◌≤◌, Bool, true, false, not, ◌&&◌, ◌||◌, ◌==◌, List, length, refl, sym, ap, subst, ◌∙◌, arith, inl, inr}
+use Rattle.std.proofs.Common.{◌≡◌, ℕ, ◌+◌, ◌-◌, ◌<◌, Bool, true, false, not, ◌&&◌, ◌||◌, ◌==◌, List, length, refl, sym, ap, subst, ◌∙◌, arith, inl, inr}
 use Rattle.std.specs.List.{list_all, list_any}
 use Rattle.std.proofs.lemmas.Bool.{and_parts, and_from, and_right, or_cases, or_left, or_right, cases_Bool, not-true, eq-eqb, eqb-true, eqb-false}
 use Rattle.cha_board.specs.declared.men.Color.{Color}
@@ -11,7 +11,6 @@ use Rattle.cha_board.specs.SquareSets.{set_of, has_square, set_of_bits, set_join
 use Rattle.std.specs.Int.{bit_at}
 use Rattle.cha_board.specs.SetLaws.{length-set_of, has-set_of, same_squares}
 use Rattle.cha_board.proofs.Scans.{any_square_at, no_square, all_squares_at}
-use Rattle.mob_law.specs.Reach.{is_leaper}
 use Rattle.mob_law.proofs.Attackers.{some_square}
 use Rattle.mob_solve.specs.Steps.{steps_to, is_stepped_to, spread_of}
 use Rattle.mob_solve.specs.Shifts.{is_above, is_below, is_right, is_left_of}

@@ -1,5 +1,5 @@
 -- Mobility sets as squares are added.
-use Rattle.std.proofs.Common.{◌≡◌, ℕ, ◌+◌, ◌*◌, ◌<◌, ◌≤◌, Bool, true, false, List, [], length, get_or, set, take, replicate, refl, sym, ap, subst, ◌∙◌, arith, inl, inr}
+use Rattle.std.proofs.Common.{◌≡◌, ℕ, ◌*◌, ◌<◌, ◌≤◌, Bool, true, false, List, [], length, get_or, set, take, replicate, refl, sym, ap, subst, ◌∙◌, arith, inl, inr}
 use Rattle.std.specs.List.{sum_by}
 use Rattle.std.proofs.lemmas.Bool.{cases_eq, cases_lt, cases_Bool, true≢false}
 use Rattle.std.proofs.lemmas.List.{get_or-set_same, get_or-set_other, get_or-replicate, length-replicate, get_or_past, get_or-take, length-take}
@@ -12,7 +12,7 @@ use Rattle.mob_sets.specs.Rows.{place_of}
 use Rattle.mob_sets.proofs.Order.{place_tells}
 use Rattle.mob_solve.specs.declared.reach.Reach.{Reach}
 use Rattle.mob_solve.specs.Least.{IsWithin}
-use Rattle.mob_solve.specs.Reaching.{row_of, sets_in, size_of, total_of, Grew}
+use Rattle.mob_solve.specs.Reaching.{sets_in, size_of, total_of, Grew}
 use Rattle.mob_solve.proofs.Contents.{in_empty, in_joined, in_single, single_has, joined_more, size_small}
 
 -- rows of no square show nothing

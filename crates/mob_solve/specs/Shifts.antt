@@ -3,7 +3,7 @@ use Rattle.std.specs.Prelude.{ℕ, ◌+◌, ◌-◌, ◌==◌, Bool, not, ◌&&�
 use Rattle.cha_board.specs.declared.men.Color.{Color}
 use Rattle.cha_board.specs.declared.men.Color.TheVariants.{White, Black}
 use Rattle.cha_board.specs.Squares.{file_of, rank_of}
-use Rattle.cha_board.specs.SquareSets.{set_of, has_square}
+use Rattle.cha_board.specs.SquareSets.{has_square}
 
 -- t is one rank above a square of the set, one below, one file to the right and one to the left
 abbrev pub is_above : List Bool → ℕ → Bool

@@ -1,9 +1,5 @@
-use Rattle.std.proofs.Common.{◌≡◌, ◌<◌, ◌∙◌, ℕ, arith}
+use Rattle.std.proofs.Common.{◌<◌, ◌∙◌, arith}
 use Rattle.cha_board.specs.declared.men.Kind.TheVariants.{Rook, King}
-use Rattle.mob_law.specs.Reach.{Sets}
-use Rattle.mob_law.specs.Closed.{Castles}
-use Rattle.mob_solve.specs.Least.{IsWithin}
-use Rattle.mob_solve.specs.Reaching.{sets_in}
 use Rattle.mob_solve.proofs.Reaches.{single_inside, single_there, has_before, loose_before}
 use Rattle.mob_solve.proofs.castling.castle.Goals as goal
 

@@ -1,4 +1,4 @@
-use Rattle.std.proofs.Common.{◌≡◌, ◌<◌, ◌≤◌, ℕ, Bool, length, ap, sym, ◌∙◌, cond, subst, arith, inl, inr, true}
+use Rattle.std.proofs.Common.{◌≡◌, ℕ, Bool, ap, sym, cond, subst, arith, inl, inr}
 use Rattle.std.proofs.lemmas.Bool.{true≢false, both_ways, cases_Bool}
 use Rattle.mob_law.specs.Closed.{IsClosed}
 use Rattle.mob_solve.specs.declared.reach.Reach.{Reach}

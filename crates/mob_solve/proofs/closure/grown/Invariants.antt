@@ -1,4 +1,4 @@
-use Rattle.std.proofs.Common.{◌≡◌, ◌-◌, ◌+◌, Bool, true, false, cond}
+use Rattle.std.proofs.Common.{◌≡◌, ◌-◌, ◌+◌, false, cond}
 use Rattle.mob_law.specs.Reach.{Sets}
 use Rattle.mob_law.specs.Closed.{IsClosed}
 use Rattle.mob_solve.specs.Least.{IsWithin}

@@ -2,9 +2,7 @@ use Rattle.std.proofs.Common.{◌≡◌, ◌∙◌, ℕ, List, Bool, true, sym, 
 use Rattle.cha_board.specs.declared.men.Kind.{Kind}
 use Rattle.cha_board.specs.declared.men.Kind.TheVariants.{Pawn, Knight, Bishop, Rook, Queen, King}
 use Rattle.cha_board.specs.SquareSets.{has_square}
-use Rattle.mob_law.specs.Reach.{Sets}
 use Rattle.mob_sets.specs.Rows.{sets_of}
-use Rattle.mob_solve.specs.Least.{IsWithin}
 use Rattle.mob_solve.specs.Reaching.{sets_in}
 use Rattle.mob_solve.proofs.Entered.{within_then, for_each_kind}
 use Rattle.mob_solve.proofs.entries.enter_origin.Goals as goal

@@ -1,9 +1,8 @@
-use Rattle.std.proofs.Common.{◌≡◌, ◌<◌, ◌==◌, ◌+◌, ◌∙◌, ℕ, List, Bool, true, length, sym, ap, subst, arith, inl, inr}
+use Rattle.std.proofs.Common.{◌≡◌, ◌<◌, ◌==◌, ◌+◌, ◌∙◌, ℕ, true, length, sym, ap, subst, arith, inl, inr}
 use Rattle.std.specs.Int.{bit_at}
 use Rattle.std.proofs.lemmas.Bool.{both_ways, cases_eq}
 use Rattle.cha_board.specs.declared.men.Kind.{Kind}
 use Rattle.cha_board.specs.SquareSets.{has_square}
-use Rattle.mob_law.specs.Reach.{Sets}
 use Rattle.mob_sets.specs.Rows.{SetRows, sets_of}
 use Rattle.mob_solve.specs.Least.{IsWithin}
 use Rattle.mob_solve.specs.Reaching.{sets_in}

@@ -1,6 +1,5 @@
 use Rattle.std.proofs.Common.{◌≡◌, ◌&&◌, ◌∙◌, sym, ap, length, List, Bool, ℕ}
-use Rattle.cha_board.specs.declared.men.Kind.TheVariants.{Pawn}
-use Rattle.cha_board.specs.SquareSets.{set_of, has_square, set_of_bits}
+use Rattle.cha_board.specs.SquareSets.{set_of, has_square}
 use Rattle.cha_board.specs.SetLaws.{length-set_of}
 use Rattle.std.specs.Int.{bit_at}
 use Rattle.std.proofs.Common.{◌==◌}

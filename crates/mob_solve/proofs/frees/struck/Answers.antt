@@ -1,4 +1,4 @@
-use Rattle.std.proofs.Common.{◌≡◌, ◌&&◌, ◌∙◌, ap, List, Bool, ℕ}
+use Rattle.std.proofs.Common.{◌≡◌, ◌&&◌, ◌∙◌, ap, ℕ}
 use Rattle.cha_board.specs.declared.men.Color.{Color}
 use Rattle.cha_board.specs.Men.{other_color}
 use Rattle.cha_board.specs.SquareSets.{set_of, has_square}

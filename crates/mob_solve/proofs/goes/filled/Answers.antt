@@ -1,6 +1,5 @@
-use Rattle.std.proofs.Common.{◌≡◌, ◌&&◌, ◌<◌, ◌≤◌, List, Bool, ℕ, sym, ap, ◌∙◌, arith, true, false}
-use Rattle.cha_board.specs.SquareSets.{set_of, has_square, is_subset}
-use Rattle.mob_solve.specs.Steps.{stays}
+use Rattle.std.proofs.Common.{◌≡◌, sym, ap, ◌∙◌, arith, false}
+use Rattle.cha_board.specs.SquareSets.{is_subset}
 use Rattle.mob_solve.specs.Reaching.{size_of}
 use Rattle.mob_solve.proofs.Contents.{joined_more, size_small}
 use Rattle.mob_solve.proofs.Filling.{next_is, fills_begin, fills_more, fills_all}

@@ -1,4 +1,3 @@
-use Rattle.std.proofs.Common.{◌∙◌}
 use Rattle.cha_board.specs.declared.men.Kind.TheVariants.{Pawn, Knight, Bishop, Rook, Queen, King}
 use Rattle.mob_solve.specs.Reaching.{row_of}
 use Rattle.mob_solve.proofs.Grounds.{six_joined}

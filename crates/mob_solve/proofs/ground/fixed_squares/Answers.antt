@@ -1,4 +1,4 @@
-use Rattle.std.proofs.Common.{ℕ, ◌<◌, ◌≤◌, arith}
+use Rattle.std.proofs.Common.{◌<◌, ◌≤◌, arith}
 use Rattle.mob_law.specs.Reach.{is_fixed}
 use Rattle.mob_solve.specs.Reaching.{sets_in}
 use Rattle.mob_solve.proofs.Loops.{first_none, next_yes, next_no, at_end}

@@ -1,5 +1,5 @@
-use Rattle.std.proofs.Common.{◌≡◌, ◌<◌, Option, None, Some, ℕ, sym, ap, ◌∙◌, arith, List, Bool}
-use Rattle.cha_board.specs.SquareSets.{set_of, empty_set, set_with}
+use Rattle.std.proofs.Common.{◌<◌, Option, ℕ, sym, ap, ◌∙◌, arith, List, Bool}
+use Rattle.cha_board.specs.SquareSets.{set_of, set_with}
 use Rattle.cha_board.specs.declared.men.Man.{Man}
 use Rattle.mob_law.specs.Reach.{guards_as}
 use Rattle.mob_solve.specs.Steps.{spread_of}

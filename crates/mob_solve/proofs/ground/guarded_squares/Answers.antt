@@ -1,4 +1,4 @@
-use Rattle.std.proofs.Common.{◌≡◌, ◌<◌, ◌≤◌, ℕ, Bool, List, ◌&&◌, sym, ap, ◌∙◌, arith, true, false}
+use Rattle.std.proofs.Common.{◌≡◌, ◌<◌, ◌≤◌, ℕ, Bool, sym, ap, ◌∙◌, arith}
 use Rattle.cha_board.specs.SquareSets.{has_square}
 use Rattle.mob_law.specs.Reach.{guards_from, is_guarded}
 use Rattle.mob_solve.specs.Reaching.{sets_in}

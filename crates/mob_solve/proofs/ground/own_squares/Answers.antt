@@ -1,4 +1,4 @@
-use Rattle.std.proofs.Common.{ℕ, ◌<◌, ◌≤◌, arith}
+use Rattle.std.proofs.Common.{◌<◌, ◌≤◌, arith}
 use Rattle.mob_solve.specs.Grounds.{has_own}
 use Rattle.mob_solve.proofs.Loops.{first_none, next_yes, next_no, at_end}
 use Rattle.mob_solve.proofs.ground.own_squares.Goals as goal

@@ -1,10 +1,6 @@
-use Rattle.std.proofs.Common.{◌≡◌, ◌<◌, ◌≤◌, ℕ, Bool, List, ◌&&◌, sym, ap, ◌∙◌, arith, true, false}
-use Rattle.std.specs.List.{list_any}
-use Rattle.std.proofs.lemmas.Bool.{and_left}
-use Rattle.cha_board.specs.SquareSets.{has_square}
-use Rattle.cha_board.specs.SetLaws.{has-set_of}
+use Rattle.std.proofs.Common.{◌≤◌, ℕ, Bool, sym, ◌∙◌, arith}
 use Rattle.mob_solve.specs.Reaching.{sets_in}
-use Rattle.mob_solve.specs.Grounds.{kinds, has_own, reaches_from, is_reached}
+use Rattle.mob_solve.specs.Grounds.{reaches_from, is_reached}
 use Rattle.mob_solve.proofs.Loops.{gathers_none, gathers_joined, gathers_skipped, gathers_all}
 use Rattle.mob_solve.proofs.Grounds.{reached_by, reached_not}
 use Rattle.mob_solve.proofs.ground.reached_squares.Goals as goal

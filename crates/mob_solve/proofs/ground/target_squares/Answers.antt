@@ -1,6 +1,6 @@
 use Rattle.std.proofs.Common.{sym, ap, ◌∙◌}
 use Rattle.cha_board.specs.Men.{same_color}
-use Rattle.cha_board.specs.SquareSets.{empty_set, set_with}
+use Rattle.cha_board.specs.SquareSets.{set_with}
 use Rattle.mob_solve.proofs.Grounds.{no_target, target_of_other, target_of_own}
 use Rattle.mob_solve.proofs.ground.target_squares.Goals as goal
 

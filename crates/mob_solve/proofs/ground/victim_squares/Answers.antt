@@ -1,6 +1,6 @@
 use Rattle.std.proofs.Common.{sym, ap, ◌∙◌, List, Bool}
 use Rattle.cha_board.specs.Men.{same_color}
-use Rattle.cha_board.specs.SquareSets.{empty_set, set_with}
+use Rattle.cha_board.specs.SquareSets.{set_with}
 use Rattle.mob_solve.proofs.Grounds.{no_victim, victim_of_other, victim_of_own, target_inside}
 use Rattle.mob_solve.proofs.ground.victim_squares.Goals as goal
 

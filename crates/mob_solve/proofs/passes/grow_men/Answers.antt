@@ -1,6 +1,5 @@
-use Rattle.std.proofs.Common.{◌≡◌, ◌<◌, ◌∙◌, ℕ, Bool, false, true, Option, Some, sym, ap, subst, arith, inl, inr}
+use Rattle.std.proofs.Common.{◌≡◌, ◌∙◌, ℕ, Bool, sym, ap, subst, arith, inl, inr}
 use Rattle.std.proofs.lemmas.Bool.{true≢false, cases_eq}
-use Rattle.cha_board.specs.declared.men.Man.{Man}
 use Rattle.cha_board.specs.Board.{man_at}
 use Rattle.mob_solve.specs.Reaching.{Grew}
 use Rattle.mob_solve.proofs.Reaches.{grew_yes, grew_no, grew_none}

@@ -1,11 +1,7 @@
-use Rattle.std.proofs.Common.{◌≡◌, ◌<◌, ◌∙◌, ℕ, length, subst, ap, sym}
-use Rattle.cha_board.specs.declared.men.Color.{Color}
+use Rattle.std.proofs.Common.{◌∙◌, subst, sym}
 use Rattle.cha_board.specs.declared.men.Color.TheVariants.{White, Black}
-use Rattle.cha_board.specs.declared.men.Man.{Man}
-use Rattle.mob_law.specs.Reach.{Sets}
 use Rattle.mob_solve.specs.declared.ground.Ground.{Ground}
 use Rattle.mob_solve.specs.Reaching.{sets_in}
-use Rattle.mob_solve.specs.Grounds.{ground_of}
 use Rattle.mob_solve.specs.Rules.{AllRules}
 use Rattle.mob_solve.proofs.Grounded.{all_forced}
 use Rattle.mob_solve.proofs.Passing.{all_rules}

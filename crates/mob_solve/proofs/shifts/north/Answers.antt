@@ -1,4 +1,4 @@
-use Rattle.std.proofs.Common.{◌<◌, ◌^◌, ◌∙◌, arith}
+use Rattle.std.proofs.Common.{◌∙◌}
 use Rattle.mob_solve.proofs.Shifted.{moved_north}
 use Rattle.mob_solve.proofs.shifts.north.Goals as goal
 

@@ -1,4 +1,4 @@
-use Rattle.std.proofs.Common.{◌≡◌, ◌∙◌, length, sym, ap}
+use Rattle.std.proofs.Common.{◌≡◌, length}
 use Rattle.mob_solve.proofs.Pulls.{sides, up, down, pull_up, pull_down, pull_joined, pull_sides, width_of, bishop_spreads}
 use Rattle.mob_solve.proofs.steps.diagonal_steps.Goals as goal
 

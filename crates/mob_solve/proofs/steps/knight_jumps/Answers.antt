@@ -1,4 +1,4 @@
-use Rattle.std.proofs.Common.{◌≡◌, ◌∙◌, length, sym, ap}
+use Rattle.std.proofs.Common.{◌≡◌, length}
 use Rattle.mob_solve.proofs.Pulls.{here, sides, far_sides, up, down, left, right, either, pull_here, pull_up, pull_down, pull_left, pull_right, pull_joined, pull_sides, width_of, knight_spreads}
 use Rattle.mob_solve.proofs.steps.knight_jumps.Goals as goal
 

@@ -1,4 +1,4 @@
-use Rattle.std.proofs.Common.{◌≡◌, ◌∙◌, length, sym, ap}
+use Rattle.std.proofs.Common.{◌≡◌, length}
 use Rattle.mob_solve.proofs.Pulls.{here, sides, up, down, either, pull_here, pull_up, pull_down, pull_joined, pull_sides, width_of, rook_spreads}
 use Rattle.mob_solve.proofs.steps.straight_steps.Goals as goal
 

@@ -10,8 +10,8 @@ ghost use Rattle.mob_check.specs.Closing.{begins_at, row_holds, castles_short_ho
 
 use crate::fixed::fixed_alone;
 use crate::rows::row_rules;
-use crate::sides::{home, long_right, short_right};
 use cha_board::{Color, Kind, Man, Position, Square};
+use cha_moves::{home, long_right, short_right};
 use mob_sets::Sets;
 
 /// Whether mobility sets are closed for a position: whatever legal moves may come, each man stays in reach. Entries whose

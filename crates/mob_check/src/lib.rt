@@ -1,7 +1,8 @@
 //! Mobility sets, checked against a position: whether they are closed, and whether they leave a mate in reach.
 //!
 //! `closing` has the rules of closed sets, with `rows`, `pieces` and `pawns`; `mates` the search for a mate, with `scene`
-//! `strikes` and `near`; `bound` both together. `fixed` has the fixed men, `groups` entries of sets, and `sides` what is a side's.
+//! `strikes` and `near`; `bound` both together. `fixed` has the fixed men, `groups` entries of sets, and `passing` what double
+//! steps and captures en passant pass over and remove.
 #![tactic(auto)]
 
 mod bound;
@@ -14,11 +15,11 @@ mod groups;
 mod mate_tests;
 mod mates;
 mod near;
+mod passing;
 mod pawns;
 mod pieces;
 mod rows;
 mod scene;
-mod sides;
 mod strikes;
 #[cfg(test)]
 mod test_sets;

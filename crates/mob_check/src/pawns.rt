@@ -4,11 +4,12 @@ ghost use Rattle.std.specs.Prelude.{◌≡◌};
 ghost use Rattle.mob_sets.specs.Rows.{sets_of};
 ghost use Rattle.mob_check.specs.Closing.{arrives, pawn_enters, may_step, may_double_step, may_capture, may_capture_target, capture_holds, pawn_holds};
 
+use crate::passing::{captured_on, passed_over};
 use crate::pieces::{barred, loose_where_left};
-use crate::sides::{captured_on, double_step_rank, passed_over, pawn_rank, promotion_rank};
 use cha_board::{
     Color, Kind, Man, Position, Square, SquareSet, aims_at, files_between, rank_ahead,
 };
+use cha_moves::{double_step_rank, first_pawn_rank, promotion_rank};
 use mob_sets::Sets;
 
 /// Whether the pawn of an origin is in reach on a square that it enters, as what it may be there.
@@ -50,7 +51,7 @@ fn double_steps(fixed: &[Option<Man>; 64], side: Color, from: Square, to: Square
     ensures { result ≡ may_double_step fixed.now side from to }
 {
     files_between(from, to) == 0
-        && from.rank() == pawn_rank(side)
+        && from.rank() == first_pawn_rank(side)
         && to.rank() == double_step_rank(side)
         && fixed[usize::from(passed_over(from, to).index())].is_none()
         && fixed[usize::from(to.index())].is_none()

@@ -11,9 +11,9 @@ ghost use Rattle.mob_solve.specs.Rules.{CastlingRules, ShortRule, LongRule};
 
 use crate::ground::Ground;
 use crate::reach::Reach;
-use crate::sides::{home, long_right, short_right};
 use crate::squares::single;
 use cha_board::{Color, Kind, Position, Square};
+use cha_moves::{home, long_right, short_right};
 
 /// Adds what the rules ask for the castlings of a side, and answers whether something is new.
 pub fn grow_castlings(position: &Position, ground: &Ground, reach: &mut Reach, side: Color) -> bool

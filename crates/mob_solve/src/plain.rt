@@ -4,9 +4,9 @@
 ghost use Rattle.std.specs.Prelude.{◌<◌};
 
 use crate::plain_rules::{Entry, View, go, is_free, view_of};
-use crate::sides::{home, long_right, short_right};
 use cha_board::{Color, Kind, Position, Square};
 use cha_list::NoMemory;
+use cha_moves::{home, long_right, short_right};
 use mob_sets::Sets;
 use std::alloc::Global;
 

@@ -1,6 +1,6 @@
 //! The rules of closed sets in their plain form, for each entry and square.
 
-use crate::sides::is_man_other_than_king;
+use crate::others::is_man_other_than_king;
 use cha_board::{
     Color, Kind, Man, Position, Square, SquareSet, aims_at, files_between, rank_ahead, sees,
     steps_between,

@@ -1,6 +1,6 @@
 //! Mobility sets, checked against a position: whether they are closed, and whether they leave a mate in reach.
 //!
-//! `closing` has the rules of closed sets, with `rows`, `pieces` and `pawns`; `mates` the search for a mate, with `scene`
+//! `closing` has the rules of closed sets, with `rows`, `pieces` and `pawns`; `mates` the search for a mate, with `scene`,
 //! `strikes` and `near`; `bound` both together. `fixed` has the fixed men, `groups` entries of sets, and `passing` what double
 //! steps and captures en passant pass over and remove.
 #![tactic(auto)]

@@ -38,7 +38,7 @@ kept_test p q x xs true rest = with_first (q x) (list_all q (filter p xs)) (list
 kept_test p q x xs false rest = rest
 
 -- all that are kept pass a test where none that is to be kept fails it
-all_kept : (p q : ℕ → Bool) (xs : List ℕ) → list_all q (filter p xs) ≡ not (list_any (λ x. p x && not (q x)) xs)
+pub all_kept : (p q : ℕ → Bool) (xs : List ℕ) → list_all q (filter p xs) ≡ not (list_any (λ x. p x && not (q x)) xs)
 all_kept p q [] = refl
 all_kept p q (x ∷ xs) = kept_test p q x xs (p x) (all_kept p q xs)
 

@@ -1,5 +1,5 @@
 -- The first square of a set, and how many it has.
-use Rattle.std.proofs.Common.{◌≡◌, ℕ, ◌+◌, ◌*◌, ◌<◌, ◌≤◌, ◌^◌, zero, suc, Bool, true, false, cond, ◌==◌, List, [], ◌∷◌, length, filter, Some, None, slice_get, count_ones, refl, sym, ap, ◌∙◌, arith, inl, inr}
+use Rattle.std.proofs.Common.{◌≡◌, ℕ, ◌+◌, ◌*◌, ◌<◌, ◌≤◌, ◌^◌, zero, suc, Bool, true, false, cond, ◌==◌, List, [], ◌∷◌, length, filter, Some, None, slice_get, count_ones, ◌⊎◌, refl, sym, ap, ◌∙◌, arith, inl, inr}
 use Rattle.std.specs.List.{range_with_len}
 use Rattle.std.specs.Int.{bit_at, trailing_zeros}
 use mir.Syntax.{w64}
@@ -74,3 +74,56 @@ counted n bound =
     ap count_ones (sym (bits_of_set-set_of_bits n bound) ∙ number_is_mask (set_of_bits n))
     ∙ ones-mask_l p squares ∙ sym (length-filter p squares)
     ∙ ap length (kept_in_list p (has_square (set_of_bits n)) 64 squares squares_are (λ s small. sym (shown_at n s small)))
+
+first_told : (p : ℕ → Bool) (a s : ℕ) (b : Bool) (rest : List ℕ) → p a ≡ b → slice_get (cond b (a ∷ rest) rest) 0 ≡ Some s
+    → ((a ≡ s) × (p a ≡ true)) ⊎ ((p a ≡ false) × (slice_get rest 0 ≡ Some s))
+first_told p a s true rest here first = (let same : a ≡ s = cc in inl (same, here))
+first_told p a s false rest here first = inr (here, first)
+
+told_of_range : (p : ℕ → Bool) (a n s : ℕ) → slice_get (filter p (range_with_len a n)) 0 ≡ Some s
+    → (a ≤ s) × (s < a + n) × (p s ≡ true) × ((k : ℕ) → a ≤ k → k < s → p k ≡ false)
+told_of_range p a zero s first = cc
+told_of_range p a (suc n) s first =
+    elim (first_told p a s (p a) (filter p (range_with_len (a + 1) n)) refl first) [
+      | inl found ↦ (omega (arith, found.0), omega (arith, found.0), ap p (sym found.0) ∙ found.1, λ k low before. absurd (omega (arith, found.0, low, before)))
+      | inr later ↦ (
+          let rest = told_of_range p (a + 1) n s later.1 in (
+            omega (arith, rest.0),
+            omega (arith, rest.1),
+            rest.2,
+            λ k low before.
+                elim (cases_eq a k) [
+                  | inl same ↦ ap p (sym same) ∙ later.0
+                  | inr other ↦ rest.3 k (omega (arith, low, other)) before
+                ],
+          ))
+    ]
+
+told_of_list : (p : ℕ → Bool) (n s : ℕ) (xs : List ℕ) → xs ≡ range_with_len 0 n → slice_get (filter p xs) 0 ≡ Some s → (s < n) × (p s ≡ true) × ((k : ℕ) → k < s → p k ≡ false)
+told_of_list p n s xs e first =
+    let found = told_of_range p 0 n s (rw e at first) in
+    (omega (arith, found.1), found.2, λ k before. found.3 k (omega arith) before)
+
+-- the first square of a set is in it, and none before it
+pub first_tells : (set : List Bool) (s : ℕ) → slice_get (squares_in set) 0 ≡ Some s → (s < 64) × (has_square set s ≡ true) × ((k : ℕ) → k < s → has_square set k ≡ false)
+first_tells set s first = told_of_list (has_square set) 64 s squares squares_are first
+
+none_told : (p : ℕ → Bool) (a : ℕ) (b : Bool) (rest : List ℕ) → p a ≡ b → slice_get (cond b (a ∷ rest) rest) 0 ≡ None → (p a ≡ false) × (slice_get rest 0 ≡ None)
+none_told p a true rest here none = cc
+none_told p a false rest here none = (here, none)
+
+none_of_range : (p : ℕ → Bool) (a n : ℕ) → slice_get (filter p (range_with_len a n)) 0 ≡ None → (k : ℕ) → a ≤ k → k < a + n → p k ≡ false
+none_of_range p a zero none k low high = absurd (omega arith)
+none_of_range p a (suc n) none k low high =
+    let here = none_told p a (p a) (filter p (range_with_len (a + 1) n)) refl none in
+    elim (cases_eq a k) [
+      | inl same ↦ ap p (sym same) ∙ here.0
+      | inr other ↦ none_of_range p (a + 1) n here.1 k (omega (arith, low, other)) (omega (arith, high))
+    ]
+
+none_of_list : (p : ℕ → Bool) (n : ℕ) (xs : List ℕ) → xs ≡ range_with_len 0 n → slice_get (filter p xs) 0 ≡ None → (k : ℕ) → k < n → p k ≡ false
+none_of_list p n xs e none k small = none_of_range p 0 n (rw e at none) k (omega arith) (omega (arith, small))
+
+-- a set with no first square has no square
+pub none_tells : (set : List Bool) → slice_get (squares_in set) 0 ≡ None → (k : ℕ) → k < 64 → has_square set k ≡ false
+none_tells set none k small = none_of_list (has_square set) 64 squares squares_are none k small

@@ -3,8 +3,11 @@ pub mod Sightings
 pub mod Kings
 pub mod Builds
 pub mod SetBits
-pub mod Collections
 pub mod Betweens
 pub mod Firsts
+pub mod Tidiness
+pub mod Tables
+pub mod Sliding
+pub mod Striking
 mod Examples
 pub mod Beginning

@@ -1,12 +1,12 @@
 -- Sets of squares, as what is done to their bits.
-use Rattle.std.proofs.Common.{◌≡◌, ℕ, ◌*◌, ◌-◌, ◌/◌, ◌%◌, ◌^◌, ◌<◌, min, max, zero, suc, Bool, true, not, ◌&&◌, ◌||◌, ◌==◌, List, refl, sym, ap, ◌∙◌, arith, inl, inr}
+use Rattle.std.proofs.Common.{◌≡◌, ℕ, ◌*◌, ◌-◌, ◌/◌, ◌%◌, ◌^◌, ◌<◌, min, max, zero, suc, Bool, true, false, not, ◌&&◌, ◌||◌, ◌==◌, if◌then◌else◌, List, refl, sym, ap, ◌∙◌, arith, inl, inr}
 use Rattle.std.specs.Int.{bit_at, bit_not}
 use Rattle.std.specs.Int.RustNames.{bit_or}
 use lib.Bits.{bit_and}
 use mir.Syntax.{w64}
 use Rattle.std.proofs.lemmas.Bool.{cases_eq, cases_lt, eq-eqb, ne_eqb, false_from_ne_true}
 use Rattle.std.proofs.lemmas.Nat.Bits.{bit_at-zero, bit_at-lt, bit_at_above, same_from_bits, shr_and_one, bit_at_or, bit_at_and, bit_at_not, bit_at_set_same, bit_at_set_other, bit_at_clear_same, bit_at_clear_other}
-use Rattle.cha_board.specs.SquareSets.{has_square, set_of_bits, bits_of_set, set_with, set_without, set_joined, set_common, set_minus, is_subset}
+use Rattle.cha_board.specs.SquareSets.{has_square, set_of_bits, bits_of_set, set_with, set_without, set_placed, set_joined, set_common, set_minus, is_subset}
 use Rattle.cha_board.specs.SetLaws.{same_set, has-set_of, bits_of_set-set_of_bits}
 use Rattle.cha_board.proofs.Scans.{all_squares_at, each_square}
 
@@ -50,7 +50,7 @@ shown_without n at small =
       | inr ne ↦ rw (ne_eqb s at ne, shown_at n s inside, bit_at_clear_other w64 n at small s inside ne) refl
     ])
 
-both_bits : (a b : ℕ) → a < 2 → b < 2 → (min a b == 1) ≡ ((a == 1) && (b == 1))
+pub both_bits : (a b : ℕ) → a < 2 → b < 2 → (min a b == 1) ≡ ((a == 1) && (b == 1))
 both_bits zero zero _ _ = refl
 both_bits zero (suc zero) _ _ = refl
 both_bits zero (suc (suc b)) _ small = absurd (omega arith)
@@ -132,3 +132,22 @@ same_numbers a b x y r e shown shown' bound bound' =
     let f : bits_of_set x ≡ a = ap bits_of_set (sym shown) ∙ bits_of_set-set_of_bits a bound in
     let g : bits_of_set y ≡ b = ap bits_of_set (sym shown') ∙ bits_of_set-set_of_bits b bound' in
     rw (f, g) e
+
+either_way : (x h : Bool) → (x || h) ≡ (if x then true else h)
+either_way true h = refl
+either_way false h = refl
+
+neither_way : (x h : Bool) → (not x && h) ≡ (if x then false else h)
+neither_way true h = refl
+neither_way false h = refl
+
+-- a square put in, and one put out
+pub put_in : (set : List Bool) (at : ℕ) → set_with set at ≡ set_placed set at true
+unfolding set_with set_placed
+put_in set at =
+    same_set (λ s. (s == at) || has_square set s) (λ s. if s == at then true else has_square set s) (λ s _. either_way (s == at) (has_square set s))
+
+pub put_out : (set : List Bool) (at : ℕ) → set_without set at ≡ set_placed set at false
+unfolding set_without set_placed
+put_out set at =
+    same_set (λ s. not (s == at) && has_square set s) (λ s. if s == at then false else has_square set s) (λ s _. neither_way (s == at) (has_square set s))

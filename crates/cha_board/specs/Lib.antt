@@ -5,3 +5,4 @@ pub mod Build
 pub mod SquareSets
 pub mod SetLaws
 pub mod Aims
+pub mod MenSets

@@ -41,6 +41,11 @@ abbrev pub is_man : Color → Kind → Option Man → Bool
 is_man c k None = false
 is_man c k (Some man) = same_color man.color c && same_kind man.kind k
 
+-- a man of kind k stands there
+abbrev pub is_kind : Kind → Option Man → Bool
+is_kind k None = false
+is_kind k (Some man) = same_kind man.kind k
+
 -- a pawn stands there
 abbrev pub is_pawn : Option Man → Bool
 is_pawn man = is_man White Pawn man || is_man Black Pawn man

@@ -37,6 +37,10 @@ set_with set at = set_of (λ s. (s == at) || has_square set s)
 unfoldable pub set_without : List Bool → ℕ → List Bool
 set_without set at = set_of (λ s. not (s == at) && has_square set s)
 
+-- a set in which one square is in or out
+unfoldable pub set_placed : List Bool → ℕ → Bool → List Bool
+set_placed set at inside = set_of (λ s. if s == at then inside else has_square set s)
+
 -- the squares of either set
 unfoldable pub set_joined : List Bool → List Bool → List Bool
 set_joined a b = set_of (λ s. has_square a s || has_square b s)

@@ -1,29 +1,35 @@
 //! The chess board: squares, men, what men aim at and attack, and valid positions (Laws of Chess, Articles 2 and 3).
 //!
-//! `men` has colours, kinds and men, `squares` the squares, `aim` their distances and what a man aims at on an empty
-//! board, `sight` what men attack over empty squares, `position` the valid positions, `build` how one is made,
-//! `opening` the opening position, and `sets` sets of squares.
+//! `men` has colours, kinds and men, `squares` the squares, `sets` sets of squares, and `placement` what stands on the
+//! board, kept as sets. `aim` has distances and what a man aims at on an empty board, `over` the same over occupied squares
+//! by the tables of `leaps`, `rays` and `lines`, `strikes` what men attack by it, and `sight` the same by a plain walk over
+//! a list of men. `position` has the valid positions, `build` how one is made, and `opening` the opening position.
 #![tactic(auto)]
 
 mod aim;
 mod build;
+mod leaps;
 mod lines;
 mod men;
 mod opening;
 mod over;
 mod placement;
 mod position;
+mod rays;
 mod sets;
 mod sight;
 mod squares;
+mod strikes;
+#[cfg(test)]
+mod tests;
 
 pub use aim::{
     aims_at, diagonal, files_between, in_line, rank_ahead, ranks_between, steps_between, straight,
 };
 pub use build::BuildFault;
-pub use men::{Color, Kind, Man, is_man_of, is_of_side};
+pub use men::{Color, Kind, Man, is_man_of, is_of_kind, is_of_side};
 pub use opening::OPENING_MEN;
-pub use over::{aims, squares_between};
+pub use over::{aims, aims_alone, squares_between};
 pub use placement::Men;
 pub use position::{Position, Rights, attacks};
 pub use sets::SquareSet;

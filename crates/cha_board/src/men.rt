@@ -1,7 +1,7 @@
 //! Colours, kinds of men, and men (Laws of Chess, Articles 2.2 and 2.3).
 
 ghost use Rattle.std.specs.Prelude.{◌≡◌};
-ghost use Rattle.cha_board.specs.Men.{other_color, same_color, same_kind, is_of, is_man};
+ghost use Rattle.cha_board.specs.Men.{other_color, same_color, same_kind, is_of, is_kind, is_man};
 
 /// The colour of a man, and the side that plays with it.
 #[derive(Clone, Copy, Debug, PartialEq, Eq, PartialOrd, Ord, Hash)]
@@ -73,6 +73,16 @@ pub fn is_of_side(found: Option<Man>, color: Color) -> bool
     match found {
         None => false,
         Some(man) => man.color.is(color),
+    }
+}
+
+/// Whether what stands on a square is a man of this kind.
+pub fn is_of_kind(found: Option<Man>, kind: Kind) -> bool
+    ensures { result ≡ is_kind kind found }
+{
+    match found {
+        None => false,
+        Some(man) => man.kind.is(kind),
     }
 }
 

@@ -1,14 +1,18 @@
 //! What men aim at over squares of which some are occupied (Laws of Chess, Articles 3.1 to 3.8).
 
 ghost use Rattle.std.specs.Prelude.{◌≡◌, slice_index, slice_index_or, []};
+ghost use Rattle.cha_board.specs.declared.men.Color.TheVariants.{White};
+ghost use Rattle.cha_board.specs.declared.men.Kind.TheVariants.{Bishop, Rook};
 ghost use Rattle.cha_board.specs.declared.lines.TheConstants.{BETWEEN as BETWEEN_BITS};
 ghost use Rattle.cha_board.specs.Squares.{lies_between};
+ghost use Rattle.cha_board.specs.Squares.{aims_at as aims_at_square};
 ghost use Rattle.cha_board.specs.SquareSets.{set_of};
-ghost use Rattle.cha_board.specs.Aims.{is_open, aims_over, aimed};
+ghost use Rattle.cha_board.specs.Aims.{aimed, seen_up, seen_down};
 
-use crate::aim::aims_at;
+use crate::leaps::{BISHOP, BLACK_PAWN, KING, KNIGHT, ROOK, WHITE_PAWN};
 use crate::lines::BETWEEN;
 use crate::men::{Color, Kind};
+use crate::rays::{EAST, NORTH, NORTH_EAST, NORTH_WEST, SOUTH, SOUTH_EAST, SOUTH_WEST, WEST};
 use crate::sets::SquareSet;
 use crate::squares::Square;
 
@@ -26,34 +30,78 @@ pub fn squares_between(s: Square, t: Square) -> SquareSet
     SquareSet::from_bits(between_bits(s, t))
 }
 
-/// Whether no occupied square lies strictly between two squares. It holds for squares of no line.
-fn open(occupied: SquareSet, s: Square, t: Square) -> bool
-    ensures { result ≡ is_open occupied s t }
+/// The squares at which a man aims on an empty board. A pawn aims at the squares onto which it captures.
+pub fn aims_alone(of: Color, kind: Kind, from: Square) -> SquareSet
+    ensures { result ≡ set_of (aims_at_square of kind from) }
 {
-    squares_between(s, t).common(occupied).is_empty()
+    let at = usize::from(from.index());
+    match kind {
+        Kind::Pawn => match of {
+            Color::White => SquareSet::from_bits(WHITE_PAWN[at]),
+            Color::Black => SquareSet::from_bits(BLACK_PAWN[at]),
+        },
+        Kind::Knight => SquareSet::from_bits(KNIGHT[at]),
+        Kind::Bishop => SquareSet::from_bits(BISHOP[at]),
+        Kind::Rook => SquareSet::from_bits(ROOK[at]),
+        Kind::Queen => SquareSet::from_bits(ROOK[at]).joined(SquareSet::from_bits(BISHOP[at])),
+        Kind::King => SquareSet::from_bits(KING[at]),
+    }
 }
 
-/// Whether a man aims at a square, and no occupied square lies between them.
-#[tactic(auto, unfolding(crate::specs::Aims::aims_over))]
-fn aims_so(of: Color, kind: Kind, from: Square, occupied: SquareSet, at: Square) -> bool
-    ensures { result ≡ aims_over of kind from occupied at }
+/// The squares of a ray up to the first occupied one, where the ray goes up in the order of squares.
+fn seen_upwards(ray: SquareSet, occupied: SquareSet) -> SquareSet
+    ensures { result ≡ seen_up ray occupied }
 {
-    aims_at(of, kind, from, at) && open(occupied, from, at)
+    let stops = ray.common(occupied).bits() | (1 << 63);
+    ray.common(SquareSet::from_bits(u64::MAX >> (63 - stops.trailing_zeros())))
+}
+
+/// The squares of a ray down to the first occupied one, where the ray goes down in the order of squares.
+fn seen_downwards(ray: SquareSet, occupied: SquareSet) -> SquareSet
+    ensures { result ≡ seen_down ray occupied }
+{
+    let stops = ray.common(occupied).bits() | 1;
+    ray.common(SquareSet::from_bits(u64::MAX << (63 - stops.leading_zeros())))
+}
+
+/// The squares at which a rook aims, where these squares are occupied.
+fn rook_aims(from: Square, occupied: SquareSet) -> SquareSet
+    ensures { result ≡ aimed White Rook from occupied }
+{
+    let at = usize::from(from.index());
+    let north = seen_upwards(SquareSet::from_bits(NORTH[at]), occupied);
+    let east = seen_upwards(SquareSet::from_bits(EAST[at]), occupied);
+    let south = seen_downwards(SquareSet::from_bits(SOUTH[at]), occupied);
+    let west = seen_downwards(SquareSet::from_bits(WEST[at]), occupied);
+    north.joined(east).joined(south.joined(west))
+}
+
+/// The squares at which a bishop aims, where these squares are occupied.
+fn bishop_aims(from: Square, occupied: SquareSet) -> SquareSet
+    ensures { result ≡ aimed White Bishop from occupied }
+{
+    let at = usize::from(from.index());
+    let north_east = seen_upwards(SquareSet::from_bits(NORTH_EAST[at]), occupied);
+    let north_west = seen_upwards(SquareSet::from_bits(NORTH_WEST[at]), occupied);
+    let south_east = seen_downwards(SquareSet::from_bits(SOUTH_EAST[at]), occupied);
+    let south_west = seen_downwards(SquareSet::from_bits(SOUTH_WEST[at]), occupied);
+    north_east
+        .joined(north_west)
+        .joined(south_east.joined(south_west))
 }
 
 /// The squares at which a man aims, where these squares are occupied. A pawn aims at the squares onto which it captures.
 ///
 /// A white rook on a1 over a4 and c1 aims at a2, a3, a4, b1 and c1.
-#[tactic(auto, using(crate::proofs::Collections::collect_none, crate::proofs::Collections::collect_more, crate::proofs::Collections::collect_same, crate::proofs::Collections::collect_all), unfolding(crate::specs::Aims::aimed))]
 pub fn aims(of: Color, kind: Kind, from: Square, occupied: SquareSet) -> SquareSet
     ensures { result ≡ aimed of kind from occupied }
 {
-    let mut found = SquareSet::empty();
-    for index in 0..64 {
-        let at = Square::at(index);
-        if aims_so(of, kind, from, occupied, at) {
-            found = found.with(at);
-        }
+    match kind {
+        Kind::Bishop => bishop_aims(from, occupied),
+        Kind::Rook => rook_aims(from, occupied),
+        Kind::Queen => rook_aims(from, occupied).joined(bishop_aims(from, occupied)),
+        Kind::Pawn => aims_alone(of, Kind::Pawn, from),
+        Kind::Knight => aims_alone(of, Kind::Knight, from),
+        Kind::King => aims_alone(of, Kind::King, from),
     }
-    found
 }

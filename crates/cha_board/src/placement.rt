@@ -1,116 +1,154 @@
 //! What stands on the squares of the board.
 
-ghost use Rattle.std.specs.Prelude.{◌≡◌, not, IsTrue, slice_set};
-ghost use Rattle.cha_board.specs.Men.{is_of, is_man};
-ghost use Rattle.cha_board.specs.Board.{man_at, is_empty, attacked, king_of, in_check as in_check_among, has_one_king};
+ghost use Rattle.std.specs.Prelude.{◌≡◌, not, None, replicate, IsTrue, slice_set};
+ghost use Rattle.cha_board.specs.Men.{is_of, is_kind, is_man};
+ghost use Rattle.cha_board.specs.Board.{man_at, is_empty, king_of, has_one_king};
 ghost use Rattle.cha_board.specs.SquareSets.{set_of};
+ghost use Rattle.cha_board.specs.MenSets.{first_kind as first_kind_of, man_of as man_of_sets};
 
-use crate::men::{Color, Kind, Man, is_man_of, is_of_side};
+use crate::men::{Color, Kind, Man, is_man_of, is_of_kind, is_of_side};
 use crate::sets::SquareSet;
-use crate::sight::attacks_square;
 use crate::squares::Square;
 use std::marker::Model;
 
 /// What stands on each of the 64 squares, seen by contracts as a list, from a1 to h8.
+///
+/// It is kept as the squares of the men of each colour and of the men of each kind.
 #[derive(Clone, Copy, Debug, PartialEq, Eq)]
 pub struct Men {
-    on: [Option<Man>; 64],
+    white: SquareSet,
+    black: SquareSet,
+    pawns: SquareSet,
+    knights: SquareSet,
+    bishops: SquareSet,
+    rooks: SquareSet,
+    queens: SquareSet,
+    kings: SquareSet,
 }
 
 impl Model for Men {
-    ghost use Rattle.std.specs.Prelude.{◌≡◌, List, Option, length};
+    ghost use Rattle.std.specs.Prelude.{List, Option};
     ghost use Rattle.cha_board.specs.declared.men.Man.{Man};
+    ghost use Rattle.cha_board.specs.MenSets.{men_in, sets_of, AreTidy};
 
     ghost Value = { List (Option Man) };
 
-    ghost view = { λ men. men.on };
+    ghost view = { men_in };
 
-    ghost invariant = { λ men. length men.on ≡ 64 };
+    ghost invariant = { AreTidy };
 
-    ghost inverse = { λ men. record { on = men } };
+    ghost inverse = { sets_of };
+
+    ghost inverse_ok = { λ a h. h.same };
 }
 
 impl Men {
+    /// No man on any square.
+    pub fn nothing() -> Men
+        ensures { result ≡ replicate 64 None }
+    {
+        Men {
+            white: SquareSet::empty(),
+            black: SquareSet::empty(),
+            pawns: SquareSet::empty(),
+            knights: SquareSet::empty(),
+            bishops: SquareSet::empty(),
+            rooks: SquareSet::empty(),
+            queens: SquareSet::empty(),
+            kings: SquareSet::empty(),
+        }
+    }
+
     /// The men of a list, from a1 to h8.
     pub fn of_list(list: &[Option<Man>; 64]) -> Men
         ensures { result ≡ list.now }
     {
-        Men { on: *list }
+        let mut men = Men::nothing();
+        for index in 0..64 {
+            men = men.put(Square::at(index), list[usize::from(index)]);
+        }
+        men
     }
 
     /// What stands on each square, from a1 to h8.
     pub fn list(&self) -> [Option<Man>; 64]
         ensures { result ≡ self.now }
     {
-        self.on
+        let _men = &self.kings;
+        let mut list = [None; 64];
+        for index in 0..64 {
+            list[usize::from(index)] = self.man(Square::at(index));
+        }
+        list
     }
 
     /// What stands on a square.
     pub fn man(&self, at: Square) -> Option<Man>
         ensures { result ≡ man_at self.now at }
     {
-        self.on[usize::from(at.index())]
+        let kind = first_kind(
+            self.pawns.has(at),
+            self.knights.has(at),
+            self.bishops.has(at),
+            self.rooks.has(at),
+            self.queens.has(at),
+        );
+        man_of(self.white.has(at), self.black.has(at), kind)
     }
 
     /// The men once this stands on a square, in place of what stood there.
     pub fn put(self, at: Square, found: Option<Man>) -> Men
         ensures { result ≡ slice_set self at found }
     {
-        let mut on = self.on;
-        on[usize::from(at.index())] = found;
-        Men { on }
-    }
-
-    /// The squares on which men of this side and this kind stand.
-    #[tactic(auto, using(crate::proofs::Collections::collect_none, crate::proofs::Collections::collect_more, crate::proofs::Collections::collect_same, crate::proofs::Collections::collect_all))]
-    pub fn of_kind(&self, color: Color, kind: Kind) -> SquareSet
-        ensures { result ≡ set_of (λ s. is_man color kind (man_at self.now s)) }
-    {
-        let mut found = SquareSet::empty();
-        for index in 0..64 {
-            let at = Square::at(index);
-            if is_man_of(self.man(at), color, kind) {
-                found = found.with(at);
-            }
+        Men {
+            white: self.white.placed(at, is_of_side(found, Color::White)),
+            black: self.black.placed(at, is_of_side(found, Color::Black)),
+            pawns: self.pawns.placed(at, is_of_kind(found, Kind::Pawn)),
+            knights: self.knights.placed(at, is_of_kind(found, Kind::Knight)),
+            bishops: self.bishops.placed(at, is_of_kind(found, Kind::Bishop)),
+            rooks: self.rooks.placed(at, is_of_kind(found, Kind::Rook)),
+            queens: self.queens.placed(at, is_of_kind(found, Kind::Queen)),
+            kings: self.kings.placed(at, is_of_kind(found, Kind::King)),
         }
-        found
     }
 
     /// The squares on which men of this side stand.
-    #[tactic(auto, using(crate::proofs::Collections::collect_none, crate::proofs::Collections::collect_more, crate::proofs::Collections::collect_same, crate::proofs::Collections::collect_all))]
     pub fn of_side(&self, color: Color) -> SquareSet
         ensures { result ≡ set_of (λ s. is_of color (man_at self.now s)) }
     {
-        let mut found = SquareSet::empty();
-        for index in 0..64 {
-            let at = Square::at(index);
-            if is_of_side(self.man(at), color) {
-                found = found.with(at);
-            }
+        match color {
+            Color::White => self.white,
+            Color::Black => self.black,
         }
-        found
+    }
+
+    /// The squares on which men of this kind stand, of either side.
+    pub fn all_of_kind(&self, kind: Kind) -> SquareSet
+        ensures { result ≡ set_of (λ s. is_kind kind (man_at self.now s)) }
+    {
+        match kind {
+            Kind::Pawn => self.pawns,
+            Kind::Knight => self.knights,
+            Kind::Bishop => self.bishops,
+            Kind::Rook => self.rooks,
+            Kind::Queen => self.queens,
+            Kind::King => self.kings,
+        }
+    }
+
+    /// The squares on which men of this side and this kind stand.
+    pub fn of_kind(&self, color: Color, kind: Kind) -> SquareSet
+        ensures { result ≡ set_of (λ s. is_man color kind (man_at self.now s)) }
+    {
+        self.of_side(color).common(self.all_of_kind(kind))
     }
 
     /// The squares on which a man stands.
-    #[tactic(auto, using(crate::proofs::Collections::collect_none, crate::proofs::Collections::collect_more, crate::proofs::Collections::collect_same, crate::proofs::Collections::collect_all))]
     pub fn occupied(&self) -> SquareSet
         ensures { result ≡ set_of (λ s. not (is_empty self.now s)) }
     {
-        let mut found = SquareSet::empty();
-        for index in 0..64 {
-            let at = Square::at(index);
-            if self.man(at).is_some() {
-                found = found.with(at);
-            }
-        }
-        found
-    }
-
-    /// Whether a side attacks a square.
-    pub fn attacks(&self, by: Color, at: Square) -> bool
-        ensures { result ≡ attacked self.now by at }
-    {
-        attacks_square(&self.on, by, at)
+        self.of_side(Color::White)
+            .joined(self.of_side(Color::Black))
     }
 
     /// Whether a side has exactly one king.
@@ -118,8 +156,8 @@ impl Men {
     pub fn one_king(&self, of: Color) -> bool
         ensures { result ≡ has_one_king self.now of }
     {
-        self.on
-            .iter()
+        let list = self.list();
+        list.iter()
             .filter(|man| is_man_of(**man, of, Kind::King))
             .count()
             == 1
@@ -130,20 +168,48 @@ impl Men {
         requires { IsTrue (has_one_king self.now of) }
         ensures { result ≡ king_of self.now of }
     {
-        for index in 0..64 {
-            if is_man_of(self.on[usize::from(index)], of, Kind::King) {
-                return Square::at(index);
-            }
+        let _men = &self.kings;
+        match self.of_kind(of, Kind::King).first() {
+            Some(at) => at,
+            None => unreachable!(),
         }
-        unreachable!()
     }
+}
 
-    /// Whether the king of a side that has one is attacked.
-    #[tactic(auto, unfolding(crate::specs::Board::in_check))]
-    pub fn in_check(&self, of: Color) -> bool
-        requires { IsTrue (has_one_king self.now of) }
-        ensures { result ≡ in_check_among self.now of }
-    {
-        self.attacks(of.other(), self.king(of))
+/// The first kind whose set has a square, a king where no other has it.
+fn first_kind(pawn: bool, knight: bool, bishop: bool, rook: bool, queen: bool) -> Kind
+    ensures { result ≡ first_kind_of pawn knight bishop rook queen }
+{
+    if pawn {
+        Kind::Pawn
+    } else if knight {
+        Kind::Knight
+    } else if bishop {
+        Kind::Bishop
+    } else if rook {
+        Kind::Rook
+    } else if queen {
+        Kind::Queen
+    } else {
+        Kind::King
+    }
+}
+
+/// The man on a square of the white or of the black set.
+fn man_of(white: bool, black: bool, kind: Kind) -> Option<Man>
+    ensures { result ≡ man_of_sets white black kind }
+{
+    if white {
+        Some(Man {
+            color: Color::White,
+            kind,
+        })
+    } else if black {
+        Some(Man {
+            color: Color::Black,
+            kind,
+        })
+    } else {
+        None
     }
 }

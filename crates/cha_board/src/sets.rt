@@ -1,7 +1,7 @@
 //! Sets of squares.
 
 ghost use Rattle.std.specs.Prelude.{◌≡◌, ◌≤◌, length, slice_get};
-ghost use Rattle.cha_board.specs.SquareSets.{set_of_bits, bits_of_set, squares_in, empty_set, has_square, set_with, set_without, set_joined, set_common, set_minus, has_no_square, is_subset};
+ghost use Rattle.cha_board.specs.SquareSets.{set_of_bits, bits_of_set, squares_in, empty_set, has_square, set_with, set_without, set_placed, set_joined, set_common, set_minus, has_no_square, is_subset};
 
 use crate::squares::Square;
 use std::marker::Model;
@@ -76,6 +76,17 @@ impl SquareSet {
     {
         SquareSet {
             bits: self.bits & !(1 << at.index()),
+        }
+    }
+
+    /// The set with a square in or out.
+    pub fn placed(self, at: Square, inside: bool) -> SquareSet
+        ensures { result ≡ set_placed self at inside }
+    {
+        if inside {
+            self.with(at)
+        } else {
+            self.without(at)
         }
     }
 

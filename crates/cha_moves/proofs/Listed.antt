@@ -1,17 +1,15 @@
 -- Which moves are in the list of legal moves.
-use Rattle.std.proofs.Common.{◌≡◌, ℕ, ◌<◌, Bool, true, false, not, List, [], ◌∷◌, ◌++◌, append-nil, Option, Some, None, ◌⊎◌, ◌↔◌, IsTrue, inl, inr, refl, sym, ◌∙◌, ap, arith}
-use Rattle.std.specs.List.{Contains, filter}
-use Rattle.std.proofs.lemmas.Bool.{and_parts, and_from, and_left, false_from_ne_true, both_ways}
+use Rattle.std.proofs.Common.{◌≡◌, ℕ, ◌<◌, Bool, true, not, ◌∷◌, Option, Some, None, ◌⊎◌, ◌↔◌, IsTrue, inl, inr, refl, sym, ◌∙◌, arith}
+use Rattle.std.specs.List.{Contains}
+use Rattle.std.proofs.lemmas.Bool.{and_parts}
 use Rattle.std.proofs.lemmas.List.Elements.{All-contains, All-map}
 use Rattle.cha_board.specs.declared.men.Kind.{Kind}
 use Rattle.cha_board.specs.declared.men.Kind.TheVariants.{Pawn, Knight, Bishop, Rook, Queen, King}
-use Rattle.cha_board.specs.declared.men.Man.{Man}
-use Rattle.cha_board.specs.Men.{same_color}
 use Rattle.cha_board.specs.Squares.{squares}
-use Rattle.cha_board.specs.Board.{Board, man_at, in_check}
+use Rattle.cha_board.specs.Board.{Board, in_check}
 use Rattle.cha_moves.specs.Step.{Move}
-use Rattle.cha_moves.specs.Moves.{goes, goes_as, promotions, is_promotion, is_pseudo_legal, men_after, is_legal_in, moves_between, moves_from, all_moves, legal}
-use Rattle.cha_moves.proofs.Made.{Mover, may_gives}
+use Rattle.cha_moves.specs.Moves.{promotions, is_promotion, is_pseudo_legal, men_after, is_legal_in, moves_between, moves_from, all_moves, legal}
+use Rattle.cha_moves.proofs.Made.{may_gives}
 use Rattle.cha_moves.proofs.Kept.{promoted}
 use Rattle.cha_moves.proofs.Pieces.{Contains-filter_from, Contains-filter_parts, Contains-flat_map_parts, Contains-flat_map_from, Contains-squares_from, Contains-squares_small}
 
@@ -69,27 +67,3 @@ listed q m from to h =
 -- the test of a move tells whether it is in the list
 pub told_listed : (q : Board) (m : Move) (b : Bool) → m.from < 64 → m.to < 64 → b ≡ is_legal_in q m → IsTrue b ↔ Contains (legal q) m
 told_listed q m b from to e = (λ h. listed q m from to (sym e ∙ h), λ h. e ∙ (is_listed q m h).legal)
-
-goes_by : (q : Board) (m : Move) (man : Man) → Mover q m man → goes_as q m.from m.to (man_at q.men m.from) ≡ true
-unfolding goes_as
-goes_by q m man may = rw may.found (and_from (same_color man.color q.side) (goes q man.kind m.from m.to) may.own may.goes)
-
--- where no man of the mover goes so, no move is legal
-pub not_legal : (q : Board) (m : Move) → goes_as q m.from m.to (man_at q.men m.from) ≡ false → is_legal_in q m ≡ false
-unfolding is_legal_in
-not_legal q m h =
-    and_left (is_pseudo_legal q m) (not (in_check (men_after q m) q.side)) (false_from_ne_true (is_pseudo_legal q m) (λ k. (
-    let mover = may_gives q m k in
-    both_ways (goes_as q m.from m.to (man_at q.men m.from)) h (goes_by q m mover.0 mover.1))))
-
-pub none_between : (q : Board) (s t : ℕ) → goes_as q s t (man_at q.men s) ≡ false → filter (is_legal_in q) (moves_between s t) ≡ []
-none_between q s t h =
-    let a = not_legal q (record { from = s; to = t; promotion = None }) h in
-    let b = not_legal q (record { from = s; to = t; promotion = Some Queen }) h in
-    let c = not_legal q (record { from = s; to = t; promotion = Some Rook }) h in
-    let d = not_legal q (record { from = s; to = t; promotion = Some Bishop }) h in
-    let e = not_legal q (record { from = s; to = t; promotion = Some Knight }) h in
-    rw (a, b, c, d, e) refl
-
-pub adds_none : (q : Board) (s t : ℕ) (old : List Move) → goes_as q s t (man_at q.men s) ≡ false → old ≡ old ++ filter (is_legal_in q) (moves_between s t)
-adds_none q s t old h = sym (ap (λ (xs : List Move). old ++ xs) (none_between q s t h) ∙ append-nil old)

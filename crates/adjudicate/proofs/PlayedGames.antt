@@ -23,7 +23,8 @@ use Rattle.pgn_games.specs.Games.{games, game_of, fault_of, fault_if, is_open, s
 use Rattle.cha_san.specs.declared.faults.PlayFault.{PlayFault}
 use Rattle.cha_san.specs.Playing.{positions, LacksMemory}
 use Rattle.flag_report.specs.Reasons.{IsOfWord}
-use Rattle.adjudicate.specs.Outcomes.{played_item, stopped_by}
+use Rattle.flag_report.specs.declared.reasons.Unreadable.TheVariants.{Tokens}
+use Rattle.adjudicate.specs.Outcomes.{game_item, played_item, stopped_by}
 use Rattle.adjudicate.specs.Outcomes.Item.{UnreadableGame}
 
 -- a game whose words gave no positions is unreadable
@@ -34,6 +35,11 @@ stopped_item game stop r e either named =
       | inl lacks ↦ absurd (named (subst LacksMemory e lacks))
       | inr same ↦ ap (played_item game) (sym same ∙ e)
     ]
+
+-- and so is a game with a fault
+pub fault_item : (game : Game) (fault : GameFault) → game.fault ≡ Some fault → game_item game ≡ UnreadableGame (Tokens fault)
+unfolding game_item
+fault_item game fault e = rw e refl
 
 -- a game without a fault has few words
 faultless : (a b c d e : Option GameFault) (many : Bool) → option_or a (option_or b (option_or c (option_or d (option_or e (fault_if many TooManyPlies))))) ≡ None → many ≡ false

@@ -9,11 +9,12 @@ use Rattle.cha_outside.specs.Gathering.{Took}
 use Rattle.flag_report.specs.declared.totals.Summary.{Summary}
 use Rattle.adjudicate.specs.declared.judging.Judged.{Judged}
 use Rattle.adjudicate.specs.declared.writing.Reported.{Reported}
-use Rattle.adjudicate.specs.declared.writing.Reported.TheVariants.{Whole, SourceFailed, TooLong, SinkFailed}
+use Rattle.adjudicate.specs.declared.writing.Reported.TheVariants.{Whole, Refused, SourceFailed, TooLong, SinkFailed}
 use Rattle.adjudicate.specs.declared.orders.Order.{Order}
-use Rattle.adjudicate.specs.Outcomes.{Item, Outcome, IsSoundOutcome, AllSound, block_of, block, blocks, summary_of, summary_text, is_bad, is_third, is_open, items_of}
-use Rattle.adjudicate.specs.Report.{IsReport, HasBegun, HasWholeBlocks}
-use Rattle.adjudicate.specs.Runs.{Grew, Reports, Begins, BeginsWhole}
+use Rattle.adjudicate.specs.declared.orders.Order.TheVariants.{AdjudicateGames, JudgePositions, CheckCert}
+use Rattle.adjudicate.specs.Outcomes.{Item, Outcome, IsSoundOutcome, AllSound, block_of, block, blocks, summary_of, is_bad, is_third, is_open, game_items, position_items}
+use Rattle.adjudicate.specs.Report.{IsReportOn, HasBegunOn, HasWholeBlocksOn, HasWholeBlocks}
+use Rattle.adjudicate.specs.Runs.{Grew, Reports, Refuses, Begins, BeginsWhole}
 use Rattle.adjudicate.specs.Steps.{one_if, Judges, WroteUpTo, HasRoom, counted}
 
 -- one more outcome
@@ -21,13 +22,13 @@ sound_more : (os : List Outcome) (o : Outcome) → AllSound os → IsSoundOutcom
 sound_more [] o all one = (one, tt)
 sound_more (first ∷ os) o all one = (all.0, sound_more os o all.1 one)
 
-blocks_more : (n : ℕ) (os : List Outcome) (o : Outcome) → blocks n (os ++ o ∷ []) ≡ blocks n os ++ block (n + length os) o
+blocks_more : (certs : Bool) (n : ℕ) (os : List Outcome) (o : Outcome) → blocks certs n (os ++ o ∷ []) ≡ blocks certs n os ++ block certs (n + length os) o
 unfolding blocks
-blocks_more n [] o = let same : n + 0 ≡ n = omega arith in rw same (append-nil (block n o))
-blocks_more n (first ∷ os) o =
+blocks_more certs n [] o = let same : n + 0 ≡ n = omega arith in rw same (append-nil (block certs n o))
+blocks_more certs n (first ∷ os) o =
     let next : n + 1 + length os ≡ n + length (first ∷ os) = omega arith in
-    ap (λ rest. block n first ++ rest) (blocks_more (n + 1) os o ∙ ap (λ k. blocks (n + 1) os ++ block k o) next)
-    ∙ sym (append_assoc (block n first) (blocks (n + 1) os) (block (n + length (first ∷ os)) o))
+    ap (λ rest. block certs n first ++ rest) (blocks_more certs (n + 1) os o ∙ ap (λ k. blocks certs (n + 1) os ++ block certs k o) next)
+    ∙ sym (append_assoc (block certs n first) (blocks certs (n + 1) os) (block certs (n + length (first ∷ os)) o))
 
 count_more : (p : Outcome → Bool) (os : List Outcome) (o : Outcome) → count_by p (os ++ o ∷ []) ≡ count_by p os + one_if (p o)
 count_more p os o = sum_by-append (λ x. if p x then 1 else 0) os (o ∷ []) ∙ ap (λ n. count_by p os + n) (zero-add (one_if (p o)))
@@ -41,20 +42,20 @@ summary_more os o = λ i. record {
 }
 
 -- before the first item
-pub nothing_written : (all : List Item) (a : Option (List ℕ)) → WroteUpTo all all a a (record { items = 0; bad = 0; third = 0; undecided = 0 })
+pub nothing_written : (certs : Bool) (all : List Item) (a : Option (List ℕ)) → WroteUpTo certs all all a a (record { items = 0; bad = 0; third = 0; undecided = 0 })
 unfolding blocks
-nothing_written all a = ([], refl, ([], refl, tt, appends_nothing a, refl))
+nothing_written certs all a = ([], refl, ([], refl, tt, appends_nothing a, refl))
 
 -- the block of the next item is written whole
-pub one_more : (all here later : List Item) (item : Item) (old now next : Option (List ℕ)) (s : Summary) (judged : Judged) → WroteUpTo all here old now s → here ≡ item ∷ later → Judges item s judged
-    → Appends now next judged.block → WroteUpTo all later old next judged.totals
-one_more all here later item old now next s judged w here_is j added =
+pub one_more : (certs : Bool) (all here later : List Item) (item : Item) (old now next : Option (List ℕ)) (s : Summary) (judged : Judged) → WroteUpTo certs all here old now s → here ≡ item ∷ later → Judges certs item s judged
+    → Appends now next judged.block → WroteUpTo certs all later old next judged.totals
+one_more certs all here later item old now next s judged w here_is j added =
     let os = w.2.0 in
     let o : Outcome = record { item = item; decision = j.0 } in
     let number : s.items ≡ length os = ap (λ t. t.items) w.2.4 in
-    let text : judged.block ≡ block (1 + length os) o = j.2 ∙ ap (λ k. block_of k item j.0) (let e : s.items + 1 ≡ 1 + length os = omega arith in e) in
-    let out : Appends old next (blocks 1 os ++ judged.block) = appends_more old now next (blocks 1 os) judged.block w.2.3 added in
-    let whole : blocks 1 os ++ judged.block ≡ blocks 1 (os ++ o ∷ []) = ap (λ x. blocks 1 os ++ x) text ∙ sym (blocks_more 1 os o) in (
+    let text : judged.block ≡ block certs (1 + length os) o = j.2 ∙ ap (λ k. block_of certs k item j.0) (let e : s.items + 1 ≡ 1 + length os = omega arith in e) in
+    let out : Appends old next (blocks certs 1 os ++ judged.block) = appends_more old now next (blocks certs 1 os) judged.block w.2.3 added in
+    let whole : blocks certs 1 os ++ judged.block ≡ blocks certs 1 (os ++ o ∷ []) = ap (λ x. blocks certs 1 os ++ x) text ∙ sym (blocks_more certs 1 os o) in (
       w.0 ++ item ∷ [],
       w.1 ∙ ap (λ x. w.0 ++ x) here_is ∙ sym (append_assoc w.0 (item ∷ []) later),
       (
@@ -67,15 +68,15 @@ one_more all here later item old now next s judged w here_is j added =
     )
 
 -- the block of the next item is written in part
-pub cut_block : (order : Order) (bytes : List ℕ) (here later : List Item) (item : Item) (old now next : Option (List ℕ)) (s : Summary) (judged : Judged) (n : ℕ) → WroteUpTo (items_of order bytes) here old now s → here ≡ item ∷ later → Judges item s judged
-    → Appends now next (take n judged.block) → Grew old next (HasBegun order bytes)
-cut_block order bytes here later item old now next s judged n w here_is j added =
+pub cut_block : (certs : Bool) (summary : Summary → List ℕ) (items here later : List Item) (item : Item) (old now next : Option (List ℕ)) (s : Summary) (judged : Judged) (n : ℕ) → WroteUpTo certs items here old now s
+    → here ≡ item ∷ later → Judges certs item s judged → Appends now next (take n judged.block) → Grew old next (HasBegunOn certs summary items)
+cut_block certs summary items here later item old now next s judged n w here_is j added =
     let os = w.2.0 in
     let number : s.items ≡ length os = ap (λ t. t.items) w.2.4 in
-    let text : block_of (length os + 1) item j.0 ≡ take n judged.block ++ drop n judged.block =
-    ap (λ k. block_of (k + 1) item j.0) (sym number) ∙ sym j.2 ∙ sym (take-append-drop n judged.block) in (
-      blocks 1 os ++ take n judged.block,
-      appends_more old now next (blocks 1 os) (take n judged.block) w.2.3 added,
+    let text : block_of certs (length os + 1) item j.0 ≡ take n judged.block ++ drop n judged.block =
+    ap (λ k. block_of certs (k + 1) item j.0) (sym number) ∙ sym j.2 ∙ sym (take-append-drop n judged.block) in (
+      blocks certs 1 os ++ take n judged.block,
+      appends_more old now next (blocks certs 1 os) (take n judged.block) w.2.3 added,
       (
         os,
         item ∷ later,
@@ -88,37 +89,37 @@ cut_block order bytes here later item old now next s judged n w here_is j added 
     )
 
 -- nothing of the next item is written
-pub whole_blocks : (order : Order) (bytes : List ℕ) (here : List Item) (old now : Option (List ℕ)) (s : Summary) → WroteUpTo (items_of order bytes) here old now s → Grew old now (HasWholeBlocks order bytes)
-whole_blocks order bytes here old now s w =
+pub whole_blocks : (certs : Bool) (items here : List Item) (old now : Option (List ℕ)) (s : Summary) → WroteUpTo certs items here old now s → Grew old now (HasWholeBlocksOn certs items)
+whole_blocks certs items here old now s w =
     let os = w.2.0 in
-    (blocks 1 os, w.2.3, (os, here, w.1 ∙ ap (λ x. x ++ here) (sym w.2.1), w.2.2, refl))
+    (blocks certs 1 os, w.2.3, (os, here, w.1 ∙ ap (λ x. x ++ here) (sym w.2.1), w.2.2, refl))
 
 -- no item is left, and the summary is written whole
-pub finished : (order : Order) (bytes : List ℕ) (old now next : Option (List ℕ)) (s : Summary) (last : List ℕ) → WroteUpTo (items_of order bytes) [] old now s → last ≡ summary_text order s
-    → Appends now next last → Grew old next (IsReport order bytes)
-finished order bytes old now next s last w last_is added =
+pub finished : (certs : Bool) (summary : Summary → List ℕ) (items : List Item) (old now next : Option (List ℕ)) (s : Summary) (last : List ℕ) → WroteUpTo certs items [] old now s → last ≡ summary s
+    → Appends now next last → Grew old next (IsReportOn certs summary items)
+finished certs summary items old now next s last w last_is added =
     let os = w.2.0 in
-    let items : map (λ o. o.item) os ≡ items_of order bytes = w.2.1 ∙ sym (w.1 ∙ append-nil w.0) in (
-      blocks 1 os ++ last,
-      appends_more old now next (blocks 1 os) last w.2.3 added,
-      (os, items, w.2.2, ap (λ x. blocks 1 os ++ x) (last_is ∙ ap (summary_text order) w.2.4)),
+    let all : map (λ o. o.item) os ≡ items = w.2.1 ∙ sym (w.1 ∙ append-nil w.0) in (
+      blocks certs 1 os ++ last,
+      appends_more old now next (blocks certs 1 os) last w.2.3 added,
+      (os, all, w.2.2, ap (λ x. blocks certs 1 os ++ x) (last_is ∙ ap summary w.2.4)),
     )
 
 -- no item is left, and the summary is written in part
-pub cut_summary : (order : Order) (bytes : List ℕ) (old now next : Option (List ℕ)) (s : Summary) (last : List ℕ) (n : ℕ) → WroteUpTo (items_of order bytes) [] old now s → last ≡ summary_text order s
-    → Appends now next (take n last) → Grew old next (HasBegun order bytes)
-cut_summary order bytes old now next s last n w last_is added =
+pub cut_summary : (certs : Bool) (summary : Summary → List ℕ) (items : List Item) (old now next : Option (List ℕ)) (s : Summary) (last : List ℕ) (n : ℕ) → WroteUpTo certs items [] old now s → last ≡ summary s
+    → Appends now next (take n last) → Grew old next (HasBegunOn certs summary items)
+cut_summary certs summary items old now next s last n w last_is added =
     let os = w.2.0 in
-    let items : items_of order bytes ≡ map (λ o. o.item) os ++ [] = w.1 ∙ ap (λ x. x ++ []) (sym w.2.1) in
-    let text : summary_text order (summary_of os) ≡ take n last ++ drop n last = sym (last_is ∙ ap (summary_text order) w.2.4) ∙ sym (take-append-drop n last) in (
-      blocks 1 os ++ take n last,
-      appends_more old now next (blocks 1 os) (take n last) w.2.3 added,
-      (os, [], take n last, items, w.2.2, refl, (drop n last, text)),
+    let all : items ≡ map (λ o. o.item) os ++ [] = w.1 ∙ ap (λ x. x ++ []) (sym w.2.1) in
+    let text : summary (summary_of os) ≡ take n last ++ drop n last = sym (last_is ∙ ap summary w.2.4) ∙ sym (take-append-drop n last) in (
+      blocks certs 1 os ++ take n last,
+      appends_more old now next (blocks certs 1 os) (take n last) w.2.3 added,
+      (os, [], take n last, all, w.2.2, refl, (drop n last, text)),
     )
 
 -- one more item can be counted
-pub room_for_one : (all here : List Item) (old now : Option (List ℕ)) (s : Summary) → WroteUpTo all here old now s → s.items < 2 ^ 63 → HasRoom s
-room_for_one all here old now s w few =
+pub room_for_one : (certs : Bool) (all here : List Item) (old now : Option (List ℕ)) (s : Summary) → WroteUpTo certs all here old now s → s.items < 2 ^ 63 → HasRoom s
+room_for_one certs all here old now s w few =
     let os = w.2.0 in
     let number : s.items ≡ length os = ap (λ t. t.items) w.2.4 in
     let bad : s.bad ≤ length os = rw (ap (λ t. t.bad) w.2.4) (count_by-le-length is_bad os) in
@@ -126,17 +127,25 @@ room_for_one all here old now s w few =
     let undecided : s.undecided ≤ length os = rw (ap (λ t. t.undecided) w.2.4) (count_by-le-length is_open os) in
     record { few_items = few; few_bad = omega arith; few_third = omega arith; few_undecided = omega arith }
 
-pub one_counted : (item : Item) (s : Summary) (judged : Judged) → Judges item s judged → judged.totals.items ≡ s.items + 1
-one_counted item s judged j = ap (λ t. t.items) j.3
+pub one_counted : (certs : Bool) (item : Item) (s : Summary) (judged : Judged) → Judges certs item s judged → judged.totals.items ≡ s.items + 1
+one_counted certs item s judged j = ap (λ t. t.items) j.3
 
 -- bytes were taken, and nothing was written
-pub nothing_begun : (order : Order) (left left' a : Option (List ℕ)) (P : List ℕ → Type 0) → Took left left' P → BeginsWhole order left left' a a
+nothing_yet : (order : Order) (bytes : List ℕ) → HasWholeBlocks order bytes []
 unfolding blocks
-nothing_begun order left left' a P took = (took.0, took.1, ([], appends_nothing a, ([], items_of order took.0, refl, tt, refl)))
+nothing_yet (AdjudicateGames certs) bytes = ([], game_items bytes, refl, tt, refl)
+nothing_yet (JudgePositions certs) bytes = ([], position_items bytes, refl, tt, refl)
+nothing_yet CheckCert bytes = refl
+
+pub nothing_begun : (order : Order) (left left' a : Option (List ℕ)) (P : List ℕ → Type 0) → Took left left' P → BeginsWhole order left left' a a
+nothing_begun order left left' a P took = (took.0, took.1, ([], appends_nothing a, nothing_yet order took.0))
 
 -- what is said of one name of an order holds of another
 pub reports_as : (a b : Order) (left left' old now : Option (List ℕ)) → a ≡ b → Reports a left left' old now → Reports b left left' old now
 reports_as a b left left' old now e h = subst (λ o. Reports o left left' old now) e h
+
+pub refuses_as : (a b : Order) (left left' old now : Option (List ℕ)) → a ≡ b → Refuses a left left' old now → Refuses b left left' old now
+refuses_as a b left left' old now e h = subst (λ o. Refuses o left left' old now) e h
 
 pub begins_as : (a b : Order) (left left' old now : Option (List ℕ)) → a ≡ b → Begins a left left' old now → Begins b left left' old now
 begins_as a b left left' old now e h = subst (λ o. Begins o left left' old now) e h
@@ -148,8 +157,8 @@ pub same_order : (r x : Option Order) (a b : Order) → r ≡ x → r ≡ Some a
 same_order r x a b e f h = cc
 
 -- how a report ended, one way or another
-pub source_failed : (r : Reported) → r ≡ SourceFailed → (r ≡ Whole → ⊥) × (r ≡ SinkFailed → ⊥)
-source_failed r e = ((λ h. let f = sym e ∙ h in cc), (λ h. let f = sym e ∙ h in cc))
+pub source_failed : (r : Reported) → r ≡ SourceFailed → (r ≡ Whole → ⊥) × (r ≡ Refused → ⊥) × (r ≡ SinkFailed → ⊥)
+source_failed r e = ((λ h. let f = sym e ∙ h in cc), (λ h. let f = sym e ∙ h in cc), (λ h. let f = sym e ∙ h in cc))
 
-pub was_too_long : (r : Reported) → r ≡ TooLong → (r ≡ Whole → ⊥) × (r ≡ SinkFailed → ⊥)
-was_too_long r e = ((λ h. let f = sym e ∙ h in cc), (λ h. let f = sym e ∙ h in cc))
+pub was_too_long : (r : Reported) → r ≡ TooLong → (r ≡ Whole → ⊥) × (r ≡ Refused → ⊥) × (r ≡ SinkFailed → ⊥)
+was_too_long r e = ((λ h. let f = sym e ∙ h in cc), (λ h. let f = sym e ∙ h in cc), (λ h. let f = sym e ∙ h in cc))

@@ -23,11 +23,8 @@ use Rattle.flag_report.specs.Ends.{standing_of}
 use Rattle.flag_report.specs.Rulings.{ruling_of, first_of, is_changed}
 use Rattle.flag_report.specs.Blocks.{has_dead_status, position_text, refused_text}
 use Rattle.flag_report.specs.Games.{game_text, unreadable_text}
-use Rattle.flag_report.specs.Totals.{game_summary_text, position_summary_text}
 use Rattle.cha_decide.specs.declared.decided.Decision.{Decision}
 use Rattle.cha_decide.specs.Sound.{IsSound}
-use Rattle.adjudicate.specs.declared.orders.Order.{Order}
-use Rattle.adjudicate.specs.declared.orders.Order.TheVariants.{AdjudicateGames, JudgePositions}
 use Rattle.adjudicate.specs.Lines.{lines}
 
 -- an item of an input: a line that is a position, a line that is none, a game that was played to a position, with its
@@ -83,11 +80,6 @@ game_item game = item_unless game.fault game
 abbrev pub game_items : List ℕ → List Item
 game_items bytes = map game_item (games bytes)
 
--- the items of an input, in order
-abbrev pub items_of : Order → List ℕ → List Item
-items_of AdjudicateGames bytes = game_items bytes
-items_of JudgePositions bytes = position_items bytes
-
 -- an item, and the verdicts on its position if it has one
 pub record Outcome : Type 0 where
   pub item : Item
@@ -116,22 +108,22 @@ AllSound (o ∷ os) = IsSoundOutcome o × AllSound os
 abbrev pub judgment_of : Board → ResultMark → Bool → Decision → Judgment
 judgment_of q recorded forfeit d = ruling_of (standing_of q) recorded forfeit d.white d.black
 
--- the block of an item under a number
-unfoldable pub block_of : ℕ → Item → Option Decision → List ℕ
-block_of number (PositionLine q) (Some d) = position_text number q d.white d.black
-block_of number (PositionLine q) None = []
-block_of number (RefusedLine fault) d = refused_text number fault
-block_of number (PlayedGame q recorded forfeit) (Some d) = game_text number q recorded d.white d.black (judgment_of q recorded forfeit d)
-block_of number (PlayedGame q recorded forfeit) None = []
-block_of number (UnreadableGame why) d = unreadable_text number why
+-- the block of an item under a number, with or without certificates
+unfoldable pub block_of : Bool → ℕ → Item → Option Decision → List ℕ
+block_of certs number (PositionLine q) (Some d) = position_text number q d.white d.black certs
+block_of certs number (PositionLine q) None = []
+block_of certs number (RefusedLine fault) d = refused_text number fault
+block_of certs number (PlayedGame q recorded forfeit) (Some d) = game_text number q recorded d.white d.black (judgment_of q recorded forfeit d) certs
+block_of certs number (PlayedGame q recorded forfeit) None = []
+block_of certs number (UnreadableGame why) d = unreadable_text number why
 
-abbrev pub block : ℕ → Outcome → List ℕ
-block number o = block_of number o.item o.decision
+abbrev pub block : Bool → ℕ → Outcome → List ℕ
+block certs number o = block_of certs number o.item o.decision
 
 -- the blocks of outcomes, numbered from here on
-unfoldable pub blocks : ℕ → List Outcome → List ℕ
-blocks number [] = []
-blocks number (o ∷ os) = block number o ++ blocks (number + 1) os
+unfoldable pub blocks : Bool → ℕ → List Outcome → List ℕ
+blocks certs number [] = []
+blocks certs number (o ∷ os) = block certs number o ++ blocks certs (number + 1) os
 
 -- an item that is refused or unreadable
 abbrev pub is_bad_item : Item → Bool
@@ -167,8 +159,3 @@ is_open o = has_open_side o.decision
 -- what is counted over outcomes
 abbrev pub summary_of : List Outcome → Summary
 summary_of os = record { items = length os; bad = count_by is_bad os; third = count_by is_third os; undecided = count_by is_open os }
-
--- the last line
-abbrev pub summary_text : Order → Summary → List ℕ
-summary_text AdjudicateGames s = game_summary_text s
-summary_text JudgePositions s = position_summary_text s

@@ -1,31 +1,54 @@
 -- What is written for an input (this project).
-use Rattle.std.specs.Prelude.{◌≡◌, ℕ, ◌+◌, List, [], ◌∷◌, ◌++◌, length, map, Option}
+use Rattle.std.specs.Prelude.{◌≡◌, ℕ, ◌+◌, Bool, List, [], ◌∷◌, ◌++◌, length, map, Option}
+use Rattle.flag_report.specs.declared.totals.Summary.{Summary}
+use Rattle.flag_report.specs.Totals.{game_summary_text, position_summary_text}
 use Rattle.cha_decide.specs.declared.decided.Decision.{Decision}
+use Rattle.cert_text.specs.Texts.{cert_of}
 use Rattle.adjudicate.specs.declared.orders.Order.{Order}
-use Rattle.adjudicate.specs.Outcomes.{Item, Outcome, IsSoundFor, AllSound, block_of, blocks, summary_of, summary_text, items_of}
+use Rattle.adjudicate.specs.declared.orders.Order.TheVariants.{AdjudicateGames, JudgePositions, CheckCert}
+use Rattle.adjudicate.specs.Outcomes.{Item, Outcome, IsSoundFor, AllSound, block_of, blocks, summary_of, game_items, position_items}
+use Rattle.adjudicate.specs.Checks.{IsAnswerTo}
 
 -- there is one sound outcome for each item, in order, and the output is their blocks, numbered from 1, and their summary
+abbrev pub IsReportOn : Bool → (Summary → List ℕ) → List Item → List ℕ → Type 0
+IsReportOn certs summary items out =
+    (os : List Outcome) × (map (λ o. o.item) os ≡ items) × AllSound os × (out ≡ blocks certs 1 os ++ summary (summary_of os))
+
+-- what an order has written for an input: of games and positions a report, of a certificate the answer of its check
 abbrev pub IsReport : Order → List ℕ → List ℕ → Type 0
-IsReport order bytes out =
-    (os : List Outcome) × (map (λ o. o.item) os ≡ items_of order bytes) × AllSound os × (out ≡ blocks 1 os ++ summary_text order (summary_of os))
+IsReport (AdjudicateGames certs) bytes out = IsReportOn certs game_summary_text (game_items bytes) out
+IsReport (JudgePositions certs) bytes out = IsReportOn certs position_summary_text (position_items bytes) out
+IsReport CheckCert bytes out = IsAnswerTo (cert_of bytes) out
 
 -- a list is the front of another
 abbrev pub IsFront : List ℕ → List ℕ → Type 0
 IsFront front whole = (rest : List ℕ) × (whole ≡ front ++ rest)
 
 -- a front of the block of the next item, or of the summary where no item is left
-abbrev pub IsPart : Order → List Outcome → List Item → List ℕ → Type 0
-IsPart order os [] part = IsFront part (summary_text order (summary_of os))
-IsPart order os (item ∷ later) part = (d : Option Decision) × IsSoundFor item d × IsFront part (block_of (length os + 1) item d)
+abbrev pub IsPart : Bool → (Summary → List ℕ) → List Outcome → List Item → List ℕ → Type 0
+IsPart certs summary os [] part = IsFront part (summary (summary_of os))
+IsPart certs summary os (item ∷ later) part =
+    (d : Option Decision) × IsSoundFor item d × IsFront part (block_of certs (length os + 1) item d)
 
 -- the output is the blocks of sound outcomes of the first items, and a part of what comes next
-abbrev pub HasBegun : Order → List ℕ → List ℕ → Type 0
-HasBegun order bytes out =
+abbrev pub HasBegunOn : Bool → (Summary → List ℕ) → List Item → List ℕ → Type 0
+HasBegunOn certs summary items out =
     (os : List Outcome) × (later : List Item) × (part : List ℕ)
-    × (items_of order bytes ≡ map (λ o. o.item) os ++ later) × AllSound os × (out ≡ blocks 1 os ++ part) × IsPart order os later part
+    × (items ≡ map (λ o. o.item) os ++ later) × AllSound os × (out ≡ blocks certs 1 os ++ part) × IsPart certs summary os later part
 
--- the same with whole blocks alone
+-- the output is the front of what an order has written
+abbrev pub HasBegun : Order → List ℕ → List ℕ → Type 0
+HasBegun (AdjudicateGames certs) bytes out = HasBegunOn certs game_summary_text (game_items bytes) out
+HasBegun (JudgePositions certs) bytes out = HasBegunOn certs position_summary_text (position_items bytes) out
+HasBegun CheckCert bytes out = (whole : List ℕ) × IsAnswerTo (cert_of bytes) whole × IsFront out whole
+
+-- the output is the blocks of sound outcomes of the first items
+abbrev pub HasWholeBlocksOn : Bool → List Item → List ℕ → Type 0
+HasWholeBlocksOn certs items out =
+    (os : List Outcome) × (later : List Item) × (items ≡ map (λ o. o.item) os ++ later) × AllSound os × (out ≡ blocks certs 1 os)
+
+-- the output is whole blocks of what an order has written; of the answer on a certificate nothing is
 abbrev pub HasWholeBlocks : Order → List ℕ → List ℕ → Type 0
-HasWholeBlocks order bytes out =
-    (os : List Outcome) × (later : List Item)
-    × (items_of order bytes ≡ map (λ o. o.item) os ++ later) × AllSound os × (out ≡ blocks 1 os)
+HasWholeBlocks (AdjudicateGames certs) bytes out = HasWholeBlocksOn certs (game_items bytes) out
+HasWholeBlocks (JudgePositions certs) bytes out = HasWholeBlocksOn certs (position_items bytes) out
+HasWholeBlocks CheckCert bytes out = out ≡ []

@@ -3,16 +3,22 @@ use Rattle.std.specs.Prelude.{ℕ, List}
 use Rattle.std.specs.declared.option.Option.{Option}
 use Rattle.std.specs.Io.KnownBytes.{Appends, Consumes, IsAtEnd}
 use Rattle.adjudicate.specs.declared.orders.Order.{Order}
+use Rattle.adjudicate.specs.Checks.{Passes}
 use Rattle.adjudicate.specs.Report.{IsReport, HasBegun, HasWholeBlocks}
 
 -- the sink took an output with a property
 abbrev pub Grew : Option (List ℕ) → Option (List ℕ) → (List ℕ → Type 0) → Type 0
 Grew old new P = (out : List ℕ) × Appends old new out × P out
 
--- the whole input was taken, and its report was written
+-- the whole input was taken, it is what its order asks for, and its report was written
 abbrev pub Reports : Order → Option (List ℕ) → Option (List ℕ) → Option (List ℕ) → Option (List ℕ) → Type 0
 Reports order left left' old new =
-    (bytes : List ℕ) × Consumes left left' bytes × IsAtEnd left' × Grew old new (IsReport order bytes)
+    (bytes : List ℕ) × Consumes left left' bytes × IsAtEnd left' × Passes order bytes × Grew old new (IsReport order bytes)
+
+-- the whole input was taken, it is not what its order asks for, and its report was written
+abbrev pub Refuses : Order → Option (List ℕ) → Option (List ℕ) → Option (List ℕ) → Option (List ℕ) → Type 0
+Refuses order left left' old new =
+    (bytes : List ℕ) × Consumes left left' bytes × IsAtEnd left' × (Passes order bytes → ⊥) × Grew old new (IsReport order bytes)
 
 -- some bytes were taken, and their report was begun
 abbrev pub Begins : Order → Option (List ℕ) → Option (List ℕ) → Option (List ℕ) → Option (List ℕ) → Type 0

@@ -1,7 +1,7 @@
 -- The numbers of the statuses (this project).
 use Rattle.std.specs.Prelude.{ℕ}
 use Rattle.adjudicate.specs.declared.endings.Status.{Status}
-use Rattle.adjudicate.specs.declared.endings.Status.TheVariants.{Done, Usage, ReadFault, WriteFault, TooLong, NoMemory}
+use Rattle.adjudicate.specs.declared.endings.Status.TheVariants.{Done, Usage, ReadFault, WriteFault, TooLong, NoMemory, NotAccepted}
 
 -- the exit status of the program
 abbrev pub number_of : Status → ℕ
@@ -11,3 +11,4 @@ number_of ReadFault = 2
 number_of WriteFault = 3
 number_of TooLong = 4
 number_of NoMemory = 5
+number_of NotAccepted = 6

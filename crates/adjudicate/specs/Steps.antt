@@ -30,14 +30,15 @@ pub record HasRoom (s : Summary) : Type 0 where
   pub few_undecided : s.undecided < 2 ^ 63
 
 -- the block of an item with sound verdicts, under the next number, and the totals with it
-abbrev pub Judges : Item → Summary → Judged → Type 0
-Judges item s judged =
-    (d : Option Decision) × IsSoundFor item d × (judged.block ≡ block_of (s.items + 1) item d) × (judged.totals ≡ counted s (record { item = item; decision = d }))
+abbrev pub Judges : Bool → Item → Summary → Judged → Type 0
+Judges certs item s judged =
+    (d : Option Decision) × IsSoundFor item d × (judged.block ≡ block_of certs (s.items + 1) item d) × (judged.totals ≡ counted s (record { item = item; decision = d }))
 
 -- these items have sound outcomes whose blocks were written and whose totals are these
-abbrev pub Wrote : List Item → Option (List ℕ) → Option (List ℕ) → Summary → Type 0
-Wrote items old new s = (os : List Outcome) × (map (λ o. o.item) os ≡ items) × AllSound os × Appends old new (blocks 1 os) × (s ≡ summary_of os)
+abbrev pub Wrote : Bool → List Item → Option (List ℕ) → Option (List ℕ) → Summary → Type 0
+Wrote certs items old new s =
+    (os : List Outcome) × (map (λ o. o.item) os ≡ items) × AllSound os × Appends old new (blocks certs 1 os) × (s ≡ summary_of os)
 
 -- of all items, those before these have sound outcomes whose blocks were written and whose totals are these
-abbrev pub WroteUpTo : List Item → List Item → Option (List ℕ) → Option (List ℕ) → Summary → Type 0
-WroteUpTo all later old new s = (done : List Item) × (all ≡ done ++ later) × Wrote done old new s
+abbrev pub WroteUpTo : Bool → List Item → List Item → Option (List ℕ) → Option (List ℕ) → Summary → Type 0
+WroteUpTo certs all later old new s = (done : List Item) × (all ≡ done ++ later) × Wrote certs done old new s

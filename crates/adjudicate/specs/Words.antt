@@ -1,16 +1,28 @@
 -- The language of the command words (this project).
-use Rattle.std.specs.Prelude.{ℕ, if◌then◌else◌, List, [], ◌∷◌, map, Option, Some, None, codes, string_bytes}
+use Rattle.std.specs.Prelude.{ℕ, true, false, if◌then◌else◌, List, [], ◌∷◌, map, Option, Some, None, codes, string_bytes}
 use Rattle.std.specs.Str.{bytes_eq}
 use Rattle.std.specs.declared.string.String.{String}
 use Rattle.std.specs.declared.alloc.Global.{Global}
 use Rattle.adjudicate.specs.declared.orders.Order.{Order}
-use Rattle.adjudicate.specs.declared.orders.Order.TheVariants.{AdjudicateGames, JudgePositions}
+use Rattle.adjudicate.specs.declared.orders.Order.TheVariants.{AdjudicateGames, JudgePositions, CheckCert}
+
+-- what one word orders
+abbrev pub order_of_word : List ℕ → Option Order
+order_of_word word =
+    if bytes_eq word (codes "adjudicate") then Some (AdjudicateGames false)
+    else (if bytes_eq word (codes "position") then Some (JudgePositions false)
+    else (if bytes_eq word (codes "check") then Some CheckCert else None))
+
+-- what a word orders with --certs behind it
+abbrev pub order_with_certs : List ℕ → Option Order
+order_with_certs word =
+    if bytes_eq word (codes "adjudicate") then Some (AdjudicateGames true)
+    else (if bytes_eq word (codes "position") then Some (JudgePositions true) else None)
 
 -- what is ordered by a list of words
 unfoldable pub order_of : List (List ℕ) → Option Order
-order_of (word ∷ []) =
-    if bytes_eq word (codes "adjudicate") then Some AdjudicateGames
-    else (if bytes_eq word (codes "position") then Some JudgePositions else None)
+order_of (word ∷ []) = order_of_word word
+order_of (word ∷ option ∷ []) = if bytes_eq option (codes "--certs") then order_with_certs word else None
 order_of _ = None
 
 -- the same of the texts of the words

@@ -18,6 +18,8 @@ pub enum Status {
     TooLong,
     /// The allocator refused memory.
     NoMemory,
+    /// As Done, and the certificate was not accepted.
+    NotAccepted,
 }
 
 impl Status {
@@ -32,6 +34,7 @@ impl Status {
             Status::WriteFault => 3,
             Status::TooLong => 4,
             Status::NoMemory => 5,
+            Status::NotAccepted => 6,
         }
     }
 }

@@ -15,11 +15,18 @@ use flag_report::{Summary, game_summary};
 use pgn_games::Reader;
 use std::alloc::Global;
 
-/// Judges each game of a source, and writes its block, and at the end the summary.
-pub fn adjudicate_games<S: Source, K: Sink>(alloc: Global, source: &mut S, sink: &mut K) -> Reported
-    ensures done { result ≡ Reported.Whole → Reports AdjudicateGames (S.left source.old) (S.left source.new) (K.written sink.old) (K.written sink.new) }
-    ensures cut { result ≡ Reported.SinkFailed → Begins AdjudicateGames (S.left source.old) (S.left source.new) (K.written sink.old) (K.written sink.new) }
-    ensures whole { result ≢ Reported.Whole → result ≢ Reported.SinkFailed → BeginsWhole AdjudicateGames (S.left source.old) (S.left source.new) (K.written sink.old) (K.written sink.new) }
+/// Judges each game of a source, and writes its block, and at the end the summary. Where `certs` says so, the certificates
+/// of sides that cannot mate are written too.
+pub fn adjudicate_games<S: Source, K: Sink>(
+    alloc: Global,
+    certs: bool,
+    source: &mut S,
+    sink: &mut K,
+) -> Reported
+    ensures done { result ≡ Reported.Whole → Reports (AdjudicateGames certs) (S.left source.old) (S.left source.new) (K.written sink.old) (K.written sink.new) }
+    ensures cut { result ≡ Reported.SinkFailed → Begins (AdjudicateGames certs) (S.left source.old) (S.left source.new) (K.written sink.old) (K.written sink.new) }
+    ensures whole { result ≢ Reported.Whole → result ≢ Reported.SinkFailed → BeginsWhole (AdjudicateGames certs) (S.left source.old) (S.left source.new) (K.written sink.old) (K.written sink.new) }
+    ensures never_refused { result ≢ Reported.Refused }
     ensures read_fault { result ≡ Reported.SourceFailed → Rose (S.faults source.old) (S.faults source.new) }
     ensures write_fault { result ≡ Reported.SinkFailed → Rose (K.faults sink.old) (K.faults sink.new) }
     ensures too_long { result ≡ Reported.TooLong → Took (S.left source.old) (S.left source.new) (λ taken. MOST_BYTES < length taken) }
@@ -42,7 +49,7 @@ pub fn adjudicate_games<S: Source, K: Sink>(alloc: Global, source: &mut S, sink:
         let Some(game) = found else {
             return end_games(alloc, &totals, sink);
         };
-        let Ok(judged) = judge_game(alloc, game, &totals) else {
+        let Ok(judged) = judge_game(alloc, game, certs, &totals) else {
             return Reported::NoMemory;
         };
         match put(sink, judged.block.items()) {
@@ -58,6 +65,7 @@ fn end_games<K: Sink>(alloc: Global, totals: &Summary, sink: &mut K) -> Reported
     ensures cut { result ≡ Reported.SinkFailed → (n : ℕ) × Appends (K.written sink.old) (K.written sink.new) (take n (game_summary_text totals.now)) }
     ensures refused { result ≡ Reported.NoMemory → (K.written sink.new ≡ K.written sink.old) }
     ensures cause { result ≡ Reported.SinkFailed → Rose (K.faults sink.old) (K.faults sink.new) }
+    ensures never_refused { result ≢ Reported.Refused }
     ensures reading { (result ≢ Reported.SourceFailed) × (result ≢ Reported.TooLong) }
     ensures later { K.faults sink.old ≤ K.faults sink.new }
 {

@@ -1,6 +1,6 @@
 //! What is found about one item of the input.
 
-ghost use Rattle.std.specs.Prelude.{◌≡◌, ◌||◌, IfOk};
+ghost use Rattle.std.specs.Prelude.{◌≡◌, ◌||◌, Bool, IfOk};
 ghost use Rattle.flag_report.specs.Verdicts.{is_undecided as is_undecided_verdict};
 ghost use Rattle.adjudicate.specs.Outcomes.{line_item};
 ghost use Rattle.adjudicate.specs.Outcomes.Item.{PositionLine, RefusedLine};
@@ -23,29 +23,39 @@ pub struct Judged {
 /// The most bytes that a line may have.
 const MOST_LINE_BYTES: usize = 4096;
 
-/// Judges a line that is not blank.
-pub fn judge_line(alloc: Global, line: &[u8], totals: &Summary) -> Result<Judged, NoMemory>
+/// Judges a line that is not blank. Where `certs` says so, its block has the certificates of sides that cannot mate.
+pub fn judge_line(
+    alloc: Global,
+    line: &[u8],
+    certs: bool,
+    totals: &Summary,
+) -> Result<Judged, NoMemory>
     requires { HasRoom totals.now }
-    ensures { IfOk result (Judges (line_item line.now) totals.now) }
+    ensures { IfOk result (Judges certs (line_item line.now) totals.now) }
 {
     if line.len() > MOST_LINE_BYTES {
         return refuse(alloc, FenFault::Shape, totals);
     }
     match read(line) {
-        Ok(position) => judge_position(alloc, &position, totals),
+        Ok(position) => judge_position(alloc, &position, certs, totals),
         Err(fault) => refuse(alloc, fault, totals),
     }
 }
 
 /// Judges a position.
-fn judge_position(alloc: Global, position: &Position, totals: &Summary) -> Result<Judged, NoMemory>
+fn judge_position(
+    alloc: Global,
+    position: &Position,
+    certs: bool,
+    totals: &Summary,
+) -> Result<Judged, NoMemory>
     requires { HasRoom totals.now }
-    ensures { IfOk result (Judges (PositionLine position.now) totals.now) }
+    ensures { IfOk result (Judges certs (PositionLine position.now) totals.now) }
 {
     let decision = decide(alloc, position, Color::White)?;
     let white = &decision.white;
     let black = &decision.black;
-    let block = position_block(alloc, totals.items + 1, position, white, black)?;
+    let block = position_block(alloc, totals.items + 1, position, white, black, certs)?;
     let dead = has_dead_state(position, white, black);
     Ok(Judged {
         block,
@@ -63,7 +73,7 @@ pub fn some_undecided(white: &Verdict, black: &Verdict) -> bool
 /// Refuses a line that is no position.
 fn refuse(alloc: Global, fault: FenFault, totals: &Summary) -> Result<Judged, NoMemory>
     requires { HasRoom totals.now }
-    ensures { IfOk result (Judges (RefusedLine fault) totals.now) }
+    ensures { (certs : Bool) → IfOk result (Judges certs (RefusedLine fault) totals.now) }
 {
     Ok(Judged {
         block: refused_block(alloc, totals.items + 1, fault)?,

@@ -2,9 +2,10 @@
 //!
 //! `orders` has the language of the command words, `gates` the gate of the workers, `endings` how a run ends, `splitting`
 //! the lines of a text, `judging` and `playing` what is found about one line and one game, `writing` how its block goes out, `positions` and `games`
-//! whole inputs, and `top` the call `run`.
+//! whole inputs, `checking` the check of a certificate, and `top` the call `run`.
 #![tactic(auto)]
 
+mod checking;
 mod commands;
 mod endings;
 mod games;

@@ -1,32 +1,62 @@
 //! The language of the command words.
 
 ghost use Rattle.std.specs.Prelude.{◌≡◌};
-ghost use Rattle.adjudicate.specs.Words.{order};
+ghost use Rattle.adjudicate.specs.Words.{order, order_of_word, order_with_certs};
 
 /// What the words order.
 #[derive(Clone, Copy, Debug, PartialEq, Eq)]
 pub enum Order {
     /// `adjudicate`: judge each game of the input, which is in PGN.
-    AdjudicateGames,
+    AdjudicateGames { certs: bool },
     /// `position`: judge each line of the input as a position in FEN.
-    JudgePositions,
+    JudgePositions { certs: bool },
+    /// `check`: check the certificate whose text the input is.
+    CheckCert,
 }
 
-/// What is ordered by the words, which leave out the program's name, or None where they are not in the language.
+/// What is ordered by the words, which leave out the program's name, or None where they are not in the language. With
+/// `--certs` behind `adjudicate` or `position`, the certificate of a side that cannot mate is printed too.
 #[tactic(auto, unfolding(crate::specs::Words::order_of))]
 pub fn ordered(words: &[String]) -> Option<Order>
     ensures { result ≡ order words.now }
 {
     match words {
-        [word] => {
-            if word.as_str() == "adjudicate" {
-                Some(Order::AdjudicateGames)
-            } else if word.as_str() == "position" {
-                Some(Order::JudgePositions)
+        [word] => ordered_by(word.as_str()),
+        [word, option] => {
+            if option.as_str() == "--certs" {
+                ordered_with_certs(word.as_str())
             } else {
                 None
             }
         }
         _ => None,
+    }
+}
+
+/// What one word orders.
+fn ordered_by(word: &str) -> Option<Order>
+    ensures { result ≡ order_of_word word.now }
+{
+    if word == "adjudicate" {
+        Some(Order::AdjudicateGames { certs: false })
+    } else if word == "position" {
+        Some(Order::JudgePositions { certs: false })
+    } else if word == "check" {
+        Some(Order::CheckCert)
+    } else {
+        None
+    }
+}
+
+/// What a word orders with `--certs` behind it.
+fn ordered_with_certs(word: &str) -> Option<Order>
+    ensures { result ≡ order_with_certs word.now }
+{
+    if word == "adjudicate" {
+        Some(Order::AdjudicateGames { certs: true })
+    } else if word == "position" {
+        Some(Order::JudgePositions { certs: true })
+    } else {
+        None
     }
 }

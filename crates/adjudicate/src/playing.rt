@@ -1,6 +1,6 @@
 //! What is found about one game.
 
-ghost use Rattle.std.specs.Prelude.{◌≡◌, ◌≤◌, None, length, IfOk};
+ghost use Rattle.std.specs.Prelude.{◌≡◌, ◌≤◌, Bool, None, length, IfOk};
 ghost use Rattle.adjudicate.specs.Outcomes.{game_item, played_item, stopped_by};
 ghost use Rattle.flag_report.specs.Reasons.{IsOfGame, IsOfWord};
 ghost use Rattle.std.specs.Bool.{OnTrue, OnFalse};
@@ -20,31 +20,41 @@ use flag_report::{
 use pgn_games::{Game, ResultMark};
 use std::alloc::Global;
 
-/// Judges a game.
+/// Judges a game. Where `certs` says so, its block has the certificates of sides that cannot mate.
 #[tactic(auto, unfolding(crate::specs::Outcomes::game_item))]
-pub fn judge_game(alloc: Global, game: Game, totals: &Summary) -> Result<Judged, NoMemory>
+pub fn judge_game(
+    alloc: Global,
+    game: Game,
+    certs: bool,
+    totals: &Summary,
+) -> Result<Judged, NoMemory>
     requires room { HasRoom totals.now }
     requires few { game.fault ≡ None → length game.words ≤ 12000 }
-    ensures { IfOk result (Judges (game_item game) totals.now) }
+    ensures { IfOk result (Judges certs (game_item game) totals.now) }
 {
     match game.fault {
         Some(fault) => give_up(alloc, &Unreadable::Tokens(fault), totals),
-        None => judge_played(alloc, &game, totals),
+        None => judge_played(alloc, &game, certs, totals),
     }
 }
 
 /// Judges a game whose text has no fault.
-fn judge_played(alloc: Global, game: &Game, totals: &Summary) -> Result<Judged, NoMemory>
+fn judge_played(
+    alloc: Global,
+    game: &Game,
+    certs: bool,
+    totals: &Summary,
+) -> Result<Judged, NoMemory>
     requires room { HasRoom totals.now }
     requires readable { game.now.fault ≡ None }
     requires few { length game.now.words ≤ 12000 }
-    ensures { IfOk result (Judges (played_item game.now (positions game.now.start game.now.words)) totals.now) }
+    ensures { IfOk result (Judges certs (played_item game.now (positions game.now.start game.now.words)) totals.now) }
 {
     match play(alloc, game) {
         Ok(played) => {
             let all = played.items();
             let last = all[all.len() - 1];
-            judge_final(alloc, &last, game.recorded, game.forfeit, totals)
+            judge_final(alloc, &last, game.recorded, game.forfeit, certs, totals)
         }
         Err(stop) => {
             if lacks_memory(stop.fault) {
@@ -61,17 +71,20 @@ fn judge_final(
     position: &Position,
     recorded: ResultMark,
     forfeit: bool,
+    certs: bool,
     totals: &Summary,
 ) -> Result<Judged, NoMemory>
     requires { HasRoom totals.now }
-    ensures { IfOk result (Judges (PlayedGame position.now recorded forfeit) totals.now) }
+    ensures { IfOk result (Judges certs (PlayedGame position.now recorded forfeit) totals.now) }
 {
     let decision = decide(alloc, position, first_examined(recorded))?;
     let white = &decision.white;
     let black = &decision.black;
     let judgment = ruling(standing(position), recorded, forfeit, white, black);
     let number = totals.items + 1;
-    let block = game_block(alloc, number, position, recorded, white, black, judgment)?;
+    let block = game_block(
+        alloc, number, position, recorded, white, black, judgment, certs,
+    )?;
     let changed = changes_result(recorded, judgment);
     Ok(Judged {
         block,
@@ -89,7 +102,7 @@ fn judge_stopped(
     requires room { HasRoom totals.now }
     requires of_word { IsOfWord stop.fault }
     requires inside { (1 ≤ stop.ply) × (stop.ply ≤ length game.now.words) }
-    ensures { IfOk result (Judges (UnreadableGame (stopped_by game.now stop)) totals.now) }
+    ensures { (certs : Bool) → IfOk result (Judges certs (UnreadableGame (stopped_by game.now stop)) totals.now) }
 {
     let word = &game.words.items()[stop.ply as usize - 1];
     let why = Unreadable::Moves {
@@ -117,7 +130,7 @@ fn lacks_memory(fault: SanFault) -> bool
 fn give_up(alloc: Global, why: &Unreadable, totals: &Summary) -> Result<Judged, NoMemory>
     requires room { HasRoom totals.now }
     requires of_game { IsOfGame why.now }
-    ensures { IfOk result (Judges (UnreadableGame why.now) totals.now) }
+    ensures { (certs : Bool) → IfOk result (Judges certs (UnreadableGame why.now) totals.now) }
 {
     Ok(Judged {
         block: unreadable_block(alloc, totals.items + 1, why)?,

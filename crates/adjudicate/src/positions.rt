@@ -16,11 +16,17 @@ use flag_report::{Summary, position_summary};
 use std::alloc::Global;
 
 /// Judges each line of a source that is not blank, and writes its block, and at the end the summary. It reads the whole
-/// source first.
-pub fn judge_positions<S: Source, K: Sink>(alloc: Global, source: &mut S, sink: &mut K) -> Reported
-    ensures done { result ≡ Reported.Whole → Reports JudgePositions (S.left source.old) (S.left source.new) (K.written sink.old) (K.written sink.new) }
-    ensures cut { result ≡ Reported.SinkFailed → Begins JudgePositions (S.left source.old) (S.left source.new) (K.written sink.old) (K.written sink.new) }
-    ensures whole { result ≢ Reported.Whole → result ≢ Reported.SinkFailed → BeginsWhole JudgePositions (S.left source.old) (S.left source.new) (K.written sink.old) (K.written sink.new) }
+/// source first. Where `certs` says so, the certificates of sides that cannot mate are written too.
+pub fn judge_positions<S: Source, K: Sink>(
+    alloc: Global,
+    certs: bool,
+    source: &mut S,
+    sink: &mut K,
+) -> Reported
+    ensures done { result ≡ Reported.Whole → Reports (JudgePositions certs) (S.left source.old) (S.left source.new) (K.written sink.old) (K.written sink.new) }
+    ensures cut { result ≡ Reported.SinkFailed → Begins (JudgePositions certs) (S.left source.old) (S.left source.new) (K.written sink.old) (K.written sink.new) }
+    ensures whole { result ≢ Reported.Whole → result ≢ Reported.SinkFailed → BeginsWhole (JudgePositions certs) (S.left source.old) (S.left source.new) (K.written sink.old) (K.written sink.new) }
+    ensures never_refused { result ≢ Reported.Refused }
     ensures read_fault { result ≡ Reported.SourceFailed → Rose (S.faults source.old) (S.faults source.new) }
     ensures write_fault { result ≡ Reported.SinkFailed → Rose (K.faults sink.old) (K.faults sink.new) }
     ensures too_long { result ≡ Reported.TooLong → Took (S.left source.old) (S.left source.new) (λ taken. MOST_BYTES < length taken) }
@@ -30,7 +36,7 @@ pub fn judge_positions<S: Source, K: Sink>(alloc: Global, source: &mut S, sink: 
     ensures sink_later { K.faults sink.old ≤ K.faults sink.new }
 {
     match read_all(alloc, source, MOST_BYTES) {
-        Ok(bytes) => judge_lines(alloc, bytes.as_slice(), sink),
+        Ok(bytes) => judge_lines(alloc, certs, bytes.as_slice(), sink),
         Err(ReadEnd::ReadFault) => Reported::SourceFailed,
         Err(ReadEnd::TooLong) => Reported::TooLong,
         Err(ReadEnd::NoMemory) => Reported::NoMemory,
@@ -38,12 +44,13 @@ pub fn judge_positions<S: Source, K: Sink>(alloc: Global, source: &mut S, sink: 
 }
 
 /// Judges each line of a text that is not blank, and writes its block, and at the end the summary.
-fn judge_lines<K: Sink>(alloc: Global, bytes: &[u8], sink: &mut K) -> Reported
+fn judge_lines<K: Sink>(alloc: Global, certs: bool, bytes: &[u8], sink: &mut K) -> Reported
     requires { length bytes.now < 2 ^ 62 }
-    ensures done { result ≡ Reported.Whole → Grew (K.written sink.old) (K.written sink.new) (IsReport JudgePositions bytes.now) }
-    ensures cut { result ≡ Reported.SinkFailed → Grew (K.written sink.old) (K.written sink.new) (HasBegun JudgePositions bytes.now) }
+    ensures done { result ≡ Reported.Whole → Grew (K.written sink.old) (K.written sink.new) (IsReport (JudgePositions certs) bytes.now) }
+    ensures cut { result ≡ Reported.SinkFailed → Grew (K.written sink.old) (K.written sink.new) (HasBegun (JudgePositions certs) bytes.now) }
     ensures cause { result ≡ Reported.SinkFailed → Rose (K.faults sink.old) (K.faults sink.new) }
-    ensures refused { result ≡ Reported.NoMemory → Grew (K.written sink.old) (K.written sink.new) (HasWholeBlocks JudgePositions bytes.now) }
+    ensures refused { result ≡ Reported.NoMemory → Grew (K.written sink.old) (K.written sink.new) (HasWholeBlocks (JudgePositions certs) bytes.now) }
+    ensures never_refused { result ≢ Reported.Refused }
     ensures reading { (result ≢ Reported.SourceFailed) × (result ≢ Reported.TooLong) }
     ensures later { K.faults sink.old ≤ K.faults sink.new }
 {
@@ -55,7 +62,7 @@ fn judge_lines<K: Sink>(alloc: Global, bytes: &[u8], sink: &mut K) -> Reported
         if all_of(Class::Blank, line) {
             continue;
         }
-        let Ok(judged) = judge_line(alloc, line, &totals) else {
+        let Ok(judged) = judge_line(alloc, line, certs, &totals) else {
             return Reported::NoMemory;
         };
         match put(sink, judged.block.items()) {

@@ -4,7 +4,9 @@ ghost use Rattle.std.specs.Prelude.{◌≡◌, ◌≢◌, ◌≤◌, ◌<◌, �
 ghost use Rattle.cha_outside.specs.Faults.{Rose};
 ghost use Rattle.cha_outside.specs.Gathering.{Took};
 ghost use Rattle.adjudicate.specs.Words.{order};
-ghost use Rattle.adjudicate.specs.Runs.{Reports, Begins, BeginsWhole};
+ghost use Rattle.adjudicate.specs.declared.orders.Order.TheVariants.{CheckCert};
+ghost use Rattle.adjudicate.specs.Checks.{IsTextOf, IsUnwinnableAtFirst};
+ghost use Rattle.adjudicate.specs.Runs.{Reports, Refuses, Begins, BeginsWhole};
 ghost use Rattle.adjudicate.specs.declared.orders.Order.{Order as Orders};
 
 use crate::commands::carry_out;
@@ -30,8 +32,15 @@ pub fn run<R: Threads + Wait + Sync, S: Source, K: Sink, G: Gate + Sync>(
     sink: &mut K,
     _gate: &G,
 ) -> Status
-    // The whole input was read, and its report was written.
+    // The whole input was read, its report was written, and for `check` it is the text of a valid certificate.
     ensures done { result ≡ Status.Done → (o : Orders) → order words.now ≡ Some o → Reports o (S.left source.old) (S.left source.new) (K.written sink.old) (K.written sink.new) }
+
+    // The whole input was read, it is not the text of a valid certificate, and its report was written. Of games and positions
+    // nothing is asked, so this comes for `check` alone.
+    ensures not_accepted { result ≡ Status.NotAccepted → (o : Orders) → order words.now ≡ Some o → Refuses o (S.left source.old) (S.left source.new) (K.written sink.old) (K.written sink.new) }
+
+    // Where a certificate was accepted, no series of legal moves from the position of its first node mates for its side.
+    ensures law { result ≡ Status.Done → order words.now ≡ Some CheckCert → Took (S.left source.old) (S.left source.new) (IsTextOf IsUnwinnableAtFirst) }
 
     // The words are not in the language, and nothing was read or written.
     ensures usage { (result ≡ Status.Usage) ↔ IsNone (order words.now) }
@@ -57,7 +66,7 @@ pub fn run<R: Threads + Wait + Sync, S: Source, K: Sink, G: Gate + Sync>(
     // was refused.
     ensures complete { (o : Orders) → order words.now ≡ Some o → (bytes : List ℕ) → S.left source.old ≡ Some bytes → length bytes ≤ MOST_BYTES
         → ¬ Rose (S.faults source.old) (S.faults source.new) → ¬ Rose (K.faults sink.old) (K.faults sink.new)
-        → (result ≡ Status.Done) ⊎ (result ≡ Status.NoMemory) }
+        → (result ≡ Status.Done) ⊎ ((result ≡ Status.NotAccepted) ⊎ (result ≡ Status.NoMemory)) }
 
     // Counts of faults never fall.
     ensures source_later { S.faults source.old ≤ S.faults source.new }
@@ -68,6 +77,7 @@ pub fn run<R: Threads + Wait + Sync, S: Source, K: Sink, G: Gate + Sync>(
     };
     match carry_out(alloc, order, source, sink) {
         Reported::Whole => Status::Done,
+        Reported::Refused => Status::NotAccepted,
         Reported::SourceFailed => Status::ReadFault,
         Reported::TooLong => Status::TooLong,
         Reported::SinkFailed => Status::WriteFault,

@@ -37,6 +37,8 @@ pub fn finish<K: Sink>(sink: &mut K, summary: &[u8]) -> Reported
 pub enum Reported {
     /// All of it was written.
     Whole,
+    /// All of it was written, and the certificate was not accepted.
+    Refused,
     /// The source failed. Whole blocks were written.
     SourceFailed,
     /// The source gave too many bytes. Whole blocks were written.

@@ -1,11 +1,14 @@
 -- What each verdict on a position says (this project).
-use Rattle.std.specs.Prelude.{◌≡◌, ℕ, ◌≤◌, false, List, length, Some, IsTrue, slice_get, ⊤}
+use Rattle.std.specs.Prelude.{◌≡◌, ℕ, ◌≤◌, false, List, length, Some, slice_get, ⊤}
 use Rattle.cha_board.specs.declared.men.Color.{Color}
 use Rattle.cha_board.specs.declared.men.Color.TheVariants.{White, Black}
 use Rattle.cha_board.specs.Men.{other_color}
-use Rattle.cha_board.specs.Board.{Board, has_non_king}
+use Rattle.cha_board.specs.Board.{Board}
 use Rattle.cha_moves.specs.Step.{Move}
 use Rattle.cha_moves.specs.Ends.{IsMatingLine, IsUnwinnable, HasNoMateWithin}
+use Rattle.mob_law.specs.Static.{IsStaticallyUnwinnable}
+use Rattle.cha_cert.specs.declared.nodes.Node.{Node}
+use Rattle.cha_cert.specs.Certificates.{IsValidCert}
 use Rattle.flag_report.specs.declared.found.Verdict.{Verdict}
 use Rattle.flag_report.specs.declared.found.Verdict.TheVariants.{Winnable, Unwinnable, Undecided, Skipped}
 use Rattle.flag_report.specs.Verdicts.{is_winnable, is_skipped}
@@ -24,21 +27,24 @@ pub record IsShortestMate (q : Board) (winner : Color) (moves : List Move) : Typ
   pub least : (others : List Move) → IsMatingLine q winner others → length moves ≤ length others
   pub first : slice_get (mate_lines (length moves) q winner) 0 ≡ Some moves
 
--- a side that no series of legal moves lets mate, which is seen by its having no man other than its king
-pub record IsShownUnwinnable (q : Board) (winner : Color) : Type 0 where
-  pub bare : has_non_king q.men winner ≡ false
+-- A side that no series of legal moves lets mate (Laws of Chess, Article 5.2.2): a valid certificate shows it. Closed
+-- mobility sets exist in which no mate can arise, and the certificate's text can be written.
+pub record IsShownUnwinnable (q : Board) (winner : Color) (cert : List Node) : Type 0 where
+  pub valid : IsValidCert q winner cert
+  pub static : IsStaticallyUnwinnable q winner
   pub never : IsUnwinnable q winner
+  pub size : (1 ≤ length cert) × (length cert ≤ 4294967295)
 
--- neither was shown: no mate within the plies searched, and a man other than the king
+-- neither was shown: no mate within the plies searched, and in all closed mobility sets a mate may arise
 pub record IsOpen (q : Board) (winner : Color) (depth : ℕ) : Type 0 where
   pub searched : depth ≡ searched_plies
   pub none : HasNoMateWithin q winner depth
-  pub armed : IsTrue (has_non_king q.men winner)
+  pub unshown : IsStaticallyUnwinnable q winner → ⊥
 
 -- a verdict on a side is true of a position; the first three exclude each other
 abbrev pub IsTrueOf : Board → Color → Verdict → Type 0
 IsTrueOf q winner (Winnable moves) = IsShortestMate q winner moves
-IsTrueOf q winner Unwinnable = IsShownUnwinnable q winner
+IsTrueOf q winner (Unwinnable cert) = IsShownUnwinnable q winner cert
 IsTrueOf q winner (Undecided depth) = IsOpen q winner depth
 IsTrueOf q winner Skipped = ⊤
 

@@ -19,7 +19,7 @@ fn in_words(alloc: Global, verdict: &Verdict) -> Result<String, AllocError> {
                 words.push_str(move_text(*m).as_str())?;
             }
         }
-        Verdict::Unwinnable => words.push_str("unwinnable")?,
+        Verdict::Unwinnable(_) => words.push_str("unwinnable")?,
         Verdict::Undecided { depth } => return format!(in alloc; "undecided {depth}"),
         Verdict::Skipped => words.push_str("skipped")?,
     }
@@ -37,15 +37,43 @@ fn known_positions_have_their_verdicts(rt: HostRuntime) -> Result<(), Fail> {
             "winnable e1g1",
             "skipped",
         ),
+        // A king and a bishop cannot mate a bare king, and a bare king never gives check.
         (
             "8/8/8/4k3/8/8/8/4KB2 w - -",
             Color::White,
-            "undecided 2",
+            "unwinnable",
             "unwinnable",
         ),
         (
             "8/8/8/4k3/8/8/8/4KB2 w - -",
             Color::Black,
+            "unwinnable",
+            "unwinnable",
+        ),
+        // Two walls of blocked pawns, which guard each square between them: no king crosses, and no pawn moves.
+        (
+            "4k3/8/8/p1p1p1p1/P1P1P1P1/8/8/4K3 w - -",
+            Color::White,
+            "unwinnable",
+            "unwinnable",
+        ),
+        (
+            "4k3/8/5p2/p1p1pPp1/P1P1P1P1/8/8/4K3 w - -",
+            Color::Black,
+            "unwinnable",
+            "unwinnable",
+        ),
+        // The king has to take the queen, but the squares that men may reach do not tell who is to move.
+        (
+            "k7/1Q6/8/8/8/8/8/4K3 b - -",
+            Color::White,
+            "undecided 2",
+            "unwinnable",
+        ),
+        // A rook mates with its king, but not in two plies.
+        (
+            "8/8/8/4k3/8/8/8/4KR2 w - -",
+            Color::White,
             "undecided 2",
             "unwinnable",
         ),
@@ -63,7 +91,7 @@ fn known_positions_have_their_verdicts(rt: HostRuntime) -> Result<(), Fail> {
             "winnable g8h8 d1d8",
             "skipped",
         ),
-        // The fool's mate stands on the board.
+        // The fool's mate stands on the board. White has no move, but its men have squares from which they would mate.
         (
             "rnb1kbnr/pppp1ppp/8/4p3/6Pq/5P2/PPPPP2P/RNBQKBNR w KQkq -",
             Color::White,
@@ -76,13 +104,14 @@ fn known_positions_have_their_verdicts(rt: HostRuntime) -> Result<(), Fail> {
             "skipped",
             "winnable",
         ),
-        // Black is stalemated.
+        // Black is stalemated, but there are squares from which White's men would mate.
         (
             "7k/5Q2/6K1/8/8/8/8/8 b - -",
             Color::White,
             "undecided 2",
             "unwinnable",
         ),
+        // Two bare kings.
         (
             "4k3/8/8/8/8/8/8/4K3 w - -",
             Color::White,

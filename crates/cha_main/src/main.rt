@@ -10,7 +10,8 @@ use std::process::ExitCode;
 fn said_of(status: Status) -> Option<&'static str> {
     match status {
         Status::Done => None,
-        Status::Usage => Some("usage: cha adjudicate|position"),
+        Status::NotAccepted => None,
+        Status::Usage => Some("usage: cha adjudicate|position [--certs] | cha check"),
         Status::ReadFault => Some("cannot read the input"),
         Status::WriteFault => Some("cannot write the output"),
         Status::TooLong => Some("the input is longer than 268435456 bytes"),

@@ -2,6 +2,7 @@
 use Rattle.std.proofs.Common.{◌≡◌, ℕ, Bool, true, false, List, refl}
 use Rattle.cha_board.specs.declared.men.Color.{Color}
 use Rattle.cha_moves.specs.Step.{Move}
+use Rattle.cha_cert.specs.declared.nodes.Node.{Node}
 use Rattle.cha_moves.specs.declared.ends.Standing.TheVariants.{Mate, Stalemate, Running}
 use Rattle.pgn_games.specs.declared.marks.ResultMark.{ResultMark}
 use Rattle.pgn_games.specs.declared.marks.ResultMark.TheVariants.{WhiteWins, BlackWins, Draw, Unknown}
@@ -21,44 +22,44 @@ unfolding ruling_of
 stalemated recorded forfeit white black = refl
 
 -- a dead position, whatever was recorded
-dead : (recorded : ResultMark) (forfeit : Bool) → ruling_of Running recorded forfeit Unwinnable Unwinnable ≡ judged Draw Dead522
+dead : (recorded : ResultMark) (forfeit : Bool) (white black : List Node) → ruling_of Running recorded forfeit (Unwinnable white) (Unwinnable black) ≡ judged Draw Dead522
 unfolding ruling_of running_ruling_of
-dead recorded forfeit = refl
+dead recorded forfeit white black = refl
 
 -- Black's flag fell, and White cannot mate
-black_flag : (moves : List Move) → ruling_of Running WhiteWins true Unwinnable (Winnable moves) ≡ judged Draw Flag69
+black_flag : (moves : List Move) (cert : List Node) → ruling_of Running WhiteWins true (Unwinnable cert) (Winnable moves) ≡ judged Draw Flag69
 unfolding ruling_of running_ruling_of winner_ruling_of
-black_flag moves = refl
+black_flag moves cert = refl
 
 -- White's flag fell, and Black cannot mate
-white_flag : (moves : List Move) → ruling_of Running BlackWins true (Winnable moves) Unwinnable ≡ judged Draw Flag69
+white_flag : (moves : List Move) (cert : List Node) → ruling_of Running BlackWins true (Winnable moves) (Unwinnable cert) ≡ judged Draw Flag69
 unfolding ruling_of running_ruling_of winner_ruling_of
-white_flag moves = refl
+white_flag moves cert = refl
 
 -- the same where no flag fell, as where a player resigned
-resigned : (moves : List Move) → ruling_of Running BlackWins false (Winnable moves) Unwinnable ≡ judged BlackWins Recorded
+resigned : (moves : List Move) (cert : List Node) → ruling_of Running BlackWins false (Winnable moves) (Unwinnable cert) ≡ judged BlackWins Recorded
 unfolding ruling_of running_ruling_of winner_ruling_of
-resigned moves = refl
+resigned moves cert = refl
 
 -- White's flag fell, and White alone cannot mate
-loser : (moves : List Move) → ruling_of Running BlackWins true Unwinnable (Winnable moves) ≡ judged BlackWins Recorded
+loser : (moves : List Move) (cert : List Node) → ruling_of Running BlackWins true (Unwinnable cert) (Winnable moves) ≡ judged BlackWins Recorded
 unfolding ruling_of running_ruling_of winner_ruling_of
-loser moves = refl
+loser moves cert = refl
 
 -- nothing was shown about the recorded winner, and about the other side it does not matter
-open_winner : (depth : ℕ) (forfeit : Bool) → ruling_of Running BlackWins forfeit Unwinnable (Undecided depth) ≡ judged BlackWins RecordedUndecided
+open_winner : (depth : ℕ) (forfeit : Bool) (cert : List Node) → ruling_of Running BlackWins forfeit (Unwinnable cert) (Undecided depth) ≡ judged BlackWins RecordedUndecided
 unfolding ruling_of running_ruling_of winner_ruling_of
-open_winner depth true = refl
-open_winner depth false = refl
+open_winner depth true cert = refl
+open_winner depth false cert = refl
 
-open_loser : (depth : ℕ) → ruling_of Running WhiteWins true Unwinnable (Undecided depth) ≡ judged Draw Flag69
+open_loser : (depth : ℕ) (cert : List Node) → ruling_of Running WhiteWins true (Unwinnable cert) (Undecided depth) ≡ judged Draw Flag69
 unfolding ruling_of running_ruling_of winner_ruling_of
-open_loser depth = refl
+open_loser depth cert = refl
 
 -- a recorded draw on time, as where a site rules so by itself
-drawn : (moves : List Move) → ruling_of Running Draw true Unwinnable (Winnable moves) ≡ judged Draw Recorded
+drawn : (moves : List Move) (cert : List Node) → ruling_of Running Draw true (Unwinnable cert) (Winnable moves) ≡ judged Draw Recorded
 unfolding ruling_of running_ruling_of
-drawn moves = refl
+drawn moves cert = refl
 
 -- the same result is no change
 unchanged : (mark : ResultMark) → is_changed mark mark ≡ false

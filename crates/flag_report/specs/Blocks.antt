@@ -1,5 +1,7 @@
 -- The texts that are printed for positions (this project).
 use Rattle.std.specs.Prelude.{ℕ, Bool, false, ◌||◌, if◌then◌else◌, List, [], ◌∷◌, ◌++◌, length, codes, decimal}
+use Rattle.cha_board.specs.declared.men.Color.{Color}
+use Rattle.cha_board.specs.declared.men.Color.TheVariants.{White, Black}
 use Rattle.cha_board.specs.Board.{Board}
 use Rattle.cha_fen.specs.declared.faults.FenFault.{FenFault}
 use Rattle.cha_fen.specs.Written.{fen_text}
@@ -7,6 +9,7 @@ use Rattle.cha_moves.specs.Step.{Move}
 use Rattle.cha_moves.specs.Texts.{move_bytes}
 use Rattle.cha_moves.specs.declared.ends.Standing.{Standing}
 use Rattle.cha_moves.specs.declared.ends.Standing.TheVariants.{Mate, Stalemate, Running}
+use Rattle.cert_text.specs.Spelled.{cert_text}
 use Rattle.flag_report.specs.Ends.{standing_of}
 use Rattle.flag_report.specs.declared.found.Verdict.{Verdict}
 use Rattle.flag_report.specs.declared.found.Verdict.TheVariants.{Winnable, Unwinnable, Undecided, Skipped}
@@ -34,9 +37,20 @@ winnable_text (m ∷ ms) = codes "winnable in " ++ decimal (length (m ∷ ms)) +
 -- the text of a verdict
 unfoldable pub verdict_text : Verdict → List ℕ
 verdict_text (Winnable moves) = winnable_text moves
-verdict_text Unwinnable = codes "unwinnable"
+verdict_text (Unwinnable cert) = codes "unwinnable"
 verdict_text (Undecided depth) = count_text (codes "undecided, depth ") depth
 verdict_text Skipped = codes "skipped"
+
+-- the certificate of a side that cannot mate, where certificates are printed
+unfoldable pub cert_part : Bool → Color → Verdict → List ℕ
+cert_part certs winner (Winnable moves) = []
+cert_part certs winner (Unwinnable cert) = if certs then cert_text winner cert else []
+cert_part certs winner (Undecided depth) = []
+cert_part certs winner Skipped = []
+
+-- the line with the verdict on a side behind its label, and the certificate behind the line
+abbrev pub side_text : List ℕ → Color → Verdict → Bool → List ℕ
+side_text label winner verdict certs = line (label ++ verdict_text verdict) ++ cert_part certs winner verdict
 
 -- the state of a position with neither mate nor stalemate
 unfoldable pub open_status_text : Verdict → Verdict → List ℕ
@@ -60,10 +74,10 @@ is_dead_standing Running white black = are_dead white black
 unfoldable pub has_dead_status : Board → Verdict → Verdict → Bool
 has_dead_status q white black = is_dead_standing (standing_of q) white black
 
--- the four lines on a position that positions and games share
-unfoldable pub findings_text : Board → Verdict → Verdict → List ℕ
-findings_text q white black =
-    line (codes "fen: " ++ fen_text q) ++ line (codes "white: " ++ verdict_text white) ++ line (codes "black: " ++ verdict_text black)
+-- the four lines on a position that positions and games share, with the certificates of the sides between them
+unfoldable pub findings_text : Board → Verdict → Verdict → Bool → List ℕ
+findings_text q white black certs =
+    line (codes "fen: " ++ fen_text q) ++ side_text (codes "white: ") White white certs ++ side_text (codes "black: ") Black black certs
     ++ line (codes "status: " ++ status_text (standing_of q) white black)
 
 -- the first line of the block of a position
@@ -71,8 +85,8 @@ abbrev pub position_heading : ℕ → List ℕ
 position_heading number = line (count_text (codes "position ") number)
 
 -- the block of a position
-unfoldable pub position_text : ℕ → Board → Verdict → Verdict → List ℕ
-position_text number q white black = position_heading number ++ findings_text q white black
+unfoldable pub position_text : ℕ → Board → Verdict → Verdict → Bool → List ℕ
+position_text number q white black certs = position_heading number ++ findings_text q white black certs
 
 -- the block of a line that is no position
 unfoldable pub refused_text : ℕ → FenFault → List ℕ

@@ -4,4 +4,5 @@ pub mod Rulings
 pub mod Reasons
 pub mod Blocks
 pub mod Games
+pub mod Checks
 pub mod Totals

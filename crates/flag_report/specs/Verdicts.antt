@@ -1,5 +1,5 @@
 -- Kinds of verdicts.
-use Rattle.std.specs.Prelude.{Bool, true, false, ◌&&◌}
+use Rattle.std.specs.Prelude.{◌≤◌, Bool, true, false, ◌&&◌, length, ⊤}
 use Rattle.flag_report.specs.declared.found.Verdict.{Verdict}
 use Rattle.flag_report.specs.declared.found.Verdict.TheVariants.{Winnable, Unwinnable, Undecided, Skipped}
 
@@ -10,7 +10,7 @@ is_winnable _ = false
 
 -- the side cannot mate
 abbrev pub is_unwinnable : Verdict → Bool
-is_unwinnable Unwinnable = true
+is_unwinnable (Unwinnable cert) = true
 is_unwinnable _ = false
 
 -- nothing was shown about the side
@@ -22,6 +22,13 @@ is_undecided _ = false
 abbrev pub is_skipped : Verdict → Bool
 is_skipped Skipped = true
 is_skipped _ = false
+
+-- a certificate in a verdict has a number of nodes that its text can name (certificate text, version 1: this project)
+abbrev pub IsPrintable : Verdict → Type 0
+IsPrintable (Winnable moves) = ⊤
+IsPrintable (Unwinnable cert) = (1 ≤ length cert) × (length cert ≤ 4294967295)
+IsPrintable (Undecided depth) = ⊤
+IsPrintable Skipped = ⊤
 
 -- neither side can mate (Laws of Chess, Article 5.2.2)
 abbrev pub are_dead : Verdict → Verdict → Bool

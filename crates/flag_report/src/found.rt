@@ -3,6 +3,7 @@
 ghost use Rattle.std.specs.Prelude.{◌≡◌};
 ghost use Rattle.flag_report.specs.Verdicts.{is_undecided as is_undecided_verdict, is_unwinnable as is_unwinnable_verdict, is_winnable as is_winnable_verdict};
 
+use cha_cert::Cert;
 use cha_moves::Moves;
 
 /// What is found about whether a side can still mate by any series of legal moves.
@@ -10,8 +11,8 @@ use cha_moves::Moves;
 pub enum Verdict {
     /// These legal moves, made one after the other, end in a mate by the side.
     Winnable(Moves),
-    /// No series of legal moves ends in a mate by the side.
-    Unwinnable,
+    /// No series of legal moves ends in a mate by the side, which this certificate shows.
+    Unwinnable(Cert),
     /// Neither was shown. No list of at most this many legal moves mates.
     Undecided { depth: u8 },
     /// The side was not examined, since the other side can mate.
@@ -29,7 +30,7 @@ pub fn is_winnable(verdict: &Verdict) -> bool
 pub fn is_unwinnable(verdict: &Verdict) -> bool
     ensures { result ≡ is_unwinnable_verdict verdict.now }
 {
-    matches!(verdict, Verdict::Unwinnable)
+    matches!(verdict, Verdict::Unwinnable(_))
 }
 
 /// Whether nothing was shown about the side.

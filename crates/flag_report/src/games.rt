@@ -4,6 +4,7 @@ ghost use Rattle.std.specs.Prelude.{◌≡◌, ◌++◌, OnOk, IfOk, codes};
 ghost use Rattle.flag_report.specs.Blocks.{line};
 ghost use Rattle.flag_report.specs.Games.{mark_text, cause_text, result_line, game_text, unreadable_text};
 ghost use Rattle.flag_report.specs.Reasons.{IsOfGame, reason_text};
+ghost use Rattle.flag_report.specs.Verdicts.{IsPrintable};
 
 use crate::found::Verdict;
 use crate::pieces::{put_count_line, put_findings};
@@ -68,6 +69,8 @@ fn put_result(recorded: ResultMark, ruling: Judgment, text: &mut Text) -> Result
 /// status: live
 /// result: 0-1 -> 1/2-1/2 by 6.9
 /// ```
+///
+/// Where `certs` says so, the certificate of a side that cannot mate follows its line.
 #[tactic(auto, unfolding(crate::specs::Games::game_text))]
 pub fn game_block(
     alloc: Global,
@@ -77,12 +80,15 @@ pub fn game_block(
     white: &Verdict,
     black: &Verdict,
     ruling: Judgment,
+    certs: bool,
 ) -> Result<Text, NoMemory>
-    ensures { IfOk result (λ text. text ≡ game_text number position.now recorded white.now black.now ruling) }
+    requires white { IsPrintable white.now }
+    requires black { IsPrintable black.now }
+    ensures { IfOk result (λ text. text ≡ game_text number position.now recorded white.now black.now ruling certs) }
 {
     let mut text = Text::new(alloc);
     put_count_line(alloc, b"game ", number, &mut text)?;
-    put_findings(alloc, position, white, black, &mut text)?;
+    put_findings(alloc, position, white, black, certs, &mut text)?;
     put_result(recorded, ruling, &mut text)?;
     Ok(text)
 }

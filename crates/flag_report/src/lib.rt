@@ -1,9 +1,11 @@
 //! What the program prints: the results of games, verdicts, blocks and summaries.
 //!
 //! `found` has the verdicts on a side, `rulings` the result of a game, `status` the state of a position, `reasons` why an
-//! item cannot be read, `pieces` what all blocks share, `games` and `positions` the blocks, and `totals` the last line.
+//! item cannot be read, `pieces` what all blocks share, `games` and `positions` the blocks, `totals` the last line, and
+//! `checks` the lines on certificates that were checked.
 #![tactic(auto)]
 
+mod checks;
 mod found;
 mod games;
 mod pieces;
@@ -15,6 +17,7 @@ mod status;
 mod tests;
 mod totals;
 
+pub use checks::{accepted_line, failing_line, misfit_line};
 pub use found::{Verdict, is_undecided, is_unwinnable, is_winnable};
 pub use games::{game_block, unreadable_block};
 pub use positions::{position_block, refused_block};

@@ -1,12 +1,13 @@
 //! The texts that the blocks of positions and of games share.
 
 ghost use Rattle.std.specs.Prelude.{◌≡◌, ◌++◌, OnOk, decimal, codes};
-ghost use Rattle.flag_report.specs.Blocks.{line, count_text, moves_text, winnable_text, verdict_text, findings_text};
+ghost use Rattle.flag_report.specs.Blocks.{line, count_text, moves_text, winnable_text, verdict_text, cert_part, side_text, findings_text};
+ghost use Rattle.flag_report.specs.Verdicts.{IsPrintable};
 ghost use Rattle.cha_fen.specs.Written.{fen_text};
 
 use crate::found::Verdict;
 use crate::status::{put_status, standing};
-use cha_board::Position;
+use cha_board::{Color, Position};
 use cha_fen::write;
 use cha_list::{NoMemory, Text};
 use cha_moves::{Move, move_text};
@@ -84,20 +85,49 @@ fn put_verdict(alloc: Global, verdict: &Verdict, text: &mut Text) -> Result<(), 
 {
     match verdict {
         Verdict::Winnable(moves) => put_winnable(alloc, moves.items(), text),
-        Verdict::Unwinnable => text.append(b"unwinnable"),
+        Verdict::Unwinnable(_) => text.append(b"unwinnable"),
         Verdict::Undecided { depth } => put_undecided(alloc, *depth, text),
         Verdict::Skipped => text.append(b"skipped"),
     }
 }
 
-/// Appends a line with the verdict on a side behind its label.
-fn put_side(alloc: Global, label: &[u8], verdict: &Verdict, text: &mut Text) -> Result<(), NoMemory>
-    ensures { OnOk result (text.new ≡ text.old ++ line (label.now ++ verdict_text verdict.now)) }
+/// Appends the certificate of a side that cannot mate, where certificates are printed.
+#[tactic(auto, unfolding(crate::specs::Blocks::cert_part))]
+fn put_cert(
+    alloc: Global,
+    winner: Color,
+    verdict: &Verdict,
+    certs: bool,
+    text: &mut Text,
+) -> Result<(), NoMemory>
+    requires { IsPrintable verdict.now }
+    ensures { OnOk result (text.new ≡ text.old ++ cert_part certs winner verdict.now) }
+{
+    match verdict {
+        Verdict::Unwinnable(cert) if certs => {
+            let written = cert_text::write(alloc, winner, cert)?;
+            text.append(written.items())
+        }
+        _ => Ok(()),
+    }
+}
+
+/// Appends a line with the verdict on a side behind its label, and the certificate behind the line.
+fn put_side(
+    alloc: Global,
+    label: &[u8],
+    winner: Color,
+    verdict: &Verdict,
+    certs: bool,
+    text: &mut Text,
+) -> Result<(), NoMemory>
+    requires { IsPrintable verdict.now }
+    ensures { OnOk result (text.new ≡ text.old ++ side_text label.now winner verdict.now certs) }
 {
     text.append(label)?;
     put_verdict(alloc, verdict, text)?;
     text.append(b"\n")?;
-    Ok(())
+    put_cert(alloc, winner, verdict, certs, text)
 }
 
 /// Appends the line with the FEN of a position.
@@ -111,20 +141,24 @@ fn put_fen(alloc: Global, position: &Position, text: &mut Text) -> Result<(), No
     Ok(())
 }
 
-/// Appends the four lines on a position that the blocks of positions and of games share.
+/// Appends the four lines on a position that the blocks of positions and of games share, with the certificates between
+/// them.
 #[tactic(auto, unfolding(crate::specs::Blocks::findings_text))]
 pub fn put_findings(
     alloc: Global,
     position: &Position,
     white: &Verdict,
     black: &Verdict,
+    certs: bool,
     text: &mut Text,
 ) -> Result<(), NoMemory>
-    ensures { OnOk result (text.new ≡ text.old ++ findings_text position.now white.now black.now) }
+    requires white { IsPrintable white.now }
+    requires black { IsPrintable black.now }
+    ensures { OnOk result (text.new ≡ text.old ++ findings_text position.now white.now black.now certs) }
 {
     put_fen(alloc, position, text)?;
-    put_side(alloc, b"white: ", white, text)?;
-    put_side(alloc, b"black: ", black, text)?;
+    put_side(alloc, b"white: ", Color::White, white, certs, text)?;
+    put_side(alloc, b"black: ", Color::Black, black, certs, text)?;
     text.append(b"status: ")?;
     put_status(standing(position), white, black, text)?;
     text.append(b"\n")?;

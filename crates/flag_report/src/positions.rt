@@ -2,6 +2,7 @@
 
 ghost use Rattle.std.specs.Prelude.{◌≡◌, IfOk};
 ghost use Rattle.flag_report.specs.Blocks.{position_text, refused_text};
+ghost use Rattle.flag_report.specs.Verdicts.{IsPrintable};
 
 use crate::found::Verdict;
 use crate::pieces::{put_count_line, put_findings};
@@ -20,6 +21,8 @@ use std::alloc::Global;
 /// black: unwinnable
 /// status: dead
 /// ```
+///
+/// Where `certs` says so, the certificate of a side that cannot mate follows its line.
 #[tactic(auto, unfolding(crate::specs::Blocks::position_text))]
 pub fn position_block(
     alloc: Global,
@@ -27,12 +30,15 @@ pub fn position_block(
     position: &Position,
     white: &Verdict,
     black: &Verdict,
+    certs: bool,
 ) -> Result<Text, NoMemory>
-    ensures { IfOk result (λ text. text ≡ position_text number position.now white.now black.now) }
+    requires white { IsPrintable white.now }
+    requires black { IsPrintable black.now }
+    ensures { IfOk result (λ text. text ≡ position_text number position.now white.now black.now certs) }
 {
     let mut text = Text::new(alloc);
     put_count_line(alloc, b"position ", number, &mut text)?;
-    put_findings(alloc, position, white, black, &mut text)?;
+    put_findings(alloc, position, white, black, certs, &mut text)?;
     Ok(text)
 }
 

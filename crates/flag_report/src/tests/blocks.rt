@@ -108,7 +108,9 @@ fn games(rt: HostRuntime) -> Result<(), Fail> {
         let white = verdict(alloc, white)?;
         let black = verdict(alloc, black)?;
         let judgment = ruling(standing(&position), recorded, forfeit, &white, &black);
-        let block = game_block(alloc, number, &position, recorded, &white, &black, judgment)?;
+        let block = game_block(
+            alloc, number, &position, recorded, &white, &black, judgment, false,
+        )?;
         assert_eq!(rt; block.items(), want.as_bytes(), "{fen}");
     }
     Ok(())
@@ -172,9 +174,59 @@ fn positions(rt: HostRuntime) -> Result<(), Fail> {
         let position = read(fen.as_bytes()).ok().ok_or("a position")?;
         let white = verdict(alloc, white)?;
         let black = verdict(alloc, black)?;
-        let block = position_block(alloc, number, &position, &white, &black)?;
+        let block = position_block(alloc, number, &position, &white, &black, false)?;
         assert_eq!(rt; block.items(), want.as_bytes(), "{fen}");
         assert_eq!(rt; has_dead_state(&position, &white, &black), is_dead, "{fen}");
+    }
+    Ok(())
+}
+
+/// The certificate of White's side alone is printed behind its line, and says `winner w`.
+#[test]
+fn certificates_follow_the_lines_of_their_sides(rt: HostRuntime) -> Result<(), Fail> {
+    let alloc = rt.alloc();
+    let fen = "4k3/8/8/8/8/8/8/4K3 w - -";
+    let position = read(fen.as_bytes()).ok().ok_or("a position")?;
+    for (white, black, want) in [
+        (
+            Found::CannotMate,
+            Found::CannotMate,
+            "position 3\n\
+             fen: 4k3/8/8/8/8/8/8/4K3 w - -\n\
+             white: unwinnable\n\
+             cha-cert 1\n\
+             winner w\n\
+             nodes 1\n\
+             leaf 4k3/8/8/8/8/8/8/4K3 w - -\n\
+             loose 1000000000000010\n\
+             reach e1 K ffffffffffffffff\n\
+             reach e8 K ffffffffffffffff\n\
+             end\n\
+             black: unwinnable\n\
+             cha-cert 1\n\
+             winner b\n\
+             nodes 1\n\
+             leaf 4k3/8/8/8/8/8/8/4K3 w - -\n\
+             loose 1000000000000010\n\
+             reach e1 K ffffffffffffffff\n\
+             reach e8 K ffffffffffffffff\n\
+             end\n\
+             status: dead\n",
+        ),
+        (
+            Found::NotShown,
+            Found::NotExamined,
+            "position 3\n\
+             fen: 4k3/8/8/8/8/8/8/4K3 w - -\n\
+             white: undecided, depth 2\n\
+             black: skipped\n\
+             status: unclear\n",
+        ),
+    ] {
+        let white = verdict(alloc, white)?;
+        let black = verdict(alloc, black)?;
+        let block = position_block(alloc, 3, &position, &white, &black, true)?;
+        assert_eq!(rt; block.items(), want.as_bytes());
     }
     Ok(())
 }

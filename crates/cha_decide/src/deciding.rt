@@ -13,12 +13,16 @@ use std::alloc::Global;
 /// The verdicts on both sides of a position. `first` is examined, and then the other side, unless `first` can mate.
 ///
 /// A side's verdict is `Winnable` exactly where a list of at most two legal moves ends in a mate by the side: of the
-/// shortest such lists the first, in the order of moves. It is `Unwinnable` exactly where the position is statically
-/// unwinnable for the side, and then no series of legal moves ends in a mate by it (Laws of Chess, Article 5.2.2): take for
-/// each man all the squares that it might ever reach, where of the men in its way only those that can never leave count;
-/// wherever among these squares the men may stand, the other side's king is not mated. The verdict carries a certificate,
-/// and the check of certificates has accepted it. In all other positions the verdict is `Undecided` with depth 2 (this
-/// project).
+/// shortest such lists the first, in the order of moves.
+///
+/// It is `Unwinnable` exactly where the position is statically unwinnable for the side: closed mobility sets exist in which
+/// no mate can arise. Such sets have, for each man, every square to which legal moves could ever bring it, and treat only
+/// men that can never leave their squares as standing in the way. No mate can arise in them where on no choice of those
+/// squares a man of the side gives check while the other king is kept from each square next to it. Then no series of legal
+/// moves ends in a mate by the side (Laws of Chess, Article 5.2.2). The verdict carries a certificate of this, which the
+/// check of certificates has accepted.
+///
+/// In all other positions it is `Undecided` with depth 2 (this project).
 pub fn decide(alloc: Global, position: &Position, first: Color) -> Result<Decision, NoMemory>
     ensures { IfOk result (λ decision. IsSound position.now first decision) }
 {

@@ -4,6 +4,7 @@
 use adjudicate::{OpenGate, Status, run};
 use cha_outside::{ReadFrom, WriteTo};
 use std::env;
+use std::io::{self, ErrorKind};
 use std::process::ExitCode;
 
 /// What the program says to standard error of how it ended.
@@ -16,6 +17,14 @@ fn said_of(status: Status) -> Option<&'static str> {
         Status::WriteFault => Some("cannot write the output"),
         Status::TooLong => Some("the input is longer than 268435456 bytes"),
         Status::NoMemory => Some("out of memory"),
+    }
+}
+
+/// How the program ends where its words cannot be had: memory was refused, or one of them is not UTF-8.
+fn without_words(error: &io::Error) -> Status {
+    match error.kind() {
+        ErrorKind::OutOfMemory => Status::NoMemory,
+        _ => Status::Usage,
     }
 }
 
@@ -37,7 +46,7 @@ fn main(rt: HostRuntime) -> ExitCode {
             }
             Err(_) => Status::NoMemory,
         },
-        Err(_) => Status::Usage,
+        Err(error) => without_words(&error),
     };
     if let Some(line) = said_of(status) {
         let _ = eprintln!(rt; "{line}");

@@ -93,13 +93,13 @@ fn games(rt: HostRuntime) -> Result<(), Fail> {
             18446744073709551615,
             "8/8/8/4k3/3q4/8/8/4KN2 w - -",
             Found::NotShown,
-            Found::CannotMate,
+            Found::NotShown,
             ResultMark::WhiteWins,
             true,
             "game 18446744073709551615\n\
              fen: 8/8/8/4k3/3q4/8/8/4KN2 w - -\n\
              white: undecided, depth 2\n\
-             black: unwinnable\n\
+             black: undecided, depth 2\n\
              status: unclear\n\
              result: 1-0 -> 1-0 as recorded, winner undecided\n",
         ),
@@ -147,12 +147,12 @@ fn positions(rt: HostRuntime) -> Result<(), Fail> {
         // A position with one side open is not dead.
         (
             20,
-            "8/8/8/4k3/8/8/8/4KB2 w - - 0 1",
+            "8/8/8/4k3/8/8/8/4KR2 w - - 0 1",
             Found::NotShown,
             Found::CannotMate,
             false,
             "position 20\n\
-             fen: 8/8/8/4k3/8/8/8/4KB2 w - -\n\
+             fen: 8/8/8/4k3/8/8/8/4KR2 w - -\n\
              white: undecided, depth 2\n\
              black: unwinnable\n\
              status: unclear\n",
@@ -181,7 +181,7 @@ fn positions(rt: HostRuntime) -> Result<(), Fail> {
     Ok(())
 }
 
-/// The certificate of White's side alone is printed behind its line, and says `winner w`.
+/// Behind the line of a side that cannot mate stands the certificate, which names that side.
 #[test]
 fn certificates_follow_the_lines_of_their_sides(rt: HostRuntime) -> Result<(), Fail> {
     let alloc = rt.alloc();

@@ -6,7 +6,7 @@ use Rattle.cha_board.specs.declared.men.Color.TheVariants.{White, Black}
 use Rattle.cha_board.specs.declared.men.Kind.TheVariants.{Pawn, Rook, King}
 use Rattle.cha_board.specs.declared.men.Man.{Man}
 use Rattle.cha_board.specs.declared.position.Rights.{Rights}
-use Rattle.cha_board.specs.Men.{other_color, same_color, is_vacant, is_man, is_pawn, is_non_king}
+use Rattle.cha_board.specs.Men.{other_color, same_color, is_vacant, is_man, is_pawn}
 use Rattle.cha_board.specs.Squares.{squares, rank_of, aims_at, between}
 
 -- A position: what stands on each of the 64 squares, the side to move, the castlings that are left, and the square that
@@ -101,7 +101,3 @@ pub record IsValid (q : Board) : Type 0 where
   pub opponent : IsTrue (not (in_check q.men (other_color q.side)))
   pub rights : (c : Color) → IsTrue (rights_fit q.men q.rights c)
   pub target : IsTrue (target_is_good q.men q.side q.target)
-
--- c has a man other than a king
-unfoldable pub has_non_king : List (Option Man) → Color → Bool
-has_non_king men c = list_any (λ s. is_non_king c (man_at men s)) squares

@@ -14,7 +14,7 @@ use Rattle.cha_board.specs.SquareSets.{set_of, has_square, set_with, set_joined,
 use Rattle.cha_board.specs.SetLaws.{has-set_of, same_set}
 use Rattle.cha_board.specs.Aims.{is_open, aims_over, aimed}
 use Rattle.cha_moves.specs.Moves.{is_pawn_capture, is_target, is_en_passant, may_enter}
-use Rattle.cha_moves.proofs.Bare.{near_clear, king_aims}
+use Rattle.cha_moves.proofs.Near.{near_clear, king_aims}
 use Rattle.cha_moves.proofs.Pieces.{Contains-cons_here, Contains-cons_there, Contains-filter_parts, Contains-squares_small}
 
 -- what is done to sets, as what is done to their tests

@@ -4,7 +4,7 @@ pub mod Kept
 pub mod Validity
 pub mod Pieces
 pub mod Listed
-pub mod Bare
+pub mod Near
 pub mod Filling
 pub mod Sureness
 pub mod WayLaws

@@ -2,15 +2,14 @@
 //!
 //! `step` has the move, `sides` what is a side's on the board, `goes` how men go, `ways` where they may go, `makes` what
 //! a move changes, `safety` which moves leave the king unattacked, `list` the legal moves and the position after one,
-//! `some` whether there is one, `ends` how a position stands, `lines` the lines that end in mate, `lone` bare kings, and
-//! `text` the move's text.
+//! `some` whether there is one, `ends` how a position stands, `lines` the lines that end in mate, and `text`
+//! the move's text.
 #![tactic(auto)]
 
 mod ends;
 mod goes;
 mod lines;
 mod list;
-mod lone;
 mod makes;
 mod safety;
 mod sides;
@@ -24,7 +23,6 @@ mod ways;
 pub use ends::{Standing, state};
 pub use lines::replays;
 pub use list::{Moves, Positions, after, is_legal, legal};
-pub use lone::has_bare_king;
 pub use sides::{double_step_rank, first_pawn_rank, home, long_right, promotion_rank, short_right};
 pub use some::any_legal;
 pub use step::Move;

@@ -2,7 +2,7 @@
 
 ghost use Rattle.std.specs.Prelude.{◌<◌};
 
-use crate::{Move, Standing, after, has_bare_king, is_legal, legal, move_text, replays, state};
+use crate::{Move, Standing, after, is_legal, legal, move_text, replays, state};
 use cha_board::{Color, Position, Square};
 use cha_list::Text;
 use std::test::Fail;
@@ -52,5 +52,4 @@ fn the_fools_mate_wins_for_black(rt: HostRuntime) {
     assert!(rt; replays(&opening, Color::Black, &line));
     assert!(rt; !replays(&opening, Color::White, &line));
     assert!(rt; !replays(&opening, Color::Black, &line[..3]));
-    assert!(rt; !has_bare_king(&now, Color::White));
 }

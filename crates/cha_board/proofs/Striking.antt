@@ -94,7 +94,7 @@ near_first true true m h = h
 near_first true false m h = cc
 near_first false b m h = cc
 
-clear_turned : (men : List (Option Man)) (s t : ℕ) → s < 64 → t < 64 → is_open (set_of (λ u. not (is_empty men u))) t s ≡ is_clear men s t
+pub clear_turned : (men : List (Option Man)) (s t : ℕ) → s < 64 → t < 64 → is_open (set_of (λ u. not (is_empty men u))) t s ≡ is_clear men s t
 unfolding is_open is_clear between
 clear_turned men s t small small' =
     let occupied = set_of (λ u. not (is_empty men u)) in

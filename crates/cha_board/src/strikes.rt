@@ -13,7 +13,7 @@ use crate::squares::Square;
 impl Men {
     /// Whether some man of a side and a kind attacks a square.
     ///
-    /// Such a man on the square, but of the other side, would aim back at it.
+    /// They are the men at which one like them, but of the other side, aims from that square.
     fn strikes(&self, by: Color, kind: Kind, at: Square) -> bool
         ensures { result ≡ struck_by self.now by kind at }
     {

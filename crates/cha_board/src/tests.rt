@@ -1,7 +1,5 @@
 //! What men aim at and attack: a worked example, and the sets against the plain walk over a list.
 
-ghost use Rattle.std.specs.Prelude.{◌<◌};
-
 use crate::{Color, Kind, Man, Men, Square, SquareSet, aims, attacks_square};
 
 const OPENING: &[u8; 64] = b"RNBQKBNRPPPPPPPP................................pppppppprnbqkbnr";

@@ -9,8 +9,8 @@ ghost use Rattle.mob_solve.specs.Steps.{spread_of};
 ghost use Rattle.mob_solve.specs.Reaching.{sets_in};
 ghost use Rattle.mob_solve.specs.Grounds.{kinds, is_reached, has_own, is_target_for, is_victim_for, side_ground_of, ground_of, side_in};
 
-use crate::reach::Reach;
 use crate::others::is_man_other_than_king;
+use crate::reach::Reach;
 use crate::steps::spread;
 use cha_board::{Color, Kind, Man, Position, Square, SquareSet};
 

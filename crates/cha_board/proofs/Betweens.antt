@@ -1,32 +1,67 @@
--- The table of the squares between two squares, and what it tells of occupied squares.
-use Rattle.std.proofs.Common.{◌≡◌, ℕ, ◌<◌, Bool, true, false, not, cond, ◌==◌, ◌&&◌, ◌||◌, List, [], ◌∷◌, slice_index, slice_index_or, filter, refl, sym, ap, ◌∙◌}
+-- The squares between two squares as a number, and what they tell of occupied squares.
+use Rattle.std.proofs.Common.{◌≡◌, ℕ, Bool, true, false, not, cond, ◌==◌, ◌&&◌, ◌||◌, List, [], ◌∷◌, filter, refl, sym, ap, ◌∙◌, arith}
 use Rattle.std.specs.List.{list_all, list_any}
-use Rattle.std.proofs.lemmas.Bool.{eqb-true}
-use Rattle.cha_board.specs.declared.lines.TheConstants.{BETWEEN}
+use Rattle.std.proofs.Math.Nat.{add_comm}
+use Rattle.std.proofs.Math.Bool.{and_comm}
 use Rattle.cha_board.specs.Squares.{squares, files_apart, ranks_apart, is_straight, is_diagonal, is_within, lies_between, between}
 use Rattle.cha_board.specs.SquareSets.{set_of, has_square, set_of_bits, bits_of_set, set_common, has_no_square}
 use Rattle.cha_board.specs.SetLaws.{has-set_of, set_of_bits-bits_of_set}
 use Rattle.cha_board.specs.Aims.{is_open}
-use Rattle.cha_board.proofs.Scans.{all_squares_at, any_alike}
+use Rattle.cha_board.proofs.Scans.{any_alike}
 
--- what the table has for two squares
-abbrev pub entry : ℕ → ℕ → ℕ
-entry s t = slice_index (slice_index_or BETWEEN s []) t
+-- the number whose bits are the squares between two squares
+unfoldable pub between_bits : ℕ → ℕ → ℕ
+between_bits s t = bits_of_set (set_of (lies_between s t))
 
-between_test : ℕ → ℕ → Bool
-between_test s t = entry s t == bits_of_set (set_of (lies_between s t))
+pub between_shown : (s t : ℕ) → set_of_bits (between_bits s t) ≡ set_of (lies_between s t)
+unfolding between_bits
+between_shown s t = set_of_bits-bits_of_set (lies_between s t)
 
-between_table : list_all (λ s. list_all (λ t. between_test s t) squares) squares ≡ true
-unfolding between_test bits_of_set lies_between is_within is_straight is_diagonal files_apart ranks_apart squares
-between_table = refl
+files_turned : (s t : ℕ) → files_apart s t ≡ files_apart t s
+unfolding files_apart
+files_turned s t = omega arith
 
-entry_is : (s t : ℕ) → s < 64 → t < 64 → entry s t ≡ bits_of_set (set_of (lies_between s t))
-unfolding between_test
-entry_is s t small small' =
-    eqb-true _ _ (all_squares_at (between_test s) t (all_squares_at (λ s. list_all (between_test s) squares) s between_table small) small')
+ranks_turned : (s t : ℕ) → ranks_apart s t ≡ ranks_apart t s
+unfolding ranks_apart
+ranks_turned s t = omega arith
 
-pub between_shown : (s t : ℕ) → s < 64 → t < 64 → set_of_bits (entry s t) ≡ set_of (lies_between s t)
-between_shown s t small small' = ap set_of_bits (entry_is s t small small') ∙ set_of_bits-bits_of_set (lies_between s t)
+same_turned : (s t : ℕ) → (s == t) ≡ (t == s)
+same_turned s t = grind arith
+
+straight_turned : (s t : ℕ) → is_straight s t ≡ is_straight t s
+unfolding is_straight
+straight_turned s t = rw (same_turned s t, files_turned s t, ranks_turned s t) refl
+
+diagonal_turned : (s t : ℕ) → is_diagonal s t ≡ is_diagonal t s
+unfolding is_diagonal
+diagonal_turned s t = rw (same_turned s t, files_turned s t, ranks_turned s t) refl
+
+last_two : (a b c : Bool) → (a && b && c) ≡ (a && c && b)
+last_two true b c = and_comm b c
+last_two false b c = refl
+
+-- what lies between two squares lies between the second and the first
+pub lies_turned : (s t u : ℕ) → lies_between t s u ≡ lies_between s t u
+unfolding lies_between is_within
+lies_turned s t u =
+    rw (
+      files_turned t u,
+      files_turned u s,
+      files_turned t s,
+      ranks_turned t u,
+      ranks_turned u s,
+      ranks_turned t s,
+      straight_turned t u,
+      straight_turned u s,
+      straight_turned t s,
+      diagonal_turned t u,
+      diagonal_turned u s,
+      diagonal_turned t s,
+      add_comm (files_apart u t) (files_apart s u),
+      add_comm (ranks_apart u t) (ranks_apart s u),
+      last_two (is_straight s t) (is_straight u t) (is_straight s u),
+      last_two (is_diagonal s t) (is_diagonal u t) (is_diagonal s u),
+    ) refl
 
 with_first : (b all some : Bool) → all ≡ not some → (b && all) ≡ not (not b || some)
 with_first true all some e = e

@@ -14,7 +14,7 @@ use Rattle.cha_board.specs.SetLaws.{same_set, same_squares, length-set_of, has-s
 use Rattle.cha_board.specs.Aims.{is_open, aims_over, aimed, stops_before, stops_behind, seen_up, seen_down}
 use Rattle.cha_board.proofs.Scans.{any_square_at, no_square, any_alike}
 use Rattle.cha_board.proofs.SetBits.{shown_at, shown_joined, both_bits}
-use Rattle.cha_board.proofs.Betweens.{entry, between_shown, open_is}
+use Rattle.cha_board.proofs.Betweens.{between_bits, between_shown, open_is}
 use Rattle.cha_board.proofs.Tables.{GoesUp, GoesDown, before_on_ray, behind_on_ray}
 
 common_at : (ray occupied : List Bool) (n u : ℕ) → set_common ray occupied ≡ set_of_bits n → u < 64 → (has_square ray u && has_square occupied u) ≡ (bit_at n u == 1)
@@ -110,13 +110,13 @@ high_test t u small =
       | inr less ↦ rw (bit_at_mask_below (t + 1) 64 u (omega (arith, less)), le-ltb t u less) refl
     ]
 
-pub open_on : (occupied : List Bool) (s t ray mask : ℕ) (before : ℕ → Bool) → s < 64 → t < 64 → entry s t ≡ bit_and ray mask → ((u : ℕ) → u < 64 → (bit_at mask u == 1) ≡ before u)
+pub open_on : (occupied : List Bool) (s t ray mask : ℕ) (before : ℕ → Bool) → s < 64 → t < 64 → between_bits s t ≡ bit_and ray mask → ((u : ℕ) → u < 64 → (bit_at mask u == 1) ≡ before u)
     → not (list_any (λ u. before u && (has_square (set_of_bits ray) u && has_square occupied u)) squares) ≡ is_open occupied s t
 unfolding has_no_square set_common
 open_on occupied s t ray mask before small small' e test =
     ap not (any_alike (λ u. before u && (has_square (set_of_bits ray) u && has_square occupied u)) (has_square (set_of (λ u. has_square (set_of (lies_between s t)) u && has_square occupied u))) (λ u inside.
     let here : has_square (set_of (lies_between s t)) u ≡ (has_square (set_of_bits ray) u && before u)
-    = ap (λ set. has_square set u) (sym (between_shown s t small small')) ∙ shown_at (entry s t) u inside ∙ ap (λ n. bit_at n u == 1) e ∙ ap (λ x. x == 1) (bit_at_and ray mask u)
+    = ap (λ set. has_square set u) (sym (between_shown s t)) ∙ shown_at (between_bits s t) u inside ∙ ap (λ n. bit_at n u == 1) e ∙ ap (λ x. x == 1) (bit_at_and ray mask u)
     ∙ both_bits (bit_at ray u) (bit_at mask u) (bit_at-lt ray u) (bit_at-lt mask u) ∙ ap (λ b. (bit_at ray u == 1) && b) (test u inside)
     ∙ ap (λ b. b && before u) (sym (shown_at ray u inside)) in
     turned (before u) (has_square (set_of_bits ray) u) (has_square occupied u) ∙ ap (λ b. b && has_square occupied u) (sym here)

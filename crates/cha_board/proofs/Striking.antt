@@ -10,12 +10,12 @@ use Rattle.cha_board.specs.declared.men.Man.{Man}
 use Rattle.cha_board.specs.Men.{other_color, same_color, same_kind, is_man}
 use Rattle.cha_board.specs.Board.{man_at, is_empty, is_clear, attacks_as, attacked}
 use Rattle.cha_board.specs.Squares.{squares, lies_between, is_line, aims_at, between}
-use Rattle.cha_board.specs.SquareSets.{set_of, has_square, set_of_bits, set_joined, set_common, has_no_square}
+use Rattle.cha_board.specs.SquareSets.{set_of, has_square, set_joined, set_common, has_no_square}
 use Rattle.cha_board.specs.SetLaws.{same_set, has-set_of}
 use Rattle.cha_board.specs.Aims.{is_open, aims_over, aimed, strikes_from, struck_by, struck_somehow}
 use Rattle.cha_board.proofs.Scans.{no_square, any_alike}
-use Rattle.cha_board.proofs.Betweens.{entry, between_shown, all_kept}
-use Rattle.cha_board.proofs.Tables.{pawn_leap, knight_leap, king_leap, aims_from_there, between_turned}
+use Rattle.cha_board.proofs.Betweens.{between_bits, all_kept, lies_turned}
+use Rattle.cha_board.proofs.Tables.{pawn_leap, knight_leap, king_leap, aims_from_there}
 use Rattle.cha_board.proofs.Sliding.{open_on}
 
 -- a man of either side slides alike
@@ -45,12 +45,12 @@ on_open : (a b : Bool) → (a ≡ true → b ≡ true) → a ≡ (a && b)
 on_open true b implied = sym (implied refl)
 on_open false b implied = refl
 
-open_leap : (occupied : List Bool) (s t : ℕ) → s < 64 → t < 64 → entry s t ≡ 0 → is_open occupied s t ≡ true
+open_leap : (occupied : List Bool) (s t : ℕ) → s < 64 → t < 64 → between_bits s t ≡ 0 → is_open occupied s t ≡ true
 open_leap occupied s t small small' none =
     sym (open_on occupied s t 0 0 (λ _. false) small small' none (λ u _. ap (λ x. x == 1) (bit_at-zero u))) ∙ ap not (no_square (λ u. false) (λ u _. refl))
 
 -- a man that leaps aims over any squares
-leaper : (c : Color) (k : Kind) (s : ℕ) (occupied : List Bool) → s < 64 → ((t : ℕ) → t < 64 → aims_at c k s t ≡ true → entry s t ≡ 0) → set_of (aims_at c k s) ≡ aimed c k s occupied
+leaper : (c : Color) (k : Kind) (s : ℕ) (occupied : List Bool) → s < 64 → ((t : ℕ) → t < 64 → aims_at c k s t ≡ true → between_bits s t ≡ 0) → set_of (aims_at c k s) ≡ aimed c k s occupied
 unfolding aimed aims_over
 leaper c k s occupied small leap =
     same_set (aims_at c k s) (aims_over c k s occupied) (λ t small'. on_open (aims_at c k s t) (is_open occupied s t) (λ on. open_leap occupied s t small small' (leap t small' on)))
@@ -100,10 +100,7 @@ clear_turned men s t small small' =
     let occupied = set_of (λ u. not (is_empty men u)) in
     all_kept (lies_between t s) (λ u. not (has_square occupied u)) squares
     ∙ ap not (any_alike (λ u. lies_between t s u && not (not (has_square occupied u))) (λ u. lies_between s t u && not (is_empty men u)) (λ u inside.
-    let there : lies_between t s u ≡ lies_between s t u
-    = sym (has-set_of (lies_between t s) u inside) ∙ ap (λ set. has_square set u) (sym (between_shown t s small' small) ∙ ap set_of_bits (sym (between_turned s t small small')) ∙ between_shown s t small small')
-    ∙ has-set_of (lies_between s t) u inside in
-    ap (λ b. b && not (not (has_square occupied u))) there ∙ ap (λ b. lies_between s t u && b) (not_twice (has_square occupied u) ∙ has-set_of (λ u. not (is_empty men u)) u inside)))
+    ap (λ b. b && not (not (has_square occupied u))) (lies_turned s t u) ∙ ap (λ b. lies_between s t u && b) (not_twice (has_square occupied u) ∙ has-set_of (λ u. not (is_empty men u)) u inside)))
     ∙ sym (all_kept (lies_between s t) (λ u. is_empty men u) squares)
 
 last_first : (a b m : Bool) → ((a && b) && m) ≡ (m && (a && b))

@@ -9,13 +9,13 @@ use Rattle.cha_board.specs.declared.men.Kind.{Kind}
 use Rattle.cha_board.specs.declared.men.Kind.TheVariants.{Pawn, Knight, Bishop, Rook, Queen, King}
 use Rattle.cha_board.specs.declared.leaps.TheConstants.{KNIGHT, KING, WHITE_PAWN, BLACK_PAWN, BISHOP, ROOK}
 use Rattle.cha_board.specs.declared.rays.TheConstants.{NORTH, EAST, NORTH_EAST, NORTH_WEST, SOUTH, WEST, SOUTH_EAST, SOUTH_WEST}
-use Rattle.cha_board.specs.Squares.{squares, files_apart, ranks_apart, steps_apart, is_straight, is_diagonal, is_line, is_rank_ahead, aims_at}
+use Rattle.cha_board.specs.Squares.{squares, files_apart, ranks_apart, steps_apart, is_straight, is_diagonal, is_line, is_rank_ahead, aims_at, is_within, lies_between}
 use Rattle.cha_board.specs.SquareSets.{set_of, has_square, set_of_bits, bits_of_set, set_joined}
 use Rattle.cha_board.specs.SetLaws.{set_of_bits-bits_of_set, same_set, has-set_of}
 use Rattle.cha_board.specs.Men.{other_color}
 use Rattle.cha_board.proofs.Scans.{all_squares_at}
 use Rattle.cha_board.proofs.SetBits.{shown_at}
-use Rattle.cha_board.proofs.Betweens.{entry}
+use Rattle.cha_board.proofs.Betweens.{between_bits}
 
 -- what a table has for a square is the number of the squares at which a man aims
 aim_test : List ℕ → Color → Kind → ℕ → Bool
@@ -97,10 +97,10 @@ bishop_from_rays s small = eqb-true _ _ (all_squares_at (rays_test NORTH_EAST NO
 
 -- on a ray that goes up, what lies between its square and t are its squares before t
 pub up_test : List ℕ → ℕ → ℕ → Bool
-up_test ray s t = not (bit_at (slice_index ray s) t == 1) || (entry s t == bit_and (slice_index ray s) (2 ^ t - 1))
+up_test ray s t = not (bit_at (slice_index ray s) t == 1) || (between_bits s t == bit_and (slice_index ray s) (2 ^ t - 1))
 
 pub down_test : List ℕ → ℕ → ℕ → Bool
-down_test ray s t = not (bit_at (slice_index ray s) t == 1) || (entry s t == bit_and (slice_index ray s) (2 ^ 64 - 2 ^ (t + 1)))
+down_test ray s t = not (bit_at (slice_index ray s) t == 1) || (between_bits s t == bit_and (slice_index ray s) (2 ^ 64 - 2 ^ (t + 1)))
 
 -- a table whose rays go up, and one whose rays go down
 abbrev pub GoesUp : List ℕ → Type 0
@@ -110,47 +110,47 @@ abbrev pub GoesDown : List ℕ → Type 0
 GoesDown ray = list_all (λ s. list_all (λ t. down_test ray s t) squares) squares ≡ true
 
 pub north_up : GoesUp NORTH
-unfolding up_test squares
+unfolding up_test between_bits bits_of_set lies_between is_within is_straight is_diagonal files_apart ranks_apart squares
 north_up = refl
 
 pub east_up : GoesUp EAST
-unfolding up_test squares
+unfolding up_test between_bits bits_of_set lies_between is_within is_straight is_diagonal files_apart ranks_apart squares
 east_up = refl
 
 pub north_east_up : GoesUp NORTH_EAST
-unfolding up_test squares
+unfolding up_test between_bits bits_of_set lies_between is_within is_straight is_diagonal files_apart ranks_apart squares
 north_east_up = refl
 
 pub north_west_up : GoesUp NORTH_WEST
-unfolding up_test squares
+unfolding up_test between_bits bits_of_set lies_between is_within is_straight is_diagonal files_apart ranks_apart squares
 north_west_up = refl
 
 pub south_down : GoesDown SOUTH
-unfolding down_test squares
+unfolding down_test between_bits bits_of_set lies_between is_within is_straight is_diagonal files_apart ranks_apart squares
 south_down = refl
 
 pub west_down : GoesDown WEST
-unfolding down_test squares
+unfolding down_test between_bits bits_of_set lies_between is_within is_straight is_diagonal files_apart ranks_apart squares
 west_down = refl
 
 pub south_east_down : GoesDown SOUTH_EAST
-unfolding down_test squares
+unfolding down_test between_bits bits_of_set lies_between is_within is_straight is_diagonal files_apart ranks_apart squares
 south_east_down = refl
 
 pub south_west_down : GoesDown SOUTH_WEST
-unfolding down_test squares
+unfolding down_test between_bits bits_of_set lies_between is_within is_straight is_diagonal files_apart ranks_apart squares
 south_west_down = refl
 
 or_first : (a b : Bool) → (not a || b) ≡ true → a ≡ true → b ≡ true
 or_first true b h e = h
 or_first false b h e = cc
 
-pub before_on_ray : (ray : List ℕ) → GoesUp ray → (s t : ℕ) → s < 64 → t < 64 → (bit_at (slice_index ray s) t == 1) ≡ true → entry s t ≡ bit_and (slice_index ray s) (2 ^ t - 1)
+pub before_on_ray : (ray : List ℕ) → GoesUp ray → (s t : ℕ) → s < 64 → t < 64 → (bit_at (slice_index ray s) t == 1) ≡ true → between_bits s t ≡ bit_and (slice_index ray s) (2 ^ t - 1)
 unfolding up_test
 before_on_ray ray right s t small small' on =
     eqb-true _ _ (or_first _ _ (all_squares_at (up_test ray s) t (all_squares_at (λ s. list_all (up_test ray s) squares) s right small) small') on)
 
-pub behind_on_ray : (ray : List ℕ) → GoesDown ray → (s t : ℕ) → s < 64 → t < 64 → (bit_at (slice_index ray s) t == 1) ≡ true → entry s t ≡ bit_and (slice_index ray s) (2 ^ 64 - 2 ^ (t + 1))
+pub behind_on_ray : (ray : List ℕ) → GoesDown ray → (s t : ℕ) → s < 64 → t < 64 → (bit_at (slice_index ray s) t == 1) ≡ true → between_bits s t ≡ bit_and (slice_index ray s) (2 ^ 64 - 2 ^ (t + 1))
 unfolding down_test
 behind_on_ray ray right s t small small' on =
     eqb-true _ _ (or_first _ _ (all_squares_at (down_test ray s) t (all_squares_at (λ s. list_all (down_test ray s) squares) s right small) small') on)
@@ -163,41 +163,41 @@ queen_shown c s =
 
 -- no square lies between those of a man that leaps
 leap_test : Color → Kind → ℕ → ℕ → Bool
-leap_test c k s t = not (aims_at c k s t) || (entry s t == 0)
+leap_test c k s t = not (aims_at c k s t) || (between_bits s t == 0)
 
 leaps : Color → Kind → Bool
 leaps c k = list_all (λ s. list_all (λ t. leap_test c k s t) squares) squares
 
-leap_of : (c : Color) (k : Kind) → leaps c k ≡ true → (s t : ℕ) → s < 64 → t < 64 → aims_at c k s t ≡ true → entry s t ≡ 0
+leap_of : (c : Color) (k : Kind) → leaps c k ≡ true → (s t : ℕ) → s < 64 → t < 64 → aims_at c k s t ≡ true → between_bits s t ≡ 0
 unfolding leaps leap_test
 leap_of c k right s t small small' on =
     eqb-true _ _ (or_first _ _ (all_squares_at (leap_test c k s) t (all_squares_at (λ s. list_all (leap_test c k s) squares) s right small) small') on)
 
 white_pawn_leaps : leaps White Pawn ≡ true
-unfolding leaps leap_test aims_at is_rank_ahead files_apart ranks_apart squares
+unfolding leaps leap_test aims_at between_bits bits_of_set lies_between is_within is_straight is_diagonal is_rank_ahead files_apart ranks_apart squares
 white_pawn_leaps = refl
 
 black_pawn_leaps : leaps Black Pawn ≡ true
-unfolding leaps leap_test aims_at is_rank_ahead files_apart ranks_apart squares
+unfolding leaps leap_test aims_at between_bits bits_of_set lies_between is_within is_straight is_diagonal is_rank_ahead files_apart ranks_apart squares
 black_pawn_leaps = refl
 
 knight_leaps : leaps White Knight ≡ true
-unfolding leaps leap_test aims_at files_apart ranks_apart squares
+unfolding leaps leap_test aims_at between_bits bits_of_set lies_between is_within is_straight is_diagonal files_apart ranks_apart squares
 knight_leaps = refl
 
 king_leaps : leaps White King ≡ true
-unfolding leaps leap_test aims_at steps_apart files_apart ranks_apart squares
+unfolding leaps leap_test aims_at between_bits bits_of_set lies_between is_within is_straight is_diagonal steps_apart files_apart ranks_apart squares
 king_leaps = refl
 
-pub pawn_leap : (c : Color) (s t : ℕ) → s < 64 → t < 64 → aims_at c Pawn s t ≡ true → entry s t ≡ 0
+pub pawn_leap : (c : Color) (s t : ℕ) → s < 64 → t < 64 → aims_at c Pawn s t ≡ true → between_bits s t ≡ 0
 pawn_leap White s t small small' on = leap_of White Pawn white_pawn_leaps s t small small' on
 pawn_leap Black s t small small' on = leap_of Black Pawn black_pawn_leaps s t small small' on
 
-pub knight_leap : (c : Color) (s t : ℕ) → s < 64 → t < 64 → aims_at c Knight s t ≡ true → entry s t ≡ 0
+pub knight_leap : (c : Color) (s t : ℕ) → s < 64 → t < 64 → aims_at c Knight s t ≡ true → between_bits s t ≡ 0
 unfolding aims_at
 knight_leap c s t small small' on = leap_of White Knight knight_leaps s t small small' on
 
-pub king_leap : (c : Color) (s t : ℕ) → s < 64 → t < 64 → aims_at c King s t ≡ true → entry s t ≡ 0
+pub king_leap : (c : Color) (s t : ℕ) → s < 64 → t < 64 → aims_at c King s t ≡ true → between_bits s t ≡ 0
 unfolding aims_at
 king_leap c s t small small' on = leap_of White King king_leaps s t small small' on
 
@@ -265,15 +265,3 @@ aims_from_there c Bishop s t small small' = bishop_back c (other_color c) s t sm
 aims_from_there c Rook s t small small' = rook_back c (other_color c) s t small small'
 aims_from_there c Queen s t small small' = queen_back c (other_color c) s t small small'
 aims_from_there c King s t small small' = aims_back KING KING c (other_color c) King s t king_mirror small small' (king_shown c s small) (king_shown (other_color c) t small')
-
-turn_test : ℕ → ℕ → Bool
-turn_test s t = entry s t == entry t s
-
-turn_table : list_all (λ s. list_all (λ t. turn_test s t) squares) squares ≡ true
-unfolding turn_test squares
-turn_table = refl
-
--- the squares between two squares are those between the second and the first
-pub between_turned : (s t : ℕ) → s < 64 → t < 64 → entry s t ≡ entry t s
-unfolding turn_test
-between_turned s t small small' = eqb-true _ _ (all_squares_at (turn_test s) t (all_squares_at (λ s. list_all (turn_test s) squares) s turn_table small) small')

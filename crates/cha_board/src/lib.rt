@@ -2,14 +2,13 @@
 //!
 //! `men` has colours, kinds and men, `squares` the squares, `sets` sets of squares, and `placement` what stands on the
 //! board, kept as sets. `aim` has distances and what a man aims at on an empty board, `over` the same over occupied squares
-//! by the tables of `leaps`, `rays` and `lines`, `strikes` what men attack by it, and `sight` the same by a plain walk over
+//! by the tables of `leaps` and `rays`, `strikes` what men attack by it, and `sight` the same by a plain walk over
 //! a list of men. `position` has the valid positions, `build` how one is made, and `opening` the opening position.
 #![tactic(auto)]
 
 mod aim;
 mod build;
 mod leaps;
-mod lines;
 mod men;
 mod opening;
 mod over;
@@ -29,7 +28,7 @@ pub use aim::{
 pub use build::BuildFault;
 pub use men::{Color, Kind, Man, is_man_of, is_of_kind, is_of_side};
 pub use opening::OPENING_MEN;
-pub use over::{aims, aims_alone, squares_between};
+pub use over::{aims, aims_alone};
 pub use placement::Men;
 pub use position::{Position, Rights, attacks};
 pub use sets::SquareSet;

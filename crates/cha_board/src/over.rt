@@ -1,34 +1,17 @@
 //! What men aim at over squares of which some are occupied (Laws of Chess, Articles 3.1 to 3.8).
 
-ghost use Rattle.std.specs.Prelude.{◌≡◌, slice_index, slice_index_or, []};
+ghost use Rattle.std.specs.Prelude.{◌≡◌};
 ghost use Rattle.cha_board.specs.declared.men.Color.TheVariants.{White};
 ghost use Rattle.cha_board.specs.declared.men.Kind.TheVariants.{Bishop, Rook};
-ghost use Rattle.cha_board.specs.declared.lines.TheConstants.{BETWEEN as BETWEEN_BITS};
-ghost use Rattle.cha_board.specs.Squares.{lies_between};
 ghost use Rattle.cha_board.specs.Squares.{aims_at as aims_at_square};
 ghost use Rattle.cha_board.specs.SquareSets.{set_of};
 ghost use Rattle.cha_board.specs.Aims.{aimed, seen_up, seen_down};
 
 use crate::leaps::{BISHOP, BLACK_PAWN, KING, KNIGHT, ROOK, WHITE_PAWN};
-use crate::lines::BETWEEN;
 use crate::men::{Color, Kind};
 use crate::rays::{EAST, NORTH, NORTH_EAST, NORTH_WEST, SOUTH, SOUTH_EAST, SOUTH_WEST, WEST};
 use crate::sets::SquareSet;
 use crate::squares::Square;
-
-/// The squares strictly between two squares, as bits.
-fn between_bits(s: Square, t: Square) -> u64
-    ensures { result ≡ slice_index (slice_index_or BETWEEN_BITS s []) t }
-{
-    BETWEEN[usize::from(s.index())][usize::from(t.index())]
-}
-
-/// The squares strictly between two squares of one line; none between other squares.
-pub fn squares_between(s: Square, t: Square) -> SquareSet
-    ensures { result ≡ set_of (lies_between s t) }
-{
-    SquareSet::from_bits(between_bits(s, t))
-}
 
 /// The squares at which a man aims on an empty board. A pawn aims at the squares onto which it captures.
 pub fn aims_alone(of: Color, kind: Kind, from: Square) -> SquareSet

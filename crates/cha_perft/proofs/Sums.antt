@@ -1,8 +1,8 @@
 -- The count of lines, as it is summed up move by move.
-use Rattle.std.proofs.Common.{◌≡◌, ℕ, suc, ◌+◌, ◌<◌, ◌≤◌, List, [], length, get_or, take, refl, sym, ◌∙◌, ap, arith}
+use Rattle.std.proofs.Common.{◌≡◌, ℕ, suc, ◌+◌, ◌<◌, ◌≤◌, List, [], ◌∷◌, length, get_or, take, refl, sym, ◌∙◌, ap, arith}
 use Rattle.std.specs.List.{sum_by}
 use Rattle.std.proofs.lemmas.List.{take_all}
-use Rattle.std.proofs.lemmas.List.Sums.{sum_by_more, sum_by_more_le}
+use Rattle.std.proofs.lemmas.List.Sums.{sum_by-cons, sum_by_more, sum_by_more_le}
 use Rattle.cha_board.specs.Board.{Board}
 use Rattle.cha_moves.specs.Step.{Move}
 use Rattle.cha_moves.specs.Moves.{after, legal}
@@ -15,6 +15,15 @@ lines_with d q ms = sum_by (λ m. lines_from d (after q m)) ms
 pub one_line : (d : ℕ) (q : Board) → d ≡ 0 → 1 ≡ lines_from d q
 unfolding lines_from
 one_line d q e = rw e refl
+
+counted : (ms : List Move) → length ms ≡ sum_by (λ _. 1) ms
+counted [] = refl
+counted (m ∷ ms) = omega (arith, counted ms, sum_by-cons (λ (x : Move). 1) m ms)
+
+-- the lines of one move are the legal moves
+pub last_lines : (d : ℕ) (q : Board) (ms : List Move) → d ≡ 1 → ms ≡ legal q → length ms ≡ lines_from d q
+unfolding lines_from
+last_lines d q ms one listed = rw (one, listed) (counted (legal q))
 
 pub lines_by_move : (d e : ℕ) (q : Board) → d ≡ e + 1 → lines_from d q ≡ lines_with e q (legal q)
 unfolding lines_from lines_with

@@ -1,4 +1,4 @@
-//! Counts of lines of legal moves.
+//! Counts of lines of legal moves, from the lists of the last moves.
 
 ghost use Rattle.std.specs.Prelude.{◌≡◌, ◌≤◌, ◌^◌, Err, IfOk};
 ghost use Rattle.cha_perft.specs.Counts.{lines_from};
@@ -16,8 +16,8 @@ pub enum CountFault {
     TooMany,
 }
 
-/// How many lines of `depth` legal moves begin in a position.
-#[tactic(auto, using(crate::proofs::Sums::one_line, crate::proofs::Sums::no_lines, crate::proofs::Sums::all_lines))]
+/// How many lines of `depth` legal moves begin in a position. The last moves are counted in their list and not made.
+#[tactic(auto, using(crate::proofs::Sums::one_line, crate::proofs::Sums::last_lines, crate::proofs::Sums::no_lines, crate::proofs::Sums::all_lines))]
 pub fn count_lines(alloc: Global, position: &Position, depth: u8) -> Result<u64, CountFault>
     ensures count { IfOk result (λ count. count ≡ lines_from depth position.now) }
     ensures too_many { result ≡ Err CountFault.TooMany → 2 ^ 64 ≤ lines_from depth position.now }
@@ -28,6 +28,9 @@ pub fn count_lines(alloc: Global, position: &Position, depth: u8) -> Result<u64,
     let Ok(moves) = legal(alloc, position) else {
         return Err(CountFault::NoMemory);
     };
+    if depth == 1 {
+        return Ok(moves.len() as u64);
+    }
     let mut total: u64 = 0;
     for m in &moves {
         let next = after(position, *m);

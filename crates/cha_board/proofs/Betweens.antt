@@ -1,13 +1,15 @@
 -- The squares between two squares as a number, and what they tell of occupied squares.
-use Rattle.std.proofs.Common.{◌≡◌, ℕ, Bool, true, false, not, cond, ◌==◌, ◌&&◌, ◌||◌, List, [], ◌∷◌, filter, refl, sym, ap, ◌∙◌, arith}
+use Rattle.std.proofs.Common.{◌≡◌, ◌<◌, ℕ, Bool, true, false, not, cond, ◌==◌, ◌&&◌, ◌||◌, List, [], ◌∷◌, filter, refl, sym, ap, ◌∙◌, arith}
 use Rattle.std.specs.List.{list_all, list_any}
+use Rattle.std.proofs.lemmas.Bool.{eqb-true}
 use Rattle.std.proofs.Math.Nat.{add_comm}
 use Rattle.std.proofs.Math.Bool.{and_comm}
 use Rattle.cha_board.specs.Squares.{squares, files_apart, ranks_apart, is_straight, is_diagonal, is_within, lies_between, between}
 use Rattle.cha_board.specs.SquareSets.{set_of, has_square, set_of_bits, bits_of_set, set_common, has_no_square}
 use Rattle.cha_board.specs.SetLaws.{has-set_of, set_of_bits-bits_of_set}
 use Rattle.cha_board.specs.Aims.{is_open}
-use Rattle.cha_board.proofs.Scans.{any_alike}
+use Rattle.cha_board.specs.Rays.{rays_between}
+use Rattle.cha_board.proofs.Scans.{all_squares_at, any_alike}
 
 -- the number whose bits are the squares between two squares
 unfoldable pub between_bits : ℕ → ℕ → ℕ
@@ -87,3 +89,16 @@ unfolding has_no_square set_common is_open between
 open_is occupied s t =
     ap not (any_alike (has_square (set_of (λ u. has_square (set_of (lies_between s t)) u && has_square occupied u))) (λ u. lies_between s t u && not (not (has_square occupied u))) (λ u small.
     has-set_of (λ u. has_square (set_of (lies_between s t)) u && has_square occupied u) u small ∙ ap (λ b. b && has_square occupied u) (has-set_of (lies_between s t) u small) ∙ twice_not (lies_between s t u) (has_square occupied u))) ∙ sym (all_kept (lies_between s t) (λ u. not (has_square occupied u)) squares)
+
+-- opposite rays from two squares share the squares between them
+rays_test : ℕ → ℕ → Bool
+rays_test s t = rays_between s t == between_bits s t
+
+rays_table : list_all (λ s. list_all (λ t. rays_test s t) squares) squares ≡ true
+unfolding rays_test rays_between between_bits bits_of_set lies_between is_within is_straight is_diagonal files_apart ranks_apart squares
+rays_table = refl
+
+pub rays_shown : (s t : ℕ) → s < 64 → t < 64 → set_of_bits (rays_between s t) ≡ set_of (lies_between s t)
+unfolding rays_test
+rays_shown s t small small' =
+    ap set_of_bits (eqb-true _ _ (all_squares_at (rays_test s) t (all_squares_at (λ s. list_all (rays_test s) squares) s rays_table small) small')) ∙ between_shown s t

@@ -148,7 +148,7 @@ or_none true = refl
 or_none false = refl
 
 -- a man is of one of the six kinds
-one_of_six : (k : Kind) (b : Bool) (f : Kind → Bool)
+pub one_of_six : (k : Kind) (b : Bool) (f : Kind → Bool)
     → (b && f k) ≡ ((((((b && same_kind k Pawn) && f Pawn) || ((b && same_kind k Knight) && f Knight)) || ((b && same_kind k King) && f King)) || ((b && same_kind k Bishop) && f Bishop))
     || ((b && same_kind k Rook) && f Rook)) || ((b && same_kind k Queen) && f Queen)
 one_of_six Pawn true f = or_none (f Pawn) ∙ or_none _ ∙ or_none _ ∙ or_none _ ∙ or_none _

@@ -6,3 +6,4 @@ pub mod SquareSets
 pub mod SetLaws
 pub mod Aims
 pub mod MenSets
+pub mod Rays

@@ -28,7 +28,7 @@ pub use aim::{
 pub use build::BuildFault;
 pub use men::{Color, Kind, Man, is_man_of, is_of_kind, is_of_side};
 pub use opening::OPENING_MEN;
-pub use over::{aims, aims_alone};
+pub use over::{aims, aims_alone, squares_between};
 pub use placement::Men;
 pub use position::{Position, Rights, attacks};
 pub use sets::SquareSet;

@@ -1,17 +1,43 @@
 //! What men aim at over squares of which some are occupied (Laws of Chess, Articles 3.1 to 3.8).
 
-ghost use Rattle.std.specs.Prelude.{◌≡◌};
+ghost use Rattle.std.specs.Prelude.{◌≡◌, ◌<◌};
 ghost use Rattle.cha_board.specs.declared.men.Color.TheVariants.{White};
 ghost use Rattle.cha_board.specs.declared.men.Kind.TheVariants.{Bishop, Rook};
+ghost use Rattle.cha_board.specs.Squares.{lies_between};
 ghost use Rattle.cha_board.specs.Squares.{aims_at as aims_at_square};
 ghost use Rattle.cha_board.specs.SquareSets.{set_of};
 ghost use Rattle.cha_board.specs.Aims.{aimed, seen_up, seen_down};
+ghost use Rattle.cha_board.specs.Rays.{rays_between};
 
 use crate::leaps::{BISHOP, BLACK_PAWN, KING, KNIGHT, ROOK, WHITE_PAWN};
 use crate::men::{Color, Kind};
 use crate::rays::{EAST, NORTH, NORTH_EAST, NORTH_WEST, SOUTH, SOUTH_EAST, SOUTH_WEST, WEST};
 use crate::sets::SquareSet;
 use crate::squares::Square;
+
+/// The squares strictly between two squares, as bits: those of a ray from each, where the two rays are opposite.
+#[tactic(auto, unfolding(crate::specs::Rays::rays_between))]
+fn between_rays(s: usize, t: usize) -> u64
+    requires s { s < 64 }
+    requires t { t < 64 }
+    ensures { result ≡ rays_between s t }
+{
+    (NORTH[s] & SOUTH[t])
+        | (SOUTH[s] & NORTH[t])
+        | (EAST[s] & WEST[t])
+        | (WEST[s] & EAST[t])
+        | (NORTH_EAST[s] & SOUTH_WEST[t])
+        | (SOUTH_WEST[s] & NORTH_EAST[t])
+        | (NORTH_WEST[s] & SOUTH_EAST[t])
+        | (SOUTH_EAST[s] & NORTH_WEST[t])
+}
+
+/// The squares strictly between two squares of one line; none between other squares.
+pub fn squares_between(s: Square, t: Square) -> SquareSet
+    ensures { result ≡ set_of (lies_between s t) }
+{
+    SquareSet::from_bits(between_rays(usize::from(s.index()), usize::from(t.index())))
+}
 
 /// The squares at which a man aims on an empty board. A pawn aims at the squares onto which it captures.
 pub fn aims_alone(of: Color, kind: Kind, from: Square) -> SquareSet

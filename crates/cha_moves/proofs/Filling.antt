@@ -37,7 +37,7 @@ attacks_by c men now t s (Some man) filled h =
     let both = and_parts (same_color man.color c && aims_at c man.kind s t) (is_clear now s t) h in
     and_from (same_color man.color c && aims_at c man.kind s t) (is_clear men s t) both.0 (clear_before c men now s t filled both.1)
 
-foreign_idle : (c : Color) (men : List (Option Man)) (t s : ℕ) (o : Option Man) → Foreign c o → attacks_as men c t s o ≡ true → ⊥
+pub foreign_idle : (c : Color) (men : List (Option Man)) (t s : ℕ) (o : Option Man) → Foreign c o → attacks_as men c t s o ≡ true → ⊥
 unfolding attacks_as
 foreign_idle c men t s None f h = cc
 foreign_idle c men t s (Some man) f h =
@@ -47,7 +47,7 @@ foreign_idle c men t s (Some man) f h =
     let there : same_color man.color c ≡ false = ap (λ (x : Man). same_color x.color c) same ∙ f.other in
     both_ways (same_color man.color c) there own
 
-attacks_before : (c : Color) (men now : List (Option Man)) (t s : ℕ) → IsFilled c men now → attacks_as now c t s (man_at now s) ≡ true → attacks_as men c t s (man_at men s) ≡ true
+pub attacks_before : (c : Color) (men now : List (Option Man)) (t s : ℕ) → IsFilled c men now → attacks_as now c t s (man_at now s) ≡ true → attacks_as men c t s (man_at men s) ≡ true
 attacks_before c men now t s filled h = elim (filled s) [
   | inl e ↦ attacks_by c men now t s (man_at men s) filled (ap (attacks_as now c t s) (sym e) ∙ h)
   | inr f ↦ absurd (foreign_idle c now t s (man_at now s) f h)

@@ -12,3 +12,6 @@ pub mod Arriving
 pub mod Goings
 pub mod Pushes
 pub mod Examples
+pub mod Clearing
+pub mod Shielding
+pub mod Facing

@@ -5,7 +5,8 @@ use Rattle.std.proofs.lemmas.List.Elements.{All-contains, All-filter, All-contai
 use Rattle.cha_board.specs.Squares.{squares}
 use Rattle.cha_board.proofs.Scans.{length_squares, square_at}
 
-not_in_nothing : {X : Type 0} (x : X) → Contains [] x → ⊥
+-- nothing is in the empty list
+pub not_in_nothing : {X : Type 0} (x : X) → Contains [] x → ⊥
 not_in_nothing x h = (let few = h.1 in omega (arith, few))
 
 -- an element stands first or in the rest

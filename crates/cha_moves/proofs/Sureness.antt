@@ -63,16 +63,16 @@ king_stays q m o =
     king_place (men_after q m) q.side k (kings_kept q m mover.0 step q.side) (omega (arith, long, inside)) (ap (is_man q.side King) there ∙ king)
 
 -- what arrives is a man of the mover
-record Arrival (c : Color) (o : Option Man) : Type 0 where
-  man : Man
-  found : o ≡ Some man
-  own : same_color man.color c ≡ true
+pub record Arrival (c : Color) (o : Option Man) : Type 0 where
+  pub man : Man
+  pub found : o ≡ Some man
+  pub own : same_color man.color c ≡ true
 
 arrival_by : (c : Color) (o : Option Man) (man : Man) (k : Option Kind) → o ≡ Some man → same_color man.color c ≡ true → Arrival c (arriving o k)
 arrival_by c o man None found own = record { man = man; found = found; own = own }
 arrival_by c o man (Some k) found own = record { man = record { color = man.color; kind = k }; found = ap (λ (x : Option Man). arriving x (Some k)) found; own = own }
 
-arrival : (q : Board) (m : Move) → Ordinary q m → Arrival q.side (arriving (man_at q.men m.from) m.promotion)
+pub arrival : (q : Board) (m : Move) → Ordinary q m → Arrival q.side (arriving (man_at q.men m.from) m.promotion)
 arrival q m o = (let mover = may_gives q m o.may in arrival_by q.side (man_at q.men m.from) mover.0 m.promotion mover.1.found mover.1.own)
 
 -- the men without the one that moves
@@ -80,20 +80,20 @@ abbrev pub men_left : Board → ℕ → List (Option Man)
 men_left q s = slice_set q.men s None
 
 -- the king is attacked afterwards where the square of the king was attacked over what has moved
-check_after : (q : Board) (m : Move) → Ordinary q m → in_check (men_after q m) q.side ≡ attacked (men_moved q m) (other_color q.side) (king_of q.men q.side)
+pub check_after : (q : Board) (m : Move) → Ordinary q m → in_check (men_after q m) q.side ≡ attacked (men_moved q m) (other_color q.side) (king_of q.men q.side)
 unfolding in_check
 check_after q m o =
     ap (λ k. attacked (men_after q m) (other_color q.side) k) (king_stays q m o)
     ∙ ap (λ (xs : List (Option Man)). attacked xs (other_color q.side) (king_of q.men q.side)) (moves_one q m o)
 
-legal_if : (q : Board) (m : Move) → is_pseudo_legal q m ≡ true → is_legal_in q m ≡ not (in_check (men_after q m) q.side)
+pub legal_if : (q : Board) (m : Move) → is_pseudo_legal q m ≡ true → is_legal_in q m ≡ not (in_check (men_after q m) q.side)
 unfolding is_legal_in
 legal_if q m h = rw h refl
 
-left_long : (q : Board) (m : Move) → Ordinary q m → m.to < length (men_left q m.from)
+pub left_long : (q : Board) (m : Move) → Ordinary q m → m.to < length (men_left q m.from)
 left_long q m o = (let size = o.valid.size in rw length-set (omega (arith, size, o.to)))
 
-not_enemy : (a c : Color) → same_color a c ≡ true → same_color a (other_color c) ≡ false
+pub not_enemy : (a c : Color) → same_color a c ≡ true → same_color a (other_color c) ≡ false
 not_enemy a c own = false_from_ne_true (same_color a (other_color c)) (λ h. one_color a c own h)
 
 -- where the king is not attacked even without the man that moves, the move is legal

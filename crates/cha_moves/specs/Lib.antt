@@ -4,3 +4,4 @@ pub mod Ends
 pub mod Standings
 pub mod Texts
 pub mod Ways
+pub mod Shields

@@ -12,6 +12,7 @@ mod lines;
 mod list;
 mod makes;
 mod safety;
+mod shields;
 mod sides;
 mod some;
 mod step;

@@ -93,7 +93,7 @@ not_last_target White r e f = cc
 not_last_target Black r e f = cc
 
 -- a promotion is no capture en passant
-promotion_ordinary : (q : Board) (s t : ℕ) (man : Man) (j : Kind) → Going q s t man → is_promoted q.side man.kind t ≡ true → is_promotion (Some j) ≡ true → Ordinary q (record { from = s; to = t; promotion = Some j })
+pub promotion_ordinary : (q : Board) (s t : ℕ) (man : Man) (j : Kind) → Going q s t man → is_promoted q.side man.kind t ≡ true → is_promotion (Some j) ≡ true → Ordinary q (record { from = s; to = t; promotion = Some j })
 promotion_ordinary q s t man j g h p =
     let both = and_parts (same_kind man.kind Pawn) (rank_of t == last_rank q.side) h in
     let pawn = same_kind_equal man.kind Pawn both.0 in

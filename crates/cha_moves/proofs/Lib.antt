@@ -15,3 +15,4 @@ pub mod Examples
 pub mod Clearing
 pub mod Shielding
 pub mod Facing
+pub mod GoingLegally

@@ -2,11 +2,13 @@
 use Rattle.std.specs.Prelude.{◌≡◌, ℕ, ◌<◌, ◌==◌, Bool, true, false, ◌&&◌, ◌||◌, List, [], ◌∷◌, Option, Some, None, slice_set}
 use Rattle.cha_board.specs.declared.men.Color.{Color}
 use Rattle.cha_board.specs.declared.men.Man.{Man}
-use Rattle.cha_board.specs.Men.{other_color, same_color}
+use Rattle.cha_board.specs.declared.men.Kind.TheVariants.{King}
+use Rattle.cha_board.specs.Men.{other_color, same_color, is_man}
 use Rattle.cha_board.specs.Squares.{aims_at, lies_between}
 use Rattle.cha_board.specs.Board.{Board, man_at, attacks_as, king_of}
 use Rattle.cha_board.specs.SquareSets.{has_square}
 use Rattle.cha_moves.specs.Step.{Move}
+use Rattle.cha_moves.specs.Moves.{captures_en_passant}
 use Rattle.cha_moves.specs.Ways.{legal_between}
 
 -- a man of c that stands on u aims at k, over whatever squares
@@ -39,6 +41,12 @@ pub record AreShields (q : Board) (answers pinned : List Bool) : Type 0 where
   pub stopped : (u t : ℕ) → u < 64 → t < 64 → checks q q.men u ≡ true → has_square answers t ≡ true → stops (king_of q.men q.side) u t ≡ true
   pub unstopped : (t : ℕ) → t < 64 → has_square answers t ≡ false → Unstopped q t
   pub shielded : (s u : ℕ) → s < 64 → u < 64 → has_square pinned s ≡ false → checks q (men_less q s) u ≡ true → checks q q.men u ≡ true
+
+-- A man that is no king and not pinned, and captures nothing en passant.
+pub record IsFree (q : Board) (pinned : List Bool) (s : ℕ) : Type 0 where
+  pub no_king : is_man q.side King (man_at q.men s) ≡ false
+  pub no_passing : (t : ℕ) → captures_en_passant q (man_at q.men s) s t ≡ false
+  pub unpinned : has_square pinned s ≡ false
 
 -- there is some move
 abbrev pub some_move : List Move → Bool

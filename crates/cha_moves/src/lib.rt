@@ -8,6 +8,7 @@
 
 mod ends;
 mod goes;
+mod legally;
 mod lines;
 mod list;
 mod makes;

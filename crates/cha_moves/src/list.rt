@@ -1,17 +1,19 @@
 //! The list of the legal moves, and the position after one (Laws of Chess, Articles 3.9.2 and 3.10.1).
 
-ghost use Rattle.std.specs.Prelude.{◌≡◌, ◌<◌, ◌↔◌, ◌++◌, [], ◌∷◌, if◌then◌else◌, filter, IsTrue, Some, OnOk, IfOk, Contains};
-ghost use Rattle.std.specs.Bool.{OnTrue};
+ghost use Rattle.std.specs.Prelude.{◌≡◌, ◌<◌, ◌↔◌, ◌++◌, [], ◌∷◌, filter, IsTrue, Some, OnOk, IfOk, Contains};
 ghost use Rattle.cha_board.specs.Board.{man_at};
-ghost use Rattle.cha_moves.specs.Moves.{is_pseudo_legal as is_pseudo_legal_in, is_legal_in, moves_from};
+ghost use Rattle.cha_moves.specs.Moves.{is_legal_in, moves_from};
 ghost use Rattle.cha_moves.specs.Moves.{legal as legal_moves, after as position_after};
-ghost use Rattle.cha_moves.specs.Ways.{is_way, legal_between, IsSure};
+ghost use Rattle.cha_moves.specs.Ways.{legal_between};
+ghost use Rattle.cha_moves.specs.Shields.{AreShields, goes_legally};
 
 use crate::goes::promotes;
+use crate::legally::legal_ways;
 use crate::makes::{men_made, rights_made, target_made};
-use crate::safety::{is_sure, stays_safe};
+use crate::safety::stays_safe;
+use crate::shields::{Shields, shields_of};
 use crate::step::Move;
-use crate::ways::{is_pseudo_legal, ways_of};
+use crate::ways::is_pseudo_legal;
 use cha_board::{Kind, Man, Position, Square};
 use cha_list::{Listed, NoMemory};
 use std::alloc::Global;
@@ -25,30 +27,6 @@ pub type Positions = Listed<Position>;
 /// How many moves the list of legal moves has room for from the start. Few positions of games have more.
 const ROOM: usize = 48;
 
-/// Appends a move without a promotion, if it is legal.
-fn add_move(
-    position: &Position,
-    moves: &mut Vec<Move>,
-    from: Square,
-    to: Square,
-    sure: bool,
-) -> Result<(), NoMemory>
-    requires may { IsTrue (is_pseudo_legal_in position.now (record { from = from; to = to; promotion = None })) }
-    requires sure { OnTrue sure (IsSure position.now from) }
-    ensures { OnOk result (moves.new.items ≡ moves.old.items ++ (if is_legal_in position.now (record { from = from; to = to; promotion = None }) then record { from = from; to = to; promotion = None } ∷ [] else [])) }
-{
-    let _to = to.index();
-    let m = Move {
-        from,
-        to,
-        promotion: None,
-    };
-    if stays_safe(position, m, sure) {
-        moves.push(m)?;
-    }
-    Ok(())
-}
-
 /// A promotion.
 fn promotion(from: Square, to: Square, kind: Kind) -> Move
     ensures { result ≡ record { from = from; to = to; promotion = Some kind } }
@@ -60,66 +38,60 @@ fn promotion(from: Square, to: Square, kind: Kind) -> Move
     }
 }
 
-/// Appends the four promotions of a pawn, if they are legal. They are legal alike, so the king is asked once.
-fn add_promotions(
-    position: &Position,
-    moves: &mut Vec<Move>,
-    from: Square,
-    to: Square,
-    sure: bool,
-) -> Result<(), NoMemory>
-    requires may { IsTrue (is_pseudo_legal_in position.now (record { from = from; to = to; promotion = Some Kind.Queen })) }
-    requires sure { OnTrue sure (IsSure position.now from) }
-    ensures { OnOk result (moves.new.items ≡ moves.old.items ++ (if is_legal_in position.now (record { from = from; to = to; promotion = Some Kind.Queen }) then record { from = from; to = to; promotion = Some Kind.Queen } ∷ record { from = from; to = to; promotion = Some Kind.Rook } ∷ record { from = from; to = to; promotion = Some Kind.Bishop } ∷ record { from = from; to = to; promotion = Some Kind.Knight } ∷ [] else [])) }
+/// Appends the four promotions of a pawn.
+fn add_promotions(moves: &mut Vec<Move>, from: Square, to: Square) -> Result<(), NoMemory>
+    ensures { OnOk result (moves.new.items ≡ moves.old.items ++ (record { from = from; to = to; promotion = Some Kind.Queen } ∷ record { from = from; to = to; promotion = Some Kind.Rook } ∷ record { from = from; to = to; promotion = Some Kind.Bishop } ∷ record { from = from; to = to; promotion = Some Kind.Knight } ∷ [])) }
 {
-    let _to = to.index();
-    if stays_safe(position, promotion(from, to, Kind::Queen), sure) {
-        moves.push(promotion(from, to, Kind::Queen))?;
-        moves.push(promotion(from, to, Kind::Rook))?;
-        moves.push(promotion(from, to, Kind::Bishop))?;
-        moves.push(promotion(from, to, Kind::Knight))?;
-    }
+    moves.push(promotion(from, to, Kind::Queen))?;
+    moves.push(promotion(from, to, Kind::Rook))?;
+    moves.push(promotion(from, to, Kind::Bishop))?;
+    moves.push(promotion(from, to, Kind::Knight))?;
     Ok(())
 }
 
-/// Appends the legal moves from one square to another to which the man there may go.
+/// Appends the legal moves from one square to another to which the man there goes legally.
 fn add_way(
     position: &Position,
     moves: &mut Vec<Move>,
     man: Man,
     from: Square,
     to: Square,
-    sure: bool,
 ) -> Result<(), NoMemory>
     requires man { man_at position.now.men from ≡ Some man }
-    requires way { IsTrue (is_way position.now from to) }
-    requires sure { OnTrue sure (IsSure position.now from) }
+    requires way { IsTrue (goes_legally position.now from to) }
     ensures { OnOk result (moves.new.items ≡ moves.old.items ++ legal_between position.now from to) }
 {
     // The moves of a way are told of valid positions.
     position.known();
     let _squares = (from.index(), to.index());
     if promotes(position.side(), man.kind, to) {
-        add_promotions(position, moves, from, to, sure)
+        add_promotions(moves, from, to)?;
     } else {
-        add_move(position, moves, from, to, sure)
+        moves.push(Move {
+            from,
+            to,
+            promotion: None,
+        })?;
     }
+    Ok(())
 }
 
 /// Appends the legal moves from a square.
-fn add_from(position: &Position, moves: &mut Vec<Move>, from: Square) -> Result<(), NoMemory>
+fn add_from(
+    position: &Position,
+    shields: &Shields,
+    moves: &mut Vec<Move>,
+    from: Square,
+) -> Result<(), NoMemory>
+    requires { AreShields position.now shields.now.answers shields.now.pinned }
     ensures { OnOk result (moves.new.items ≡ moves.old.items ++ filter (is_legal_in position.now) (moves_from from)) }
 {
     let Some(man) = position.man(from) else {
         return Ok(());
     };
-    let mut left = ways_of(position, man, from);
-    if left.is_empty() {
-        return Ok(());
-    }
-    let sure = is_sure(position, man, from);
+    let mut left = legal_ways(position, shields, man, from);
     while let Some(to) = left.first() {
-        add_way(position, moves, man, from, to, sure)?;
+        add_way(position, moves, man, from, to)?;
         left = left.without(to);
     }
     Ok(())
@@ -130,10 +102,11 @@ fn add_from(position: &Position, moves: &mut Vec<Move>, from: Square) -> Result<
 pub fn legal(alloc: Global, position: &Position) -> Result<Vec<Move>, NoMemory>
     ensures { IfOk result (λ moves. moves.items ≡ legal_moves position.now) }
 {
+    let shields = shields_of(position);
     let mut moves = Vec::with_capacity(alloc, ROOM)?;
     let mut left = position.placement().of_side(position.side());
     while let Some(from) = left.first() {
-        add_from(position, &mut moves, from)?;
+        add_from(position, &shields, &mut moves, from)?;
         left = left.without(from);
     }
     Ok(moves)
@@ -152,7 +125,7 @@ pub fn is_legal(position: &Position, m: Move) -> bool
 fn is_allowed(position: &Position, m: Move) -> bool
     ensures { result ≡ is_legal_in position.now m }
 {
-    is_pseudo_legal(position, m) && stays_safe(position, m, false)
+    is_pseudo_legal(position, m) && stays_safe(position, m)
 }
 
 /// The position after a legal move.

@@ -25,47 +25,21 @@ fn men_kept(position: &Position, m: Move) -> Men
     men_made(position, m)
 }
 
-/// Whether a move is legal that may be made but for what its king suffers. The king is not asked where it is sure.
+/// Whether a move is legal that may be made but for what its king suffers.
 #[tactic(auto, unfolding(crate::specs::Moves::is_legal_in))]
-pub fn stays_safe(position: &Position, m: Move, sure: bool) -> bool
-    requires may { IsTrue (is_pseudo_legal position.now m) }
-    requires sure { OnTrue sure (IsTrue (is_legal_in position.now m)) }
+pub fn stays_safe(position: &Position, m: Move) -> bool
+    requires { IsTrue (is_pseudo_legal position.now m) }
     ensures { result ≡ is_legal_in position.now m }
 {
-    sure || !men_kept(position, m).in_check(position.side())
-}
-
-/// Whether the king of the side to move would not be attacked if nothing stood on a square.
-fn is_safe_without(position: &Position, at: Square) -> bool
-    ensures { result ≡ not (attacked (slice_set position.now.men at None) (other_color position.now.side) (king_of position.now.men position.now.side)) }
-{
-    let side = position.side();
-    let men = position.placement().put(at, None);
-    !men.attacks(side.other(), position.king(side))
+    !men_kept(position, m).in_check(position.side())
 }
 
 /// Whether a pawn of the side to move on a square may capture en passant.
-fn may_pass(position: &Position, s: Square) -> bool
+pub fn may_pass(position: &Position, s: Square) -> bool
     ensures { OnFalse result ((t : ℕ) → is_en_passant position.now s t ≡ false) }
 {
     match position.target() {
         None => false,
         Some(target) => goes_en_passant(position, s, target),
-    }
-}
-
-/// Whether each way of the man on a square is sure to be legal: a man that is no king, does not capture en passant and
-/// without which the king is not attacked.
-pub fn is_sure(position: &Position, man: Man, from: Square) -> bool
-    requires { man_at position.now.men from ≡ Some man }
-    ensures { OnTrue result (IsSure position.now from) }
-{
-    // The moves of the man are told of valid positions.
-    position.known();
-    let _from = from.index();
-    match man.kind {
-        Kind::King => false,
-        Kind::Pawn => !may_pass(position, from) && is_safe_without(position, from),
-        _ => is_safe_without(position, from),
     }
 }

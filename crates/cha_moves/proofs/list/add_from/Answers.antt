@@ -5,7 +5,8 @@ use Rattle.cha_board.specs.SquareSets.{squares_in}
 use Rattle.cha_board.specs.SetLaws.{squares_from_first, no_first_square}
 use Rattle.cha_moves.specs.Moves.{is_legal_in, moves_between, moves_from}
 use Rattle.cha_moves.proofs.Pieces.{Contains-cons_here, Contains-cons_there}
-use Rattle.cha_moves.proofs.WayLaws.{no_own_move, legal_by_ways, each_is_way, none_in, between_next, fewer}
+use Rattle.cha_moves.proofs.WayLaws.{no_own_move, between_next, fewer}
+use Rattle.cha_moves.proofs.GoingLegally.{legal_by_goings, each_goes}
 use Rattle.cha_moves.proofs.list.add_from.Goals as goal
 
 pub returns-in_default : goal.returns-in_default
@@ -14,22 +15,13 @@ returns-in_default c =
     let none = no_own_move q c.args.from (ap (is_of q.side) (sym c.man.ensures ∙ c.in_default.is)) in
     sym (ap (λ xs. c.args.moves.now.items ++ xs) none ∙ append-nil c.args.moves.now.items)
 
-pub returns-then-is_empty : goal.returns-then-is_empty
-returns-then-is_empty c =
-    let q = c.args.position.now in
-    let empty = none_in c.ways_of-left.result (sym c.is_empty.ensures ∙ c.if-is_empty.true) in
-    let none : filter (is_legal_in q) (moves_from c.args.from) ≡ [] =
-    sym (legal_by_ways q c.args.from)
-    ∙ ap (λ xs. filter (is_legal_in q) (flat_map (moves_between c.args.from) xs)) (ap squares_in (sym c.ways_of-left.ensures) ∙ empty) in
-    sym (ap (λ xs. c.args.moves.now.items ++ xs) none ∙ append-nil c.args.moves.now.items)
-
 pub loop-to-init : goal.loop-to-init
 loop-to-init c =
     let q = c.args.position.now in
     record {
-      so_far = ap (λ xs. c.args.moves.now.items ++ filter (is_legal_in q) (flat_map (moves_between c.args.from) (squares_in xs))) c.ways_of-left.ensures
-          ∙ ap (λ xs. c.args.moves.now.items ++ xs) (legal_by_ways q c.args.from);
-      ways = λ t inside. each_is_way q c.args.from t c.ways_of-left.result c.ways_of-left.ensures inside;
+      so_far = ap (λ xs. c.args.moves.now.items ++ filter (is_legal_in q) (flat_map (moves_between c.args.from) (squares_in xs))) c.legal_ways-left.ensures
+          ∙ ap (λ xs. c.args.moves.now.items ++ xs) (legal_by_goings q c.args.from);
+      ways = λ t inside. each_goes q c.args.from t c.legal_ways-left.result c.legal_ways-left.ensures inside;
     }
 
 pub add_way-requires-clause-way : goal.add_way-requires-clause-way

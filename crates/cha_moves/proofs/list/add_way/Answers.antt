@@ -1,37 +1,26 @@
-use Rattle.std.proofs.Common.{◌≡◌, ◌<◌, true, false, refl, sym, ap, ◌∙◌, arith}
+use Rattle.std.proofs.Common.{◌≡◌, ◌<◌, ◌++◌, true, false, cond, [], ◌∷◌, refl, sym, ap, ◌∙◌, arith}
 use Rattle.cha_board.specs.declared.men.Kind.TheVariants.{Queen}
 use Rattle.cha_moves.specs.Ways.{is_promoted}
-use Rattle.cha_moves.proofs.Arriving.{Going, going_plain, going_promoted, moves_plain, moves_promoted}
+use Rattle.cha_moves.proofs.Arriving.{Going, moves_plain, moves_promoted}
+use Rattle.cha_moves.proofs.GoingLegally.{goes_a_way, goes_plain, goes_promoted}
 use Rattle.cha_moves.proofs.list.add_way.Goals as goal
 
-pub add_promotions-requires-clause-may : goal.add_promotions-requires-clause-may
-add_promotions-requires-clause-may c =
+pub returns-in_ok-add_promotions : goal.returns-in_ok-add_promotions
+returns-in_ok-add_promotions c =
+    let q = c.args.position.now in
     let from : c.args.from < 64 = omega arith in
     let to : c.args.to < 64 = omega arith in
-    let going : Going c.args.position.now c.args.from c.args.to c.args.man = record { valid = c.known.ensures; from = from; to = to; found = c.requires.man; way = c.requires.way } in
-    let promoted : is_promoted c.args.position.now.side c.args.man.kind c.args.to ≡ true = ap (λ x. is_promoted x c.args.man.kind c.args.to) (sym c.side.ensures) ∙ sym c.promotes.ensures ∙ c.if-promotes.true in
-    going_promoted c.args.position.now c.args.from c.args.to c.args.man Queen going promoted refl
+    let going : Going q c.args.from c.args.to c.args.man = record { valid = c.known.ensures; from = from; to = to; found = c.requires.man; way = goes_a_way q c.args.from c.args.to c.requires.way } in
+    let promoted : is_promoted q.side c.args.man.kind c.args.to ≡ true = ap (λ x. is_promoted x c.args.man.kind c.args.to) (sym c.side.ensures) ∙ sym c.promotes.ensures ∙ c.if-promotes.true in
+    let legal = sym (goes_promoted q c.args.from c.args.to c.args.man going promoted) ∙ c.requires.way in
+    rw (moves_promoted q c.args.from c.args.to c.args.man going promoted, legal) c.in_ok-add_promotions.ensures
 
-pub add_move-requires-clause-may : goal.add_move-requires-clause-may
-add_move-requires-clause-may c =
+pub returns-in_ok-push : goal.returns-in_ok-push
+returns-in_ok-push c =
+    let q = c.args.position.now in
     let from : c.args.from < 64 = omega arith in
     let to : c.args.to < 64 = omega arith in
-    let going : Going c.args.position.now c.args.from c.args.to c.args.man = record { valid = c.known.ensures; from = from; to = to; found = c.requires.man; way = c.requires.way } in
-    let plain : is_promoted c.args.position.now.side c.args.man.kind c.args.to ≡ false = ap (λ x. is_promoted x c.args.man.kind c.args.to) (sym c.side.ensures) ∙ sym c.promotes.ensures ∙ c.if-promotes.false in
-    going_plain c.args.position.now c.args.from c.args.to c.args.man going plain
-
-pub returns-then-promotes : goal.returns-then-promotes
-returns-then-promotes c =
-    let from : c.args.from < 64 = omega arith in
-    let to : c.args.to < 64 = omega arith in
-    let going : Going c.args.position.now c.args.from c.args.to c.args.man = record { valid = c.known.ensures; from = from; to = to; found = c.requires.man; way = c.requires.way } in
-    let promoted : is_promoted c.args.position.now.side c.args.man.kind c.args.to ≡ true = ap (λ x. is_promoted x c.args.man.kind c.args.to) (sym c.side.ensures) ∙ sym c.promotes.ensures ∙ c.if-promotes.true in
-    rw (moves_promoted c.args.position.now c.args.from c.args.to c.args.man going promoted) c.add_promotions.ensures
-
-pub returns-else-promotes : goal.returns-else-promotes
-returns-else-promotes c =
-    let from : c.args.from < 64 = omega arith in
-    let to : c.args.to < 64 = omega arith in
-    let going : Going c.args.position.now c.args.from c.args.to c.args.man = record { valid = c.known.ensures; from = from; to = to; found = c.requires.man; way = c.requires.way } in
-    let plain : is_promoted c.args.position.now.side c.args.man.kind c.args.to ≡ false = ap (λ x. is_promoted x c.args.man.kind c.args.to) (sym c.side.ensures) ∙ sym c.promotes.ensures ∙ c.if-promotes.false in
-    rw (moves_plain c.args.position.now c.args.from c.args.to c.args.man going plain) c.add_move.ensures
+    let going : Going q c.args.from c.args.to c.args.man = record { valid = c.known.ensures; from = from; to = to; found = c.requires.man; way = goes_a_way q c.args.from c.args.to c.requires.way } in
+    let plain : is_promoted q.side c.args.man.kind c.args.to ≡ false = ap (λ x. is_promoted x c.args.man.kind c.args.to) (sym c.side.ensures) ∙ sym c.promotes.ensures ∙ c.if-promotes.false in
+    let legal = sym (goes_plain q c.args.from c.args.to c.args.man going plain) ∙ c.requires.way in
+    rw (moves_plain q c.args.from c.args.to c.args.man going plain, legal) c.in_ok-push.ensures.items

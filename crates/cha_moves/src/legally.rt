@@ -1,0 +1,111 @@
+//! Which ways of a man are legal (Laws of Chess, Article 3.9.2).
+
+ghost use Rattle.std.specs.Prelude.{◌≡◌, IsTrue, Some};
+ghost use Rattle.std.specs.Bool.{OnFalse};
+ghost use Rattle.cha_board.specs.Board.{man_at};
+ghost use Rattle.cha_board.specs.SquareSets.{set_of};
+ghost use Rattle.cha_moves.specs.Ways.{is_way};
+ghost use Rattle.cha_moves.specs.Shields.{AreShields, IsFree, men_less, goes_legally};
+
+use crate::goes::promotes;
+use crate::safety::{may_pass, stays_safe};
+use crate::shields::Shields;
+use crate::step::Move;
+use crate::ways::ways_of;
+use cha_board::{Kind, Man, Men, Position, Square, SquareSet, aims_at};
+
+/// Whether some move is legal from one square to another to which the man there may go, as the men after it tell.
+fn is_legal_way(position: &Position, man: Man, from: Square, to: Square) -> bool
+    requires man { man_at position.now.men from ≡ Some man }
+    requires way { IsTrue (is_way position.now from to) }
+    ensures { result ≡ goes_legally position.now from to }
+{
+    // The moves of a way are told of valid positions.
+    position.known();
+    let _squares = (from.index(), to.index());
+    if promotes(position.side(), man.kind, to) {
+        let promotion = Some(Kind::Queen);
+        stays_safe(
+            position,
+            Move {
+                from,
+                to,
+                promotion,
+            },
+        )
+    } else {
+        let promotion = None;
+        stays_safe(
+            position,
+            Move {
+                from,
+                to,
+                promotion,
+            },
+        )
+    }
+}
+
+/// Whether some move is legal from one square to another to which the man there may go. A king that does not castle asks
+/// only whether its new square is attacked over the men without it.
+fn goes_well(position: &Position, less: &Men, man: Man, from: Square, to: Square) -> bool
+    requires man { man_at position.now.men from ≡ Some man }
+    requires way { IsTrue (is_way position.now from to) }
+    requires less { less.now ≡ men_less position.now from }
+    ensures { result ≡ goes_legally position.now from to }
+{
+    position.known();
+    let _squares = (from.index(), to.index());
+    let side = position.side();
+    if man.kind.is(Kind::King) && aims_at(side, Kind::King, from, to) {
+        !less.attacks(side.other(), to)
+    } else {
+        is_legal_way(position, man, from, to)
+    }
+}
+
+/// The legal ones of the ways of a man, each of which is asked.
+fn sifted(position: &Position, man: Man, from: Square, ways: SquareSet) -> SquareSet
+    requires man { man_at position.now.men from ≡ Some man }
+    requires ways { ways ≡ set_of (is_way position.now from) }
+    ensures { result ≡ set_of (goes_legally position.now from) }
+{
+    let less = position.placement().put(from, None);
+    let mut legal = ways;
+    let mut left = ways;
+    while let Some(to) = left.first() {
+        legal = legal.placed(to, goes_well(position, &less, man, from, to));
+        left = left.without(to);
+    }
+    legal
+}
+
+/// Whether the man on a square has to ask its king for each of its ways: a king, a pawn that may capture en passant, and a
+/// man that may be pinned.
+fn has_to_ask(position: &Position, shields: &Shields, man: Man, from: Square) -> bool
+    requires man { man_at position.now.men from ≡ Some man }
+    ensures { OnFalse result (IsFree position.now shields.now.pinned from) }
+{
+    match man.kind {
+        Kind::King => true,
+        Kind::Pawn => shields.pinned.has(from) || may_pass(position, from),
+        _ => shields.pinned.has(from),
+    }
+}
+
+/// The squares to which the man on a square goes legally.
+pub fn legal_ways(position: &Position, shields: &Shields, man: Man, from: Square) -> SquareSet
+    requires man { man_at position.now.men from ≡ Some man }
+    requires shields { AreShields position.now shields.now.answers shields.now.pinned }
+    ensures { result ≡ set_of (goes_legally position.now from) }
+{
+    // The ways of a man are told of valid positions.
+    position.known();
+    let _from = from.index();
+    let ways = ways_of(position, man, from);
+    if has_to_ask(position, shields, man, from) {
+        sifted(position, man, from, ways)
+    } else {
+        ways.common(shields.answers)
+    }
+}

@@ -112,6 +112,22 @@ impl Men {
         }
     }
 
+    /// The men once nothing stands on a square.
+    pub fn lifted(&self, at: Square) -> Men
+        ensures { result ≡ slice_set self.now at None }
+    {
+        Men {
+            white: self.white.without(at),
+            black: self.black.without(at),
+            pawns: self.pawns.without(at),
+            knights: self.knights.without(at),
+            bishops: self.bishops.without(at),
+            rooks: self.rooks.without(at),
+            queens: self.queens.without(at),
+            kings: self.kings.without(at),
+        }
+    }
+
     /// The squares on which men of this side stand.
     pub fn of_side(&self, color: Color) -> SquareSet
         ensures { result ≡ set_of (λ s. is_of color (man_at self.now s)) }

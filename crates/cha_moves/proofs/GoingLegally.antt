@@ -11,11 +11,11 @@ use Rattle.cha_board.specs.declared.men.Man.{Man}
 use Rattle.cha_board.specs.Men.{other_color, same_color, same_kind, is_vacant, is_man}
 use Rattle.cha_board.specs.Squares.{squares, rank_of, aims_at, files_apart, ranks_apart, steps_apart, is_straight, is_diagonal, is_line, is_rank_ahead, is_within, lies_between}
 use Rattle.cha_board.specs.Board.{Board, IsValid, man_at, is_empty, attacks_as, attacked, in_check, king_of, home_of}
-use Rattle.cha_board.specs.SquareSets.{set_of, has_square, squares_in, set_common, set_without, set_placed}
+use Rattle.cha_board.specs.SquareSets.{set_of, has_square, squares_in, set_of_bits, set_common, set_without, set_placed}
 use Rattle.cha_board.specs.SetLaws.{has-set_of, same_set, same_squares, length-set_of}
 use Rattle.cha_board.proofs.Sightings.{attacked_from, attacked_by_none}
 use Rattle.cha_moves.specs.Step.{Move}
-use Rattle.cha_moves.specs.Moves.{is_legal_in, is_en_passant, captures_en_passant, is_short_castling, is_long_castling, castles_short, castles_long, moves_between, moves_from, men_after, arriving}
+use Rattle.cha_moves.specs.Moves.{last_rank, is_legal_in, is_en_passant, captures_en_passant, is_short_castling, is_long_castling, castles_short, castles_long, moves_between, moves_from, men_after, arriving}
 use Rattle.cha_moves.specs.Ways.{is_way, is_promoted, legal_between}
 use Rattle.cha_moves.specs.Shields.{aims_as, men_less, AreShields, IsFree, some_move, goes_legally}
 use Rattle.cha_moves.proofs.Identity.{some_inj, man_of, same_color_self, same_kind_equal, one_kind, two_kinds}
@@ -131,12 +131,13 @@ none_at_home c Rook t = straight_self t
 none_at_home c Queen t = rw (straight_self t, diagonal_self t) refl
 none_at_home c King t = rw (files_self t, ranks_self t) refl
 
-unaimed : (c : Color) (t : ℕ) (o : Option Man) → aims_as c t t o ≡ true → ⊥
+-- a man that aims at its own square is none
+pub unaimed : (c : Color) (t : ℕ) (o : Option Man) → aims_as c t t o ≡ true → ⊥
 unaimed c t None h = cc
 unaimed c t (Some man) h = both_ways (aims_at c man.kind t t) (none_at_home c man.kind t) (and_parts (same_color man.color c) (aims_at c man.kind t t) h).1
 
 -- t does not lie between itself and another square
-not_between : (u t : ℕ) → lies_between u t t ≡ false
+pub not_between : (u t : ℕ) → lies_between u t t ≡ false
 unfolding lies_between
 not_between u t =
     and_right (is_within u t t) ((is_straight u t && is_straight u t && is_straight t t) || (is_diagonal u t && is_diagonal u t && is_diagonal t t))
@@ -236,3 +237,15 @@ sifted_one q s u left legal b small e f =
 pub all_sifted : (q : Board) (s : ℕ) (left legal : List Bool) → Sifted q s left legal → squares_in left ≡ [] → legal ≡ set_of (goes_legally q s)
 all_sifted q s left legal f none =
     same_squares legal (set_of (goes_legally q s)) f.size (length-set_of (goes_legally q s)) (λ t small. f.told t small (none_left left none t small) ∙ sym (has-set_of (goes_legally q s) t small))
+
+-- the squares on which a man is promoted
+pub none_promoted : (c : Color) (k : Kind) → same_kind k Pawn ≡ false → set_of (λ _. false) ≡ set_of (is_promoted c k)
+none_promoted c k h = same_set (λ _. false) (is_promoted c k) (λ t _. sym (and_left (same_kind k Pawn) (rank_of t == last_rank c) h))
+
+pub white_promoted : set_of_bits 18374686479671623680 ≡ set_of (is_promoted White Pawn)
+unfolding squares
+white_promoted = refl
+
+pub black_promoted : set_of_bits 255 ≡ set_of (is_promoted Black Pawn)
+unfolding squares
+black_promoted = refl

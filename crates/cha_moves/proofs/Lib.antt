@@ -16,3 +16,4 @@ pub mod Clearing
 pub mod Shielding
 pub mod Facing
 pub mod GoingLegally
+pub mod SafeCastling

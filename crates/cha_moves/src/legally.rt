@@ -46,8 +46,8 @@ fn is_legal_way(position: &Position, man: Man, from: Square, to: Square) -> bool
     }
 }
 
-/// Whether some move is legal from one square to another to which the man there may go. A king that does not castle asks
-/// only whether its new square is attacked over the men without it.
+/// Whether some move is legal from one square to another to which the man there may go. A king asks only whether its new
+/// square is attacked over the men without it, and that is known where it castles.
 fn goes_well(position: &Position, less: &Men, man: Man, from: Square, to: Square) -> bool
     requires man { man_at position.now.men from ≡ Some man }
     requires way { IsTrue (is_way position.now from to) }
@@ -56,11 +56,14 @@ fn goes_well(position: &Position, less: &Men, man: Man, from: Square, to: Square
 {
     position.known();
     let _squares = (from.index(), to.index());
+    if !man.kind.is(Kind::King) {
+        return is_legal_way(position, man, from, to);
+    }
     let side = position.side();
-    if man.kind.is(Kind::King) && aims_at(side, Kind::King, from, to) {
+    if aims_at(side, Kind::King, from, to) {
         !less.attacks(side.other(), to)
     } else {
-        is_legal_way(position, man, from, to)
+        true
     }
 }
 
@@ -70,7 +73,7 @@ fn sifted(position: &Position, man: Man, from: Square, ways: SquareSet) -> Squar
     requires ways { ways ≡ set_of (is_way position.now from) }
     ensures { result ≡ set_of (goes_legally position.now from) }
 {
-    let less = position.placement().put(from, None);
+    let less = position.placement().lifted(from);
     let mut legal = ways;
     let mut left = ways;
     while let Some(to) = left.first() {

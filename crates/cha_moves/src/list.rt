@@ -4,17 +4,17 @@ ghost use Rattle.std.specs.Prelude.{◌≡◌, ◌<◌, ◌↔◌, ◌++◌, [],
 ghost use Rattle.cha_board.specs.Board.{man_at};
 ghost use Rattle.cha_moves.specs.Moves.{is_legal_in, moves_from};
 ghost use Rattle.cha_moves.specs.Moves.{legal as legal_moves, after as position_after};
-ghost use Rattle.cha_moves.specs.Ways.{legal_between};
+ghost use Rattle.cha_board.specs.SquareSets.{set_of};
+ghost use Rattle.cha_moves.specs.Ways.{is_promoted, legal_between};
 ghost use Rattle.cha_moves.specs.Shields.{AreShields, goes_legally};
 
-use crate::goes::promotes;
 use crate::legally::legal_ways;
 use crate::makes::{men_made, rights_made, target_made};
 use crate::safety::stays_safe;
 use crate::shields::{Shields, shields_of};
 use crate::step::Move;
 use crate::ways::is_pseudo_legal;
-use cha_board::{Kind, Man, Position, Square};
+use cha_board::{Color, Kind, Man, Position, Square, SquareSet};
 use cha_list::{Listed, NoMemory};
 use std::alloc::Global;
 
@@ -25,7 +25,7 @@ pub type Moves = Listed<Move>;
 pub type Positions = Listed<Position>;
 
 /// How many moves the list of legal moves has room for from the start. Few positions of games have more.
-const ROOM: usize = 48;
+const ROOM: usize = 96;
 
 /// A promotion.
 fn promotion(from: Square, to: Square, kind: Kind) -> Move
@@ -49,22 +49,38 @@ fn add_promotions(moves: &mut Vec<Move>, from: Square, to: Square) -> Result<(),
     Ok(())
 }
 
-/// Appends the legal moves from one square to another to which the man there goes legally.
+/// The squares on which a man of a side and this kind is promoted.
+fn promoting(side: Color, kind: Kind) -> SquareSet
+    ensures { result ≡ set_of (is_promoted side kind) }
+{
+    if !kind.is(Kind::Pawn) {
+        return SquareSet::empty();
+    }
+    match side {
+        Color::White => SquareSet::from_bits(0xff << 56),
+        Color::Black => SquareSet::from_bits(0xff),
+    }
+}
+
+/// Appends the legal moves from one square to another to which the man there goes legally. It is promoted on the squares
+/// of `last`.
 fn add_way(
     position: &Position,
     moves: &mut Vec<Move>,
     man: Man,
+    last: SquareSet,
     from: Square,
     to: Square,
 ) -> Result<(), NoMemory>
     requires man { man_at position.now.men from ≡ Some man }
+    requires last { last ≡ set_of (is_promoted position.now.side man.kind) }
     requires way { IsTrue (goes_legally position.now from to) }
     ensures { OnOk result (moves.new.items ≡ moves.old.items ++ legal_between position.now from to) }
 {
     // The moves of a way are told of valid positions.
     position.known();
     let _squares = (from.index(), to.index());
-    if promotes(position.side(), man.kind, to) {
+    if last.has(to) {
         add_promotions(moves, from, to)?;
     } else {
         moves.push(Move {
@@ -89,9 +105,10 @@ fn add_from(
     let Some(man) = position.man(from) else {
         return Ok(());
     };
+    let last = promoting(position.side(), man.kind);
     let mut left = legal_ways(position, shields, man, from);
     while let Some(to) = left.first() {
-        add_way(position, moves, man, from, to)?;
+        add_way(position, moves, man, last, from, to)?;
         left = left.without(to);
     }
     Ok(())

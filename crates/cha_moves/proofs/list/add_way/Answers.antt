@@ -1,5 +1,7 @@
 use Rattle.std.proofs.Common.{◌≡◌, ◌<◌, ◌++◌, true, false, cond, [], ◌∷◌, refl, sym, ap, ◌∙◌, arith}
 use Rattle.cha_board.specs.declared.men.Kind.TheVariants.{Queen}
+use Rattle.cha_board.specs.SquareSets.{has_square}
+use Rattle.cha_board.specs.SetLaws.{has-set_of}
 use Rattle.cha_moves.specs.Ways.{is_promoted}
 use Rattle.cha_moves.proofs.Arriving.{Going, moves_plain, moves_promoted}
 use Rattle.cha_moves.proofs.GoingLegally.{goes_a_way, goes_plain, goes_promoted}
@@ -11,7 +13,7 @@ returns-in_ok-add_promotions c =
     let from : c.args.from < 64 = omega arith in
     let to : c.args.to < 64 = omega arith in
     let going : Going q c.args.from c.args.to c.args.man = record { valid = c.known.ensures; from = from; to = to; found = c.requires.man; way = goes_a_way q c.args.from c.args.to c.requires.way } in
-    let promoted : is_promoted q.side c.args.man.kind c.args.to ≡ true = ap (λ x. is_promoted x c.args.man.kind c.args.to) (sym c.side.ensures) ∙ sym c.promotes.ensures ∙ c.if-promotes.true in
+    let promoted : is_promoted q.side c.args.man.kind c.args.to ≡ true = sym (has-set_of (is_promoted q.side c.args.man.kind) c.args.to to) ∙ ap (λ x. has_square x c.args.to) (sym c.requires.last) ∙ sym c.has.ensures ∙ c.if-has.true in
     let legal = sym (goes_promoted q c.args.from c.args.to c.args.man going promoted) ∙ c.requires.way in
     rw (moves_promoted q c.args.from c.args.to c.args.man going promoted, legal) c.in_ok-add_promotions.ensures
 
@@ -21,6 +23,6 @@ returns-in_ok-push c =
     let from : c.args.from < 64 = omega arith in
     let to : c.args.to < 64 = omega arith in
     let going : Going q c.args.from c.args.to c.args.man = record { valid = c.known.ensures; from = from; to = to; found = c.requires.man; way = goes_a_way q c.args.from c.args.to c.requires.way } in
-    let plain : is_promoted q.side c.args.man.kind c.args.to ≡ false = ap (λ x. is_promoted x c.args.man.kind c.args.to) (sym c.side.ensures) ∙ sym c.promotes.ensures ∙ c.if-promotes.false in
+    let plain : is_promoted q.side c.args.man.kind c.args.to ≡ false = sym (has-set_of (is_promoted q.side c.args.man.kind) c.args.to to) ∙ ap (λ x. has_square x c.args.to) (sym c.requires.last) ∙ sym c.has.ensures ∙ c.if-has.false in
     let legal = sym (goes_plain q c.args.from c.args.to c.args.man going plain) ∙ c.requires.way in
     rw (moves_plain q c.args.from c.args.to c.args.man going plain, legal) c.in_ok-push.ensures.items

@@ -1,0 +1,166 @@
+-- A king that castles is not attacked where it arrives, once the rook has passed it.
+use Rattle.std.proofs.Common.{◌≡◌, ◌≢◌, ℕ, ◌<◌, ◌+◌, ◌-◌, Bool, true, false, not, ◌||◌, ◌&&◌, List, length, Option, Some, None, inl, inr, refl, sym, ◌∙◌, ap, arith, ◌⊎◌}
+use Rattle.std.specs.List.{list_all}
+use Rattle.std.proofs.lemmas.Bool.{and_parts, and_from, both_ways, cases_Bool, cases_eq, or_cases, not-true, false_from_ne_true}
+use Rattle.cha_board.specs.declared.men.Color.{Color}
+use Rattle.cha_board.specs.declared.men.Color.TheVariants.{White, Black}
+use Rattle.cha_board.specs.declared.men.Kind.TheVariants.{Pawn, Rook, King}
+use Rattle.cha_board.specs.declared.men.Man.{Man}
+use Rattle.cha_board.specs.Men.{other_color, same_color, same_kind, is_vacant, is_man}
+use Rattle.cha_board.specs.Squares.{squares, aims_at, files_apart, ranks_apart, is_straight, is_diagonal, is_within, lies_between}
+use Rattle.cha_board.specs.Board.{Board, IsValid, man_at, is_empty, attacks_as, attacked, in_check, king_of, home_of}
+use Rattle.cha_board.proofs.Scans.{all_squares_at}
+use Rattle.cha_board.proofs.Sightings.{attacked_from, attacked_by_none}
+use Rattle.cha_moves.specs.Step.{Move}
+use Rattle.cha_moves.specs.Moves.{goes, goes_as, may_enter, is_en_passant, is_short_castling, is_long_castling, castles_short, castles_long, moved, rook_of, men_after, arriving}
+use Rattle.cha_moves.specs.Ways.{is_way, is_promoted}
+use Rattle.cha_moves.specs.Shields.{aims_as, goes_legally}
+use Rattle.cha_moves.proofs.Identity.{same_color_self, some_inj, one_color, one_kind, if_at}
+use Rattle.cha_moves.proofs.Made.{Step, may_gives, length-moved, moved_to, moved_from, moved_other, men_moved, Plainly, Passing, Shortly, Longly, makes}
+use Rattle.cha_moves.proofs.Kept.{from_to, Castling, short_castling, long_castling, short_tests, long_tests, kings_kept, king_place, length_after}
+use Rattle.cha_moves.proofs.Sureness.{legal_if}
+use Rattle.cha_moves.proofs.Arriving.{Going, going_plain}
+use Rattle.cha_moves.proofs.Clearing.{clear_at, clear_from, attack_parts, attack_from}
+use Rattle.cha_moves.proofs.GoingLegally.{goes_plain, unaimed, not_between}
+
+-- The rook that stands on j, and no longer on i, bars what the king on s barred on the way to t.
+record Bars (s t i j : ℕ) : Type 0 where
+  opened : (u : ℕ) → u < 64 → lies_between u t s ≡ true → lies_between u t j ≡ true
+  left : (u : ℕ) → u < 64 → lies_between u t i ≡ true → ⊥
+
+bar_test : ℕ → ℕ → ℕ → ℕ → ℕ → Bool
+bar_test s t i j u = (not (lies_between u t s) || lies_between u t j) && not (lies_between u t i)
+
+bars_by : (s t i j : ℕ) → list_all (bar_test s t i j) squares ≡ true → Bars s t i j
+unfolding bar_test
+bars_by s t i j h =
+    record {
+      opened = λ u small lies. if_at (lies_between u t s) (lies_between u t j) (and_parts (not (lies_between u t s) || lies_between u t j) (not (lies_between u t i)) (all_squares_at (bar_test s t i j) u h small)).0 lies;
+      left = λ u small lies. both_ways (lies_between u t i) (not-true (lies_between u t i) (and_parts (not (lies_between u t s) || lies_between u t j) (not (lies_between u t i)) (all_squares_at (bar_test s t i j) u h small)).1) lies;
+    }
+
+bars_short : (c : Color) → list_all (bar_test (home_of c) (home_of c + 2) (home_of c + 3) (home_of c + 1)) squares ≡ true
+unfolding bar_test lies_between is_within is_straight is_diagonal files_apart ranks_apart squares
+bars_short White = refl
+bars_short Black = refl
+
+bars_long : (c : Color) → list_all (bar_test (home_of c) (home_of c - 2) (home_of c - 4) (home_of c - 1)) squares ≡ true
+unfolding bar_test lies_between is_within is_straight is_diagonal files_apart ranks_apart squares
+bars_long White = refl
+bars_long Black = refl
+
+own_idle : (c : Color) (k u : ℕ) (man : Man) → same_color man.color c ≡ true → aims_as (other_color c) k u (Some man) ≡ true → ⊥
+own_idle c k u man own aims = one_color man.color c own (and_parts (same_color man.color (other_color c)) (aims_at (other_color c) man.kind u k) aims).0
+
+-- the square at which the king arrives is not attacked over the men after the castling, if it was not before
+castled_safe : (q : Board) (m : Move) (i j : ℕ) → length q.men ≡ 64 → m.from < 64 → m.from ≢ m.to → Castling q m i j → Bars m.from m.to i j → attacked q.men (other_color q.side) m.to ≡ false
+    → attacked (men_after q m) (other_color q.side) m.to ≡ false
+castled_safe q m i j size small_from apart castling bars safe =
+    let e = other_color q.side in
+    let t = m.to in
+    let one = men_moved q m in
+    let now = moved one i j (rook_of q.side) in
+    let arrived = arriving (man_at q.men m.from) m.promotion in
+    let long = length-moved q.men m.from m.to arrived in
+    let in_i : i < length one = omega (arith, long, size, castling.small_i) in
+    let in_j : j < length one = omega (arith, long, size, castling.small_j) in
+    let in_from : m.from < length q.men = omega (arith, size, small_from) in
+    let rook : man_at now j ≡ rook_of q.side = moved_to one i j (rook_of q.side) in_j in
+    let stays = λ (y : ℕ) (ni : y ≢ i) (nj : y ≢ j) (ns : y ≢ m.from) (nt : y ≢ t). moved_other one i j (rook_of q.side) y ni nj ∙ moved_other q.men m.from t arrived y ns nt in
+    let gone_i : man_at now i ≡ None = moved_from one i j (rook_of q.side) in_i castling.i_j in
+    let gone_s : man_at now m.from ≡ None = moved_other one i j (rook_of q.side) m.from (λ x. castling.i_from (sym x)) (λ x. castling.j_from (sym x)) ∙ moved_from q.men m.from t arrived in_from apart in
+    ap (λ (x : List (Option Man)). attacked x e t) castling.men ∙ attacked_by_none now e t (λ u small. false_from_ne_true (attacks_as now e t u (man_at now u)) (λ h.
+    let parts = attack_parts now e t u (man_at now u) h in
+    let aims = λ (s : ℕ) (same : u ≡ s). ap (λ x. aims_as e t u (man_at now x)) (sym same) ∙ parts.0 in
+    elim (cases_eq u i) [
+      | inl x ↦ both_ways (aims_as e t u (man_at now i)) (ap (aims_as e t u) gone_i) (aims i x)
+      | inr ni ↦ elim (cases_eq u j) [
+        | inl x ↦ own_idle q.side t u (record { color = q.side; kind = Rook }) (same_color_self q.side) (ap (aims_as e t u) (sym rook) ∙ aims j x)
+        | inr nj ↦ elim (cases_eq u m.from) [
+          | inl x ↦ both_ways (aims_as e t u (man_at now m.from)) (ap (aims_as e t u) gone_s) (aims m.from x)
+          | inr ns ↦ elim (cases_eq u t) [
+            | inl x ↦ unaimed e t (man_at now t) (ap (λ y. aims_as e t y (man_at now y)) (sym x) ∙ parts.0)
+            | inr nt ↦ (
+                let clear = clear_from q.men u t (λ y small' lies. elim (cases_eq y i) [
+                  | inl x ↦ absurd (bars.left u small (ap (lies_between u t) (sym x) ∙ lies))
+                  | inr yi ↦ elim (cases_eq y j) [
+                    | inl x ↦ ap (is_empty q.men) x ∙ castling.free
+                    | inr yj ↦ elim (cases_eq y m.from) [
+                      | inl x ↦ absurd (both_ways (is_empty now j) (ap is_vacant rook) (clear_at now u t j parts.1 castling.small_j (bars.opened u small (ap (lies_between u t) (sym x) ∙ lies))))
+                      | inr ys ↦ elim (cases_eq y t) [
+                        | inl x ↦ absurd (both_ways (lies_between u t t) (not_between u t) (ap (lies_between u t) (sym x) ∙ lies))
+                        | inr yt ↦ ap is_vacant (sym (stays y yi yj ys yt)) ∙ clear_at now u t y parts.1 small' lies
+                      ]
+                    ]
+                  ]
+                ]) in
+                both_ways (attacked q.men e t) safe (attacked_from q.men e t u small (attack_from q.men e t u (man_at q.men u) (ap (aims_as e t u) (sym (stays u ni nj ns nt)) ∙ parts.0) clear)))
+          ]
+        ]
+      ]
+    ]))
+
+-- so a castling is legal
+castling_legal : (q : Board) (s t i j : ℕ) (man : Man) → Going q s t man → man.kind ≡ King → s ≢ t → Castling q (record { from = s; to = t; promotion = None }) i j → Bars s t i j → attacked q.men (other_color q.side) t ≡ false → goes_legally q s t ≡ true
+unfolding in_check
+castling_legal q s t i j man g king apart castling bars safe =
+    let m : Move = record { from = s; to = t; promotion = None } in
+    let e = other_color q.side in
+    let plain : is_promoted q.side man.kind t ≡ false = rw king refl in
+    let may = going_plain q s t man g plain in
+    let mover = may_gives q m may in
+    let step : Step q m mover.0 = record { valid = g.valid; from = g.from; to = g.to; may = mover.1 } in
+    let size = g.valid.size in
+    let inside : t < length q.men = omega (arith, size, g.to) in
+    let here : is_man q.side King (man_at (men_after q m) t) ≡ true =
+    ap (λ (x : List (Option Man)). is_man q.side King (man_at x t)) castling.men
+    ∙ ap (is_man q.side King) (moved_other (men_moved q m) i j (rook_of q.side) t (λ x. castling.i_to (sym x)) (λ x. castling.j_to (sym x)) ∙ moved_to q.men s t (man_at q.men s) inside)
+    ∙ castling.king in
+    let long = length_after q m in
+    let at : king_of (men_after q m) q.side ≡ t = king_place (men_after q m) q.side t (kings_kept q m mover.0 step q.side) (omega (arith, long, size, g.to)) here in
+    goes_plain q s t man g plain ∙ legal_if q m may ∙ ap not (ap (λ k. attacked (men_after q m) e k) at ∙ castled_safe q m i j size g.from apart castling bars safe)
+
+short_arrives : (q : Board) (s t : ℕ) → is_short_castling q s t ≡ true → attacked q.men (other_color q.side) (home_of q.side + 2) ≡ false
+unfolding is_short_castling
+short_arrives q s t h = not-true _ (and_parts _ (not (attacked q.men (other_color q.side) (home_of q.side + 2))) h).1
+
+long_arrives : (q : Board) (s t : ℕ) → is_long_castling q s t ≡ true → attacked q.men (other_color q.side) (home_of q.side - 2) ≡ false
+unfolding is_long_castling
+long_arrives q s t h = not-true _ (and_parts _ (not (attacked q.men (other_color q.side) (home_of q.side - 2))) h).1
+
+-- a king goes to a square that is not near it by castling alone
+far_castles : (q : Board) (s t : ℕ) (man : Man) → man_at q.men s ≡ Some man → man.kind ≡ King → is_way q s t ≡ true → aims_at q.side King s t ≡ false → (is_short_castling q s t || is_long_castling q s t) ≡ true
+unfolding is_way goes_as goes
+far_castles q s t man found king way far =
+    let goes' : goes_as q s t (Some man) ≡ true = ap (goes_as q s t) (sym found) ∙ (and_parts (goes_as q s t (man_at q.men s)) (may_enter q.side (man_at q.men t)) way).0 in
+    let both = and_parts (same_color man.color q.side) (goes q man.kind s t) goes' in
+    let all : goes q King s t ≡ true = ap (λ k. goes q k s t) (sym king) ∙ both.1 in
+    ap (λ b. (b || is_short_castling q s t) || is_long_castling q s t) (sym far) ∙ all
+
+pub castling_goes : (q : Board) (s t : ℕ) (man : Man) → Going q s t man → man.kind ≡ King → aims_at q.side King s t ≡ false → goes_legally q s t ≡ true
+castling_goes q s t man g king far =
+    let m : Move = record { from = s; to = t; promotion = None } in
+    let plain : is_promoted q.side man.kind t ≡ false = rw king refl in
+    let mover = may_gives q m (going_plain q s t man g plain) in
+    let own : same_color man.color q.side ≡ true = ap (λ (x : Man). same_color x.color q.side) (some_inj man mover.0 (sym g.found ∙ mover.1.found)) ∙ mover.1.own in
+    let is_king : is_man q.side King (man_at q.men s) ≡ true = ap (is_man q.side King) g.found ∙ rw (own, king) refl in
+    let no_pawn : is_man q.side Pawn (man_at q.men s) ≡ false = one_kind q.side q.side King Pawn (man_at q.men s) refl is_king in
+    let h = home_of q.side in
+    let e = other_color q.side in
+    elim (makes q m) [
+      | Plainly a b c same ↦ elim (or_cases (is_short_castling q s t) (is_long_castling q s t) (far_castles q s t man g.found king g.way far)) [
+        | inl short ↦ absurd (both_ways (castles_short q (man_at q.men s) s t) b (and_from (is_man q.side King (man_at q.men s)) (is_short_castling q s t) is_king short))
+        | inr long ↦ absurd (both_ways (castles_long q (man_at q.men s) s t) c (and_from (is_man q.side King (man_at q.men s)) (is_long_castling q s t) is_king long))
+      ]
+      | Passing x same ↦ absurd (both_ways (is_man q.side Pawn (man_at q.men s)) no_pawn (and_parts (is_man q.side Pawn (man_at q.men s)) (is_en_passant q s t) x).0)
+      | Shortly x same ↦ (
+          let short = (and_parts (is_man q.side King (man_at q.men s)) (is_short_castling q s t) x).1 in
+          let tests = short_tests q s t short in
+          castling_legal q s t (h + 3) (h + 1) man g king (from_to q m mover.0 mover.1) (short_castling q m g.valid x same)
+          (rw (tests.from_home, tests.two_files) (bars_by h (h + 2) (h + 3) (h + 1) (bars_short q.side))) (ap (attacked q.men e) tests.two_files ∙ short_arrives q s t short))
+      | Longly x same ↦ (
+          let long = (and_parts (is_man q.side King (man_at q.men s)) (is_long_castling q s t) x).1 in
+          let tests = long_tests q s t long in
+          castling_legal q s t (h - 4) (h - 1) man g king (from_to q m mover.0 mover.1) (long_castling q m g.valid x same)
+          (rw (tests.from_home, tests.two_files) (bars_by h (h - 2) (h - 4) (h - 1) (bars_long q.side))) (ap (attacked q.men e) tests.two_files ∙ long_arrives q s t long))
+    ]

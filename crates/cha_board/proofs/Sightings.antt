@@ -50,15 +50,6 @@ unfolding way_test
 between_is_way s t small small' =
     from_same_list (between s t) (way s t) (all_squares_at (way_test s) t (all_squares_at (λ s. list_all (way_test s) squares) s way_table small) small')
 
--- a step of the walk stays on the board
-pub step_small : (s t k : ℕ) → s < 64 → t < 64 → k < steps_apart s t → step_on s t k < 64
-step_small s t k small small' few =
-    let n = steps_apart s t in
-    let d = abs_diff s t in
-    let each : k * (d / n) ≤ n * (d / n) = mul-le-mul_right (d / n) (omega arith) in
-    let all : n * (d / n) ≤ d = omega arith in
-    omega arith
-
 -- the first step of the walk that is not empty hides what is beyond it
 pub hidden_by : (men : List (Option Man)) (s t k : ℕ) → s < 64 → t < 64 → is_line s t ≡ true → 1 ≤ k → k < steps_apart s t → is_empty men (step_on s t k) ≡ false
     → is_clear men s t ≡ false

@@ -1,24 +1,23 @@
 -- The moves that one way from a square to another gives.
-use Rattle.std.proofs.Common.{◌≡◌, ◌≢◌, ℕ, ◌<◌, Bool, true, false, cond, not, ◌&&◌, ◌==◌, List, [], ◌∷◌, Option, Some, None, refl, sym, ◌∙◌, ap}
-use Rattle.std.specs.Bool.{OnTrue, OnFalse}
+use Rattle.std.proofs.Common.{◌≡◌, ℕ, ◌<◌, Bool, true, false, cond, not, ◌&&◌, ◌==◌, [], ◌∷◌, Option, Some, None, refl, sym, ◌∙◌, ap}
 use Rattle.std.specs.List.{filter}
-use Rattle.std.proofs.lemmas.Bool.{and_parts, and_from, and_left, eqb-true, false_from_ne_true, OnTrue_from, OnFalse_from}
+use Rattle.std.proofs.lemmas.Bool.{and_parts, and_from, and_left, eqb-true, false_from_ne_true}
 use Rattle.cha_board.specs.declared.men.Color.{Color}
 use Rattle.cha_board.specs.declared.men.Color.TheVariants.{White, Black}
 use Rattle.cha_board.specs.declared.men.Kind.{Kind}
 use Rattle.cha_board.specs.declared.men.Kind.TheVariants.{Pawn, Knight, Bishop, Rook, Queen, King}
 use Rattle.cha_board.specs.declared.men.Man.{Man}
-use Rattle.cha_board.specs.Men.{other_color, same_color, same_kind, is_man}
+use Rattle.cha_board.specs.Men.{same_color, same_kind, is_man}
 use Rattle.cha_board.specs.Squares.{rank_of}
-use Rattle.cha_board.specs.Board.{Board, IsValid, man_at, in_check, attacked, king_of}
+use Rattle.cha_board.specs.Board.{Board, IsValid, man_at, in_check}
 use Rattle.cha_board.specs.SquareSets.{set_of, has_square}
 use Rattle.cha_board.specs.SetLaws.{has-set_of}
 use Rattle.cha_moves.specs.Step.{Move}
 use Rattle.cha_moves.specs.Moves.{last_rank, goes, goes_as, is_promotion, promotes_well, may_enter, is_pseudo_legal, is_pseudo_legal_as, is_en_passant, captures_en_passant, men_after, is_legal_in}
-use Rattle.cha_moves.specs.Ways.{is_way, is_promoted, legal_between, IsSure}
+use Rattle.cha_moves.specs.Ways.{is_way, is_promoted, legal_between}
 use Rattle.cha_moves.proofs.Identity.{same_kind_equal, two_kinds}
 use Rattle.cha_moves.proofs.Kept.{target_of}
-use Rattle.cha_moves.proofs.Sureness.{Ordinary, men_left, sure_is_legal, legal_alike}
+use Rattle.cha_moves.proofs.Sureness.{Ordinary, legal_alike}
 
 -- A way of a man from one square to another.
 pub record Going (q : Board) (s t : ℕ) (man : Man) : Type 0 where
@@ -124,12 +123,6 @@ moves_promoted q s t man g h =
     rw none (filter_four (is_legal_in q) (record { from = s; to = t; promotion = Some Queen }) (record { from = s; to = t; promotion = Some Rook }) (record { from = s; to = t; promotion = Some Bishop }) (record { from = s; to = t; promotion = Some Knight })
     (is_legal_in q (record { from = s; to = t; promotion = Some Queen })) refl b c d)
 
--- each way of a man that is no king is legal where it captures nothing en passant and the king is safe without it
-pub all_sure : (q : Board) (s : ℕ) → IsValid q → s < 64 → is_man q.side King (man_at q.men s) ≡ false → ((t : ℕ) → t < 64 → captures_en_passant q (man_at q.men s) s t ≡ false)
-    → attacked (men_left q s) (other_color q.side) (king_of q.men q.side) ≡ false → IsSure q s
-all_sure q s valid small other passing safe = λ t k small' may.
-    sure_is_legal q (record { from = s; to = t; promotion = k }) (record { valid = valid; from = small; to = small'; may = may; no_king = other; not_passing = passing t small' }) safe
-
 -- a move may be made but for what its king suffers where the man becomes what it has to and goes a way
 pub is_pseudo : (q : Board) (m : Move) (man : Man) → m.to < 64 → man_at q.men m.from ≡ Some man → (promotes_well q.side man.kind m.to m.promotion && has_square (set_of (is_way q m.from)) m.to) ≡ is_pseudo_legal q m
 unfolding is_pseudo_legal_as is_way goes_as
@@ -152,10 +145,3 @@ is_pseudo q m man small found =
 pub no_pseudo : (q : Board) (m : Move) → man_at q.men m.from ≡ None → false ≡ is_pseudo_legal q m
 unfolding is_pseudo_legal_as
 no_pseudo q m none = rw none refl
-
--- a list that is kept whole or not at all tells by its test whether it is empty
-pub kept_some : (xs ys : List Move) (m : Move) (b r : Bool) → xs ≡ cond b (m ∷ ys) [] → r ≡ b → OnTrue r (xs ≢ [])
-kept_some xs ys m b r e f = OnTrue_from r (xs ≢ []) (λ yes' none. (let g : b ≡ true = sym f ∙ yes' in let h : (m ∷ ys) ≡ [] = ap (λ x. cond x (m ∷ ys) []) (sym g) ∙ sym e ∙ none in cc))
-
-pub kept_none : (xs ys : List Move) (m : Move) (b r : Bool) → xs ≡ cond b (m ∷ ys) [] → r ≡ b → OnFalse r (xs ≡ [])
-kept_none xs ys m b r e f = OnFalse_from r (xs ≡ []) (λ no'. e ∙ ap (λ x. cond x (m ∷ ys) []) (sym f ∙ no'))

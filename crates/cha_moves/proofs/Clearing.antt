@@ -1,5 +1,5 @@
 -- Empty squares between two squares, and the parts of an attack.
-use Rattle.std.proofs.Common.{◌≡◌, ℕ, ◌<◌, true, false, not, ◌&&◌, List, Option, Some, None, inl, inr, sym, ◌∙◌, ap}
+use Rattle.std.proofs.Common.{◌≡◌, ℕ, ◌<◌, true, not, ◌&&◌, List, Option, Some, None, inl, inr, sym, ◌∙◌, ap}
 use Rattle.std.specs.List.{list_any}
 use Rattle.std.proofs.lemmas.Bool.{and_parts, and_from, and_left, both_ways, cases_Bool, not-true, true_from_ne_false}
 use Rattle.cha_board.specs.declared.men.Color.{Color}

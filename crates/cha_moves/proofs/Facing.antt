@@ -1,7 +1,7 @@
 -- The men that aim at a king, one after the other: which of them give check, and which a man shields it from.
 use Rattle.std.proofs.Common.{◌≡◌, ◌≢◌, ℕ, ◌<◌, ◌==◌, ◌||◌, ◌&&◌, Bool, true, false, not, List, [], ◌∷◌, length, Option, Some, None, inl, inr, refl, sym, ◌∙◌, ap, arith}
-use Rattle.std.specs.List.{filter, Contains, list_any}
-use Rattle.std.proofs.lemmas.Bool.{and_parts, and_from, and_cases, and_right, both_ways, cases_Bool, cases_eq, or_parts, or_right, not-true, eqb-true, eq-eqb, ne_eqb, false_from_ne_true, true_from_ne_false}
+use Rattle.std.specs.List.{list_any}
+use Rattle.std.proofs.lemmas.Bool.{and_parts, and_cases, and_right, both_ways, cases_Bool, cases_eq, or_parts, not-true, eq-eqb, ne_eqb, false_from_ne_true, true_from_ne_false}
 use Rattle.std.proofs.lemmas.Nat.Bits.{bit_at_ones}
 use Rattle.cha_board.specs.declared.men.Color.{Color}
 use Rattle.cha_board.specs.declared.men.Kind.{Kind}

@@ -10,22 +10,22 @@ use Rattle.cha_board.specs.declared.men.Kind.TheVariants.{Pawn, Rook, Bishop, Kn
 use Rattle.cha_board.specs.declared.men.Man.{Man}
 use Rattle.cha_board.specs.Men.{other_color, same_color, same_kind, is_vacant, is_man}
 use Rattle.cha_board.specs.Squares.{squares, rank_of, aims_at, files_apart, ranks_apart, steps_apart, is_straight, is_diagonal, is_line, is_rank_ahead, is_within, lies_between}
-use Rattle.cha_board.specs.Board.{Board, IsValid, man_at, is_empty, attacks_as, attacked, in_check, king_of, home_of}
+use Rattle.cha_board.specs.Board.{Board, IsValid, man_at, attacks_as, attacked, in_check, king_of, home_of}
 use Rattle.cha_board.specs.SquareSets.{set_of, has_square, squares_in, set_of_bits, set_common, set_without, set_placed}
 use Rattle.cha_board.specs.SetLaws.{has-set_of, same_set, same_squares, length-set_of}
 use Rattle.cha_board.proofs.Sightings.{attacked_from, attacked_by_none}
 use Rattle.cha_moves.specs.Step.{Move}
-use Rattle.cha_moves.specs.Moves.{last_rank, is_legal_in, is_en_passant, captures_en_passant, is_short_castling, is_long_castling, castles_short, castles_long, moves_between, moves_from, men_after, arriving}
+use Rattle.cha_moves.specs.Moves.{last_rank, is_legal_in, is_en_passant, is_short_castling, is_long_castling, moves_between, moves_from, men_after}
 use Rattle.cha_moves.specs.Ways.{is_way, is_promoted, legal_between}
 use Rattle.cha_moves.specs.Shields.{aims_as, men_less, AreShields, IsFree, some_move, goes_legally}
-use Rattle.cha_moves.proofs.Identity.{some_inj, man_of, same_color_self, same_kind_equal, one_kind, two_kinds}
-use Rattle.cha_moves.proofs.Made.{Step, may_gives, put, put_other, men_moved, moved_to, Plainly, Passing, Shortly, Longly, makes}
+use Rattle.cha_moves.proofs.Identity.{some_inj, two_kinds}
+use Rattle.cha_moves.proofs.Made.{Step, may_gives, put, put_other, men_moved, Plainly, Passing, Shortly, Longly, makes}
 use Rattle.cha_moves.proofs.Kept.{kings_kept, king_place, length_after, short_tests, long_tests}
 use Rattle.cha_moves.proofs.Pieces.{Contains-filter_parts, Contains-squares_small}
 use Rattle.cha_moves.proofs.Filling.{still_safe, filled_put}
 use Rattle.cha_moves.proofs.WayLaws.{no_way_between, filter_in_set}
 use Rattle.cha_moves.proofs.Sureness.{Ordinary, legal_if, not_enemy}
-use Rattle.cha_moves.proofs.Arriving.{Going, going_plain, going_promoted, moves_plain, moves_promoted, promotion_ordinary}
+use Rattle.cha_moves.proofs.Arriving.{Going, going_plain, moves_plain, moves_promoted, promotion_ordinary}
 use Rattle.cha_moves.proofs.Facing.{none_left}
 use Rattle.cha_moves.proofs.Clearing.{clear_at, clear_from, attack_parts, attack_from}
 use Rattle.cha_moves.proofs.Shielding.{answer_is_legal, no_answer_is_illegal}

@@ -172,10 +172,6 @@ target_of q s t valid h =
     let both = and_parts _ (is_target q.target t) h in
     target_parts q.men q.side t (target_here q.men q.side q.target t valid.target both.1)
 
--- the pawn that a capture en passant removes stands there
-pub victim_stands : (q : Board) (s t : ℕ) → IsValid q → is_en_passant q s t ≡ true → is_man (other_color q.side) Pawn (man_at q.men (victim_of q.side t)) ≡ true
-victim_stands q s t valid h = (target_of q s t valid h).pawn
-
 -- the square of the captured pawn
 pub record Victim (q : Board) (m : Move) : Type 0 where
   pub pawn : is_man (other_color q.side) Pawn (man_at q.men (victim_of q.side m.to)) ≡ true

@@ -6,6 +6,7 @@ pub mod Pieces
 pub mod Listed
 pub mod Near
 pub mod Filling
+pub mod KingSquare
 pub mod Sureness
 pub mod WayLaws
 pub mod Arriving

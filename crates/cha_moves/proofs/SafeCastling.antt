@@ -1,14 +1,14 @@
 -- A king that castles is not attacked where it arrives, once the rook has passed it.
-use Rattle.std.proofs.Common.{◌≡◌, ◌≢◌, ℕ, ◌<◌, ◌+◌, ◌-◌, Bool, true, false, not, ◌||◌, ◌&&◌, List, length, Option, Some, None, inl, inr, refl, sym, ◌∙◌, ap, arith, ◌⊎◌}
+use Rattle.std.proofs.Common.{◌≡◌, ◌≢◌, ℕ, ◌<◌, ◌+◌, ◌-◌, Bool, true, false, not, ◌||◌, ◌&&◌, List, length, Option, Some, None, inl, inr, refl, sym, ◌∙◌, ap, arith}
 use Rattle.std.specs.List.{list_all}
-use Rattle.std.proofs.lemmas.Bool.{and_parts, and_from, both_ways, cases_Bool, cases_eq, or_cases, not-true, false_from_ne_true}
+use Rattle.std.proofs.lemmas.Bool.{and_parts, and_from, both_ways, cases_eq, or_cases, not-true, false_from_ne_true}
 use Rattle.cha_board.specs.declared.men.Color.{Color}
 use Rattle.cha_board.specs.declared.men.Color.TheVariants.{White, Black}
 use Rattle.cha_board.specs.declared.men.Kind.TheVariants.{Pawn, Rook, King}
 use Rattle.cha_board.specs.declared.men.Man.{Man}
-use Rattle.cha_board.specs.Men.{other_color, same_color, same_kind, is_vacant, is_man}
+use Rattle.cha_board.specs.Men.{other_color, same_color, is_vacant, is_man}
 use Rattle.cha_board.specs.Squares.{squares, aims_at, files_apart, ranks_apart, is_straight, is_diagonal, is_within, lies_between}
-use Rattle.cha_board.specs.Board.{Board, IsValid, man_at, is_empty, attacks_as, attacked, in_check, king_of, home_of}
+use Rattle.cha_board.specs.Board.{Board, man_at, is_empty, attacks_as, attacked, in_check, king_of, home_of}
 use Rattle.cha_board.proofs.Scans.{all_squares_at}
 use Rattle.cha_board.proofs.Sightings.{attacked_from, attacked_by_none}
 use Rattle.cha_moves.specs.Step.{Move}

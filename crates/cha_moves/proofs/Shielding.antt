@@ -1,24 +1,21 @@
 -- Which moves are legal, by the squares that end every check and the men that shield the king.
-use Rattle.std.proofs.Common.{◌≡◌, ◌≢◌, ℕ, ◌<◌, ◌==◌, ◌||◌, Bool, true, false, not, List, length, Option, Some, None, slice_set, inl, inr, refl, sym, ◌∙◌, ap, arith}
-use Rattle.std.proofs.lemmas.Bool.{and_parts, both_ways, cases_Bool, cases_eq, or_cases, or_parts, eqb-true, eqb-false, false_from_ne_true}
-use Rattle.std.proofs.lemmas.List.{length-set}
-use Rattle.cha_board.specs.declared.men.Color.{Color}
-use Rattle.cha_board.specs.declared.men.Kind.TheVariants.{King}
+use Rattle.std.proofs.Common.{◌≡◌, ◌≢◌, ℕ, ◌<◌, ◌==◌, Bool, true, false, not, List, length, Some, slice_set, inl, inr, sym, ◌∙◌, ap, arith}
+use Rattle.std.proofs.lemmas.Bool.{and_parts, both_ways, cases_eq, or_cases, or_parts, eqb-true, eqb-false, false_from_ne_true}
 use Rattle.cha_board.specs.declared.men.Man.{Man}
-use Rattle.cha_board.specs.Men.{other_color, same_color, is_vacant, is_man}
+use Rattle.cha_board.specs.Men.{other_color, same_color, is_vacant}
 use Rattle.cha_board.specs.Squares.{aims_at, lies_between}
-use Rattle.cha_board.specs.Board.{Board, man_at, is_empty, attacks_as, attacked, in_check, king_of}
+use Rattle.cha_board.specs.Board.{Board, man_at, is_empty, attacks_as, attacked, king_of}
 use Rattle.cha_board.specs.SquareSets.{has_square}
 use Rattle.cha_board.proofs.Sightings.{attacked_from, attacked_by_none}
 use Rattle.cha_board.proofs.Betweens.{lies_turned}
 use Rattle.cha_moves.specs.Step.{Move}
 use Rattle.cha_moves.specs.Moves.{is_legal_in, arriving}
-use Rattle.cha_moves.specs.Shields.{aims_as, stops, checks, men_less, AreShields}
+use Rattle.cha_moves.specs.Shields.{aims_as, stops, men_less, AreShields}
 use Rattle.cha_moves.proofs.Identity.{one_color}
-use Rattle.cha_moves.proofs.Made.{Mover, may_gives, men_moved, moved_from, moved_other, put}
+use Rattle.cha_moves.proofs.Made.{may_gives, men_moved, moved_from, moved_other, put}
 use Rattle.cha_moves.proofs.Kept.{from_to}
-use Rattle.cha_moves.proofs.Filling.{IsFilled, attacks_before, foreign_idle, filled_put}
-use Rattle.cha_moves.proofs.Sureness.{Ordinary, Arrival, arrival, check_after, legal_if, left_long, not_enemy}
+use Rattle.cha_moves.proofs.Filling.{attacks_before, foreign_idle, filled_put}
+use Rattle.cha_moves.proofs.Sureness.{Ordinary, arrival, check_after, legal_if, left_long, not_enemy}
 use Rattle.cha_moves.proofs.Clearing.{clear_at, clear_from, attack_parts, attack_from}
 
 -- a man that is not pinned and goes to a square that ends every check leaves its king unattacked

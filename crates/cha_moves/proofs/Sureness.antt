@@ -1,31 +1,21 @@
--- Which moves are sure to leave the king unattacked, and that what a pawn becomes makes no difference to its king.
-use Rattle.std.proofs.Common.{◌≡◌, ◌≢◌, ℕ, ◌<◌, true, false, not, List, length, Option, Some, None, slice_set, inl, inr, refl, sym, ◌∙◌, ap, arith}
-use Rattle.std.specs.List.{position_or_len}
-use Rattle.std.proofs.lemmas.Bool.{and_parts, both_ways, cases_lt, false_from_ne_true}
+-- Moves of a man that is no king, other than en passant, and that what a pawn becomes makes no difference to its king.
+use Rattle.std.proofs.Common.{◌≡◌, ◌≢◌, ℕ, ◌<◌, true, false, not, List, length, Option, Some, None, slice_set, refl, sym, ◌∙◌, ap, arith}
+use Rattle.std.proofs.lemmas.Bool.{and_parts, both_ways, false_from_ne_true}
 use Rattle.std.proofs.lemmas.List.{length-set}
-use Rattle.std.proofs.lemmas.List.Sums.{fails_before_first, passes_at_first}
 use Rattle.cha_board.specs.declared.men.Color.{Color}
 use Rattle.cha_board.specs.declared.men.Kind.{Kind}
 use Rattle.cha_board.specs.declared.men.Kind.TheVariants.{King}
 use Rattle.cha_board.specs.declared.men.Man.{Man}
 use Rattle.cha_board.specs.Men.{other_color, same_color, is_man}
-use Rattle.cha_board.specs.Board.{Board, IsValid, man_at, attacked, in_check, king_of, has_one_king}
-use Rattle.cha_board.proofs.Kings.{some_king}
+use Rattle.cha_board.specs.Board.{Board, IsValid, man_at, attacked, in_check, king_of}
 use Rattle.cha_moves.specs.Step.{Move}
 use Rattle.cha_moves.specs.Moves.{is_pseudo_legal, arriving, captures_en_passant, is_short_castling, is_long_castling, men_after, is_legal_in}
+use Rattle.cha_moves.specs.Shields.{men_less}
+use Rattle.cha_moves.proofs.KingSquare.{king_stands}
 use Rattle.cha_moves.proofs.Identity.{one_color, man_of, on_board}
 use Rattle.cha_moves.proofs.Made.{Step, may_gives, men_moved, moved_other, Plainly, Passing, Shortly, Longly, makes}
 use Rattle.cha_moves.proofs.Kept.{own_bars, length_after, kings_kept, king_place}
-use Rattle.cha_moves.proofs.Filling.{still_safe, same_attacks, filled_put, filled_either}
-
--- the king of a side that has one stands there
-pub king_stands : (men : List (Option Man)) (c : Color) → has_one_king men c ≡ true → is_man c King (man_at men (king_of men c)) ≡ true
-unfolding king_of
-king_stands men c one =
-    elim (cases_lt (position_or_len (is_man c King) men) (length men)) [
-      | inl inside ↦ passes_at_first (is_man c King) men None inside
-      | inr past ↦ absurd (some_king men c one (λ k inside. fails_before_first (is_man c King) men k None (omega arith)))
-    ]
+use Rattle.cha_moves.proofs.Filling.{same_attacks, filled_either}
 
 -- A move of a man that is no king, and no capture en passant.
 pub record Ordinary (q : Board) (m : Move) : Type 0 where
@@ -75,10 +65,6 @@ arrival_by c o man (Some k) found own = record { man = record { color = man.colo
 pub arrival : (q : Board) (m : Move) → Ordinary q m → Arrival q.side (arriving (man_at q.men m.from) m.promotion)
 arrival q m o = (let mover = may_gives q m o.may in arrival_by q.side (man_at q.men m.from) mover.0 m.promotion mover.1.found mover.1.own)
 
--- the men without the one that moves
-abbrev pub men_left : Board → ℕ → List (Option Man)
-men_left q s = slice_set q.men s None
-
 -- the king is attacked afterwards where the square of the king was attacked over what has moved
 pub check_after : (q : Board) (m : Move) → Ordinary q m → in_check (men_after q m) q.side ≡ attacked (men_moved q m) (other_color q.side) (king_of q.men q.side)
 unfolding in_check
@@ -90,22 +76,11 @@ pub legal_if : (q : Board) (m : Move) → is_pseudo_legal q m ≡ true → is_le
 unfolding is_legal_in
 legal_if q m h = rw h refl
 
-pub left_long : (q : Board) (m : Move) → Ordinary q m → m.to < length (men_left q m.from)
+pub left_long : (q : Board) (m : Move) → Ordinary q m → m.to < length (men_less q m.from)
 left_long q m o = (let size = o.valid.size in rw length-set (omega (arith, size, o.to)))
 
 pub not_enemy : (a c : Color) → same_color a c ≡ true → same_color a (other_color c) ≡ false
 not_enemy a c own = false_from_ne_true (same_color a (other_color c)) (λ h. one_color a c own h)
-
--- where the king is not attacked even without the man that moves, the move is legal
-pub sure_is_legal : (q : Board) (m : Move) → Ordinary q m → attacked (men_left q m.from) (other_color q.side) (king_of q.men q.side) ≡ false → is_legal_in q m ≡ true
-sure_is_legal q m o safe =
-    let a = arrival q m o in
-    let e = other_color q.side in
-    let k = king_of q.men q.side in
-    let filled = filled_put e (men_left q m.from) m.to a.man (left_long q m o) (not_enemy a.man.color q.side a.own) in
-    let now : attacked (men_moved q m) e k ≡ false =
-    ap (λ x. attacked (slice_set (men_left q m.from) m.to x) e k) a.found ∙ still_safe e (men_left q m.from) (slice_set (men_left q m.from) m.to (Some a.man)) k filled safe in
-    legal_if q m o.may ∙ ap not (check_after q m o ∙ now)
 
 -- moves that differ in what a pawn becomes are legal alike
 pub legal_alike : (q : Board) (s t : ℕ) (j k : Option Kind) → Ordinary q (record { from = s; to = t; promotion = j }) → Ordinary q (record { from = s; to = t; promotion = k })
@@ -117,7 +92,7 @@ legal_alike q s t j k o p =
     let b = arrival q n p in
     let e = other_color q.side in
     let at = king_of q.men q.side in
-    let left = men_left q s in
+    let left = men_less q s in
     let inside = left_long q m o in
     let there = filled_either e left t a.man b.man inside (not_enemy b.man.color q.side b.own) in
     let back = filled_either e left t b.man a.man inside (not_enemy a.man.color q.side a.own) in

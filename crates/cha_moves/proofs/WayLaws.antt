@@ -15,7 +15,7 @@ use Rattle.cha_moves.specs.Step.{Move}
 use Rattle.cha_moves.specs.Moves.{goes, goes_as, may_enter, is_pseudo_legal, men_after, is_legal_in, moves_between, moves_from, all_moves, legal}
 use Rattle.cha_moves.specs.Ways.{is_way, legal_between}
 use Rattle.cha_moves.proofs.Made.{Mover, may_gives}
-use Rattle.cha_moves.proofs.Pieces.{Contains-cons_here, Contains-cons_there, Contains-filter_parts, Contains-squares_small}
+use Rattle.cha_moves.proofs.Pieces.{Contains-cons_here, Contains-cons_there, Contains-squares_small}
 
 -- what a filter keeps of the pieces of some squares alone, where the others have nothing that it keeps
 filter_skips : {X : Type 0} (p : X → Bool) (f : ℕ → List X) (r : ℕ → Bool) (xs : List ℕ) → ((x : ℕ) → Contains xs x → r x ≡ false → filter p (f x) ≡ []) → filter p (flat_map f (filter r xs)) ≡ filter p (flat_map f xs)
@@ -119,20 +119,9 @@ pub between_next : (q : Board) (s t : ℕ) (old now all : List Move) (left rest 
 unfolding legal_between
 between_next q s t old now all left rest before next more = filter_next (is_legal_in q) (moves_between s) old now all left rest t before next more
 
-pub between_passed : (q : Board) (s t : ℕ) (all : List Move) (left rest : List ℕ) → all ≡ filter (is_legal_in q) (flat_map (moves_between s) left) → left ≡ t ∷ rest → legal_between q s t ≡ []
-    → all ≡ filter (is_legal_in q) (flat_map (moves_between s) rest)
-unfolding legal_between
-between_passed q s t all left rest before next none = filter_passed (is_legal_in q) (moves_between s) all left rest t before next none
-
 pub between_found : (q : Board) (s t : ℕ) (all : List Move) (left rest : List ℕ) → all ≡ filter (is_legal_in q) (flat_map (moves_between s) left) → left ≡ t ∷ rest → legal_between q s t ≢ [] → all ≢ []
 unfolding legal_between
 between_found q s t all left rest before next some = filter_found (is_legal_in q) (moves_between s) all left rest t before next some
-
--- each square of the ways is a way
-pub each_is_way : (q : Board) (s t : ℕ) (set : List Bool) → set ≡ set_of (is_way q s) → Contains (squares_in set) t → is_way q s t ≡ true
-each_is_way q s t set e inside =
-    let parts = Contains-filter_parts (has_square set) squares t inside in
-    sym (has-set_of (is_way q s) t (Contains-squares_small t parts.0)) ∙ ap (λ (x : List Bool). has_square x t) (sym e) ∙ parts.1
 
 -- fewer squares are left
 pub fewer : (left rest : List ℕ) (t : ℕ) → left ≡ t ∷ rest → length rest < length left

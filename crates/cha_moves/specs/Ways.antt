@@ -1,5 +1,5 @@
 -- Where a man may go as far as its way is concerned, and what it may become there.
-use Rattle.std.specs.Prelude.{ℕ, ◌+◌, ◌-◌, ◌<◌, ◌==◌, Bool, ◌&&◌, List, Option, filter, IsTrue}
+use Rattle.std.specs.Prelude.{ℕ, ◌+◌, ◌-◌, ◌==◌, Bool, ◌&&◌, List, filter}
 use Rattle.cha_board.specs.declared.men.Color.{Color}
 use Rattle.cha_board.specs.declared.men.Color.TheVariants.{White, Black}
 use Rattle.cha_board.specs.declared.men.Kind.{Kind}
@@ -8,7 +8,7 @@ use Rattle.cha_board.specs.Men.{same_kind}
 use Rattle.cha_board.specs.Squares.{rank_of}
 use Rattle.cha_board.specs.Board.{Board, man_at}
 use Rattle.cha_moves.specs.Step.{Move}
-use Rattle.cha_moves.specs.Moves.{last_rank, goes_as, may_enter, is_pseudo_legal, is_legal_in, moves_between}
+use Rattle.cha_moves.specs.Moves.{last_rank, goes_as, may_enter, is_legal_in, moves_between}
 
 -- the square one rank ahead of s, as c sees it
 abbrev pub ahead_of : Color → ℕ → ℕ
@@ -26,7 +26,3 @@ is_promoted c k t = same_kind k Pawn && (rank_of t == last_rank c)
 -- the legal moves from s to t (this project)
 unfoldable pub legal_between : Board → ℕ → ℕ → List Move
 legal_between q s t = filter (is_legal_in q) (moves_between s t)
-
--- each way from s is a legal move (this project)
-abbrev pub IsSure : Board → ℕ → Type 0
-IsSure q s = (t : ℕ) (k : Option Kind) → t < 64 → IsTrue (is_pseudo_legal q (record { from = s; to = t; promotion = k })) → IsTrue (is_legal_in q (record { from = s; to = t; promotion = k }))

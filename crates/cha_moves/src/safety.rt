@@ -6,7 +6,6 @@ ghost use Rattle.cha_board.specs.declared.men.Color.{Color as Side};
 ghost use Rattle.cha_board.specs.Men.{other_color};
 ghost use Rattle.cha_board.specs.Board.{man_at, attacked, king_of, has_one_king};
 ghost use Rattle.cha_moves.specs.Moves.{is_pseudo_legal, is_en_passant, men_after, is_legal_in};
-ghost use Rattle.cha_moves.specs.Ways.{IsSure};
 
 use crate::goes::goes_en_passant;
 use crate::makes::men_made;

@@ -1,5 +1,5 @@
-use Rattle.std.proofs.Common.{◌≡◌, false, sym, ap, ◌∙◌, refl}
-use Rattle.std.proofs.lemmas.Bool.{and_left, and_right, false_from_ne_true, or_parts, OnFalse_from, OnFalse_at}
+use Rattle.std.proofs.Common.{◌≡◌, false, sym, ap, ◌∙◌}
+use Rattle.std.proofs.lemmas.Bool.{and_left, false_from_ne_true, OnFalse_from}
 use Rattle.cha_board.specs.declared.men.Kind.TheVariants.{Pawn, King}
 use Rattle.cha_board.specs.Men.{same_color, same_kind, is_man}
 use Rattle.cha_board.specs.Board.{man_at}

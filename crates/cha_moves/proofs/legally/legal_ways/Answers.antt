@@ -1,4 +1,4 @@
-use Rattle.std.proofs.Common.{◌≡◌, ◌<◌, ap, ◌∙◌, arith}
+use Rattle.std.proofs.Common.{◌<◌, ap, ◌∙◌, arith}
 use Rattle.std.proofs.lemmas.Bool.{OnFalse_at}
 use Rattle.cha_board.specs.SquareSets.{set_common}
 use Rattle.cha_moves.proofs.GoingLegally.{free_ways}

@@ -1,7 +1,5 @@
-use Rattle.std.proofs.Common.{◌≡◌, ℕ, ◌<◌, true, false, length}
-use Rattle.cha_board.specs.SquareSets.{has_square, squares_in}
-use Rattle.cha_moves.specs.Ways.{is_way}
-use Rattle.cha_moves.specs.Shields.{goes_legally}
+use Rattle.std.proofs.Common.{length}
+use Rattle.cha_board.specs.SquareSets.{squares_in}
 use Rattle.cha_moves.proofs.GoingLegally.{Sifted}
 use Rattle.cha_moves.proofs.legally.sifted.Given as goal
 

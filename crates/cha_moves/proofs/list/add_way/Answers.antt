@@ -1,5 +1,4 @@
-use Rattle.std.proofs.Common.{◌≡◌, ◌<◌, ◌++◌, true, false, cond, [], ◌∷◌, refl, sym, ap, ◌∙◌, arith}
-use Rattle.cha_board.specs.declared.men.Kind.TheVariants.{Queen}
+use Rattle.std.proofs.Common.{◌≡◌, ◌<◌, true, false, sym, ap, ◌∙◌, arith}
 use Rattle.cha_board.specs.SquareSets.{has_square}
 use Rattle.cha_board.specs.SetLaws.{has-set_of}
 use Rattle.cha_moves.specs.Ways.{is_promoted}

@@ -1,5 +1,4 @@
-use Rattle.std.proofs.Common.{◌≡◌, ◌<◌, ap, ◌∙◌, arith}
-use Rattle.cha_board.specs.SquareSets.{set_common}
+use Rattle.std.proofs.Common.{◌<◌, ◌∙◌, arith}
 use Rattle.cha_moves.proofs.Facing.{aimers_are}
 use Rattle.cha_moves.proofs.shields.aimers_of.Goals as goal
 

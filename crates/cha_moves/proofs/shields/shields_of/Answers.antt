@@ -6,7 +6,7 @@ use Rattle.cha_board.specs.SquareSets.{set_of, has_square, has_no_square, set_co
 use Rattle.cha_board.specs.SetLaws.{squares_from_first, no_first_square}
 use Rattle.cha_moves.specs.Shields.{aims_as}
 use Rattle.cha_moves.proofs.WayLaws.{fewer}
-use Rattle.cha_moves.proofs.Facing.{Faced, occupied_by, way_from, none_faced, all_faced, way_is_clear, check_faced, pin_faced, first_in, none_left, answered, pinned_too, lone_there, every_square}
+use Rattle.cha_moves.proofs.Facing.{way_from, none_faced, all_faced, way_is_clear, check_faced, pin_faced, first_in, none_left, answered, pinned_too, lone_there, every_square}
 use Rattle.cha_moves.proofs.shields.shields_of.Goals as goal
 
 pub loop-by-init : goal.loop-by-init

@@ -12,7 +12,7 @@ use Rattle.cha_board.specs.declared.placement.Men.TheInside.{Inside}
 use Rattle.cha_board.specs.Men.{same_color, same_kind, is_vacant, is_of, is_kind, is_man}
 use Rattle.cha_board.specs.Board.{man_at, is_empty, king_of, has_one_king}
 use Rattle.cha_board.specs.Squares.{squares}
-use Rattle.cha_board.specs.SquareSets.{set_of, squares_in, has_square, empty_set, set_placed, set_without, set_joined, set_common}
+use Rattle.cha_board.specs.SquareSets.{set_of, squares_in, has_square, empty_set, set_placed, set_joined, set_common}
 use Rattle.cha_board.specs.SetLaws.{same_set, has-set_of}
 use Rattle.cha_board.proofs.Kings.{king_is, some_king}
 use Rattle.cha_board.proofs.Firsts.{first_tells, none_tells}
@@ -203,12 +203,3 @@ filled_none men list size = record { size = size; same = λ s less. absurd (omeg
 pub filled_all : (men list : List (Option Man)) (n : ℕ) → n ≡ 64 → length list ≡ 64 → Filled men list n → men ≡ list
 filled_all men list n last size filled =
     ext_get_or None men list (filled.size ∙ sym size) (λ s inside. filled.same s (omega (arith, inside, filled.size, last)))
-
-out_of : (b c : Bool) → (not b && c) ≡ (if b then false else c)
-out_of true c = refl
-out_of false c = refl
-
--- a set without a square is the set with that square out
-pub placed_out : (set : List Bool) (at : ℕ) → set_without set at ≡ set_placed set at false
-unfolding set_without set_placed
-placed_out set at = same_set (λ s. not (s == at) && has_square set s) (λ s. if s == at then false else has_square set s) (λ s _. out_of (s == at) (has_square set s))

@@ -1,16 +1,15 @@
 //! Which moves leave the mover's own king unattacked (Laws of Chess, Article 3.9.2).
 
-ghost use Rattle.std.specs.Prelude.{ℕ, ◌≡◌, ◌<◌, false, not, IsTrue, Some, None, slice_set};
-ghost use Rattle.std.specs.Bool.{OnTrue, OnFalse};
+ghost use Rattle.std.specs.Prelude.{ℕ, ◌≡◌, false, IsTrue};
+ghost use Rattle.std.specs.Bool.{OnFalse};
 ghost use Rattle.cha_board.specs.declared.men.Color.{Color as Side};
-ghost use Rattle.cha_board.specs.Men.{other_color};
-ghost use Rattle.cha_board.specs.Board.{man_at, attacked, king_of, has_one_king};
+ghost use Rattle.cha_board.specs.Board.{has_one_king};
 ghost use Rattle.cha_moves.specs.Moves.{is_pseudo_legal, is_en_passant, men_after, is_legal_in};
 
 use crate::goes::goes_en_passant;
 use crate::makes::men_made;
 use crate::step::Move;
-use cha_board::{Kind, Man, Men, Position, Square};
+use cha_board::{Men, Position, Square};
 
 /// The men after a move that may be made but for what its king suffers.
 fn men_kept(position: &Position, m: Move) -> Men

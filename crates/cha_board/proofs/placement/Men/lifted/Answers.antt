@@ -2,7 +2,8 @@ use Rattle.std.proofs.Common.{◌≡◌, ◌<◌, length, None, slice_set, sym, 
 use Rattle.std.proofs.Common.{length-set}
 use Rattle.cha_board.specs.MenSets.{sets_of}
 use Rattle.cha_board.specs.declared.placement.Men.TheInside.{Inside}
-use Rattle.cha_board.proofs.Tidiness.{sets_are_tidy, sets_show, sets_put, tidy, length-men_in, placed_all, placed_out, same_inside}
+use Rattle.cha_board.proofs.Tidiness.{sets_are_tidy, sets_show, sets_put, tidy, length-men_in, placed_all, same_inside}
+use Rattle.cha_board.proofs.SetBits.{put_out}
 use Rattle.cha_board.proofs.placement.Men.lifted.Goals as goal
 use Rattle.cha_board.proofs.placement.Men.lifted.Goals.{After-without-8}
 
@@ -24,14 +25,14 @@ size c = ap length (sym c.self.view_is) ∙ length-men_in c.self.inside
 made_so : (c : After-without-8) → made c ≡ placed_all c.self.inside c.args.at None
 made_so c =
     same_inside (made c) (placed_all c.self.inside c.args.at None)
-    (c.without.ensures ∙ placed_out c.self.inside.white c.args.at)
-    (c.without-2.ensures ∙ placed_out c.self.inside.black c.args.at)
-    (c.without-3.ensures ∙ placed_out c.self.inside.pawns c.args.at)
-    (c.without-4.ensures ∙ placed_out c.self.inside.knights c.args.at)
-    (c.without-5.ensures ∙ placed_out c.self.inside.bishops c.args.at)
-    (c.without-6.ensures ∙ placed_out c.self.inside.rooks c.args.at)
-    (c.without-7.ensures ∙ placed_out c.self.inside.queens c.args.at)
-    (c.without-8.ensures ∙ placed_out c.self.inside.kings c.args.at)
+    (c.without.ensures ∙ put_out c.self.inside.white c.args.at)
+    (c.without-2.ensures ∙ put_out c.self.inside.black c.args.at)
+    (c.without-3.ensures ∙ put_out c.self.inside.pawns c.args.at)
+    (c.without-4.ensures ∙ put_out c.self.inside.knights c.args.at)
+    (c.without-5.ensures ∙ put_out c.self.inside.bishops c.args.at)
+    (c.without-6.ensures ∙ put_out c.self.inside.rooks c.args.at)
+    (c.without-7.ensures ∙ put_out c.self.inside.queens c.args.at)
+    (c.without-8.ensures ∙ put_out c.self.inside.kings c.args.at)
 
 new : (c : After-without-8) → made c ≡ sets_of (slice_set c.args.self.now c.args.at None)
 new c =

@@ -58,7 +58,7 @@ while IFS=';' read -r fen depth; do
     fi
     measure theirs "$fen" "$depth"
     [ "$output" = "$lines" ] || { echo "$fen: Stockfish counts $output lines, cha_perft $lines" >&2; exit 1; }
-    seconds=$(awk -v t="$seconds" -v o="$start" 'BEGIN { print t > o ? t - o : 0.001 }')
+    seconds=$(awk -v t="$seconds" -v o="$start" 'BEGIN { printf "%.3f", (t > o ? t - o : 0.001) }')
     other_speed=$(speed "$(awk '{ for (k = 1; k <= NF; k++) sum += $k; printf "%.0f", sum }' <<< "$counts")" "$seconds")
     awk -v l="$list_speed" -v m="$made_speed" -v o="$other_speed" -v head="$(printf '%5d %12d %8.3f %11d %8.3f %11d %8.3f %11d' \
         "$depth" "$lines" "$list_seconds" "$list_speed" "$made_seconds" "$made_speed" "$seconds" "$other_speed")" \

@@ -1,3 +1,4 @@
 pub mod Adding
+pub mod Gathered
 pub mod Giving
 pub mod Taking

@@ -2,8 +2,11 @@
 use Rattle.std.specs.Prelude.{◌≡◌, ◌⊎◌, ℕ, List, take}
 use Rattle.std.specs.declared.option.Option.{Option}
 use Rattle.std.specs.Io.KnownBytes.{Appends}
+use Rattle.cha_outside.specs.declared.reading.Got.{Got}
+use Rattle.cha_outside.specs.declared.reading.Got.TheVariants as reads
 use Rattle.cha_outside.specs.declared.writing.Wrote.{Wrote}
 use Rattle.cha_outside.specs.declared.writing.Wrote.TheVariants.{All, Failed}
+use Rattle.cha_outside.specs.Faults.{counted}
 use Rattle.cha_outside.specs.declared.std_reader.ReadFrom.{ReadFrom}
 use Rattle.cha_outside.specs.declared.std_writer.WriteTo.{WriteTo}
 
@@ -15,6 +18,12 @@ reader_of source = source.reader
 abbrev pub read_faults : {R : Type 0} → ReadFrom R → ℕ
 read_faults source = source.faults
 
+-- the count of faults after a read: one more where it failed
+abbrev pub read_faults_after : ℕ → Got → ℕ
+read_faults_after before (reads.Bytes n) = before
+read_faults_after before reads.End = before
+read_faults_after before reads.Failed = counted before
+
 -- the writer of a sink over one
 abbrev pub writer_of : {W : Type 0} → WriteTo W → W
 writer_of sink = sink.writer
@@ -22,6 +31,11 @@ writer_of sink = sink.writer
 -- how often that writer failed
 abbrev pub write_faults : {W : Type 0} → WriteTo W → ℕ
 write_faults sink = sink.faults
+
+-- the count of faults after a write: one more where it failed
+abbrev pub write_faults_after : ℕ → Wrote → ℕ
+write_faults_after before All = before
+write_faults_after before (Failed n) = counted before
 
 -- what a writer took, where it tells: all at `All`, and at a failure the bytes counted, or all where the flush failed
 abbrev pub Passes : Option (List ℕ) → Option (List ℕ) → Wrote → List ℕ → Type 0

@@ -10,6 +10,6 @@ counted before = min (before + 1) (2 ^ 64 - 1)
 abbrev pub Rose : ℕ → ℕ → Type 0
 Rose before now = counted before ≤ now
 
--- the calls that are to fail have the number of this one
+-- the number of a call is among those of the calls that are to fail
 abbrev pub is_to_fail : List ℕ → ℕ → Bool
 is_to_fail fails number = list_any (λ call. call == number) fails

@@ -3,7 +3,7 @@
 ghost use Rattle.std.specs.Prelude.{◌≡◌};
 ghost use Rattle.cha_outside.specs.Faults.{is_to_fail};
 
-/// Whether the calls that are to fail have the number of this one.
+/// Whether the number of a call is among those of the calls that are to fail.
 pub(crate) fn is_among(fails: &[u32], number: u64) -> bool
     ensures { result ≡ is_to_fail fails.now number }
 {

@@ -17,7 +17,7 @@ mod std_writer;
 mod writing;
 
 pub use bytes_source::Bytes;
-pub use gathering::{MOST_BYTES, ReadEnd, read_all};
+pub use gathering::{MOST_BYTES, ReadEnd, read_all, take_all};
 pub use kept_sink::Kept;
 pub use pieces_source::Pieces;
 pub use reading::{Got, Source};

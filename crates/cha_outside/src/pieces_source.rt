@@ -68,6 +68,7 @@ impl Source for Pieces {
 
     ghost faults = { λ s. s.faults };
 
+    /// Gives as many bytes as the size of this call, the room and what is left allow, or fails where it is to.
     fn read(&mut self, into: &mut [u8]) -> Got
         requires { 0 < length into.old }
         ensures within { GivesWithin (length into.old) result }

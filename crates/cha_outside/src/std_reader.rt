@@ -1,7 +1,8 @@
 //! std's readers as sources.
 
-ghost use Rattle.std.specs.Prelude.{◌≡◌};
-ghost use Rattle.cha_outside.specs.Adapters.{reader_of, read_faults};
+ghost use Rattle.std.specs.Prelude.{◌≡◌, ◌<◌, length};
+ghost use Rattle.cha_outside.specs.Adapters.{reader_of, read_faults, read_faults_after};
+ghost use Rattle.cha_outside.specs.Reading.{GivesWithin, Gives, ReadCause};
 
 use crate::reading::{Got, Source};
 use std::io::Read;
@@ -29,7 +30,14 @@ impl<R: Read> Source for ReadFrom<R> {
 
     ghost faults = { λ s. read_faults s };
 
-    fn read(&mut self, into: &mut [u8]) -> Got {
+    /// Asks the reader once. A failure is counted, and nothing else is.
+    fn read(&mut self, into: &mut [u8]) -> Got
+        requires { 0 < length into.old }
+        ensures within { GivesWithin (length into.old) result }
+        ensures bytes { Gives (R.remaining (reader_of self.old)) (R.remaining (reader_of self.new)) result into.new }
+        ensures cause { ReadCause (read_faults self.old) (read_faults self.new) result }
+        ensures counted { read_faults self.new ≡ read_faults_after (read_faults self.old) result }
+    {
         match self.reader.read(into) {
             Ok(0) => Got::End,
             Ok(n) => Got::Bytes(n),

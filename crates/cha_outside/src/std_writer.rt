@@ -3,7 +3,7 @@
 ghost use Rattle.std.specs.Prelude.{◌≡◌, ◌<◌, length, None};
 ghost use Rattle.cha_outside.specs.declared.writing.Wrote.TheVariants.{Failed};
 ghost use Rattle.cha_outside.specs.Faults.{counted};
-ghost use Rattle.cha_outside.specs.Adapters.{writer_of, write_faults, Passes};
+ghost use Rattle.cha_outside.specs.Adapters.{writer_of, write_faults, write_faults_after, Passes};
 ghost use Rattle.cha_outside.specs.Writing.{TakesBelow, Takes, WriteCause};
 
 use crate::writing::{Sink, Wrote};
@@ -45,12 +45,13 @@ impl<W: Write> Sink for WriteTo<W> {
     ghost faults = { λ s. write_faults s };
 
     /// Where the writer tells what it holds, `All` says that it holds the piece too. A failure says that it holds the
-    /// bytes counted, or, after a flush that failed, the whole piece.
+    /// bytes counted, or, after a flush that failed, the whole piece. A failure is counted once, and nothing else is.
     fn write(&mut self, bytes: &[u8]) -> Wrote
         requires { 0 < length bytes.now }
         ensures below { TakesBelow (length bytes.now) result }
         ensures bytes { Takes None None result bytes.now }
         ensures cause { WriteCause (write_faults self.old) (write_faults self.new) result }
+        ensures counted { write_faults self.new ≡ write_faults_after (write_faults self.old) result }
         ensures passed { Passes (W.contents (writer_of self.old)) (W.contents (writer_of self.new)) result bytes.now }
     {
         let mut taken = 0;

@@ -8,10 +8,14 @@ use cha_board::Position;
 use cha_fen::{read, write};
 use cha_list::{NoMemory, Text, text_of};
 use cha_moves::move_text;
+use games::{GAMES, STOPPED};
 use pgn_games::{Game, ResultMark, Words};
 use std::alloc::Global;
 use std::process::Abort;
 use std::test::Fail;
+use words::{LONG_WORDS, NOT_SAN, TABLES};
+
+const OPENING: &str = "rnbqkbnr/pppppppp/8/8/8/8/PPPPPPPP/RNBQKBNR w KQkq -";
 
 fn named(fault: SanFault) -> &'static str {
     match fault {
@@ -33,14 +37,16 @@ fn answer(alloc: Global, position: &str, word: &[u8]) -> Result<Text, Fail> {
     }
 }
 
-/// A game from a position with these words, which stand between spaces.
-fn game_of(alloc: Global, start: Position, words: &str) -> Result<Game, NoMemory> {
+/// A game from the opening position with these words, which stand between spaces, so many times over.
+fn game_of(alloc: Global, words: &str, times: usize) -> Result<Game, NoMemory> {
     let mut kept = Words::new(alloc);
-    for word in words.split(' ') {
-        kept.push(text_of(alloc, word.as_bytes())?)?;
+    for _time in 0..times {
+        for word in words.split(' ') {
+            kept.push(text_of(alloc, word.as_bytes())?)?;
+        }
     }
     Ok(Game {
-        start,
+        start: Position::start(),
         recorded: ResultMark::Unknown,
         forfeit: false,
         words: kept,
@@ -65,31 +71,69 @@ fn last_position(alloc: Global, game: &Game) -> Result<Text, Fail> {
     }
 }
 
-/// Asserts the answer in each row of a table: a position, a word and the answer.
-fn rows_are_answered(rt: &impl Abort, alloc: Global, table: &str) -> Result<(), Fail> {
-    for row in table.split('\n') {
-        let (position, rest) = row.split_once(" | ").ok_or("a row with too few columns")?;
-        let (word, want) = rest.split_once(" | ").ok_or("a row with too few columns")?;
-        assert_eq!(rt;
-            answer(alloc, position, word.as_bytes())?.items(),
-            want.as_bytes(),
-            "in {row}"
-        );
+/// Asserts what a word names in a position.
+fn is_answered(
+    rt: &impl Abort,
+    alloc: Global,
+    position: &str,
+    word: &[u8],
+    want: &str,
+) -> Result<(), Fail> {
+    assert_eq!(rt;
+        answer(alloc, position, word)?.items(),
+        want.as_bytes(),
+        "for {word:?} at {position}"
+    );
+    Ok(())
+}
+
+#[test]
+fn words_name_moves(rt: HostRuntime) -> Result<(), Fail> {
+    for table in TABLES {
+        for row in table.split('\n') {
+            let (position, rest) = row.split_once(" | ").ok_or("a row with too few columns")?;
+            let (word, want) = rest.split_once(" | ").ok_or("a row with too few columns")?;
+            is_answered(&rt, rt.alloc(), position, word.as_bytes(), want)?;
+        }
+    }
+    for word in NOT_SAN.split('\n') {
+        is_answered(&rt, rt.alloc(), OPENING, word.as_bytes(), "not SAN")?;
+    }
+    for (front, byte, want) in LONG_WORDS {
+        let mut word = text_of(rt.alloc(), front.as_bytes())?;
+        for _more in front.len()..255 {
+            word.push(*byte)?;
+        }
+        is_answered(&rt, rt.alloc(), OPENING, word.items(), want)?;
     }
     Ok(())
 }
 
-/// Asserts how each game of a table ends: its name, its words and its last position, or where it stops.
-fn games_end(rt: &impl Abort, alloc: Global, table: &str) -> Result<(), Fail> {
-    for row in table.split('\n') {
-        let (name, rest) = row.split_once(" | ").ok_or("a row with too few columns")?;
-        let (words, want) = rest.split_once(" | ").ok_or("a row with too few columns")?;
-        let game = game_of(alloc, Position::start(), words)?;
-        assert_eq!(rt;
-            last_position(alloc, &game)?.items(),
-            want.as_bytes(),
-            "in {name}"
-        );
+/// A game of each row: its name, its words, and its last position or where it stops.
+#[test]
+fn games_end_where_they_ended(rt: HostRuntime) -> Result<(), Fail> {
+    for table in [GAMES, STOPPED] {
+        for row in table.split('\n') {
+            let (name, rest) = row.split_once(" | ").ok_or("a row with too few columns")?;
+            let (words, want) = rest.split_once(" | ").ok_or("a row with too few columns")?;
+            let game = game_of(rt.alloc(), words, 1)?;
+            assert_eq!(rt;
+                last_position(rt.alloc(), &game)?.items(),
+                want.as_bytes(),
+                "in {name}"
+            );
+        }
     }
+    Ok(())
+}
+
+#[test]
+fn a_game_of_12000_words_is_played(rt: HostRuntime) -> Result<(), Fail> {
+    let game = game_of(rt.alloc(), "Nf3 Nf6 Ng1 Ng8", 3000)?;
+    assert_eq!(rt; game.words.items().len(), 12_000);
+    assert_eq!(rt;
+        last_position(rt.alloc(), &game)?.items(),
+        OPENING.as_bytes()
+    );
     Ok(())
 }

@@ -3,4 +3,3 @@ pub mod Cuts
 pub mod Examples
 pub mod Giving
 pub mod Outsides
-pub mod Taken

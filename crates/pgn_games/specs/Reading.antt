@@ -1,8 +1,8 @@
 -- What a reader of games has taken and given.
 use Rattle.std.specs.Prelude.{◌≡◌, ℕ, ◌≤◌, Bool, true, false, List, [], ◌++◌, drop, length, Option, Some, None, Result, Ok, Err}
-use Rattle.std.specs.Io.KnownBytes.{Consumes}
 use Rattle.cha_outside.specs.declared.gathering.TheConstants.{MOST_BYTES}
 use Rattle.cha_outside.specs.declared.gathering.ReadEnd.{ReadEnd}
+use Rattle.cha_outside.specs.Gathering.{Gathers}
 use Rattle.pgn_games.specs.declared.played.Game.{Game}
 use Rattle.pgn_lex.specs.declared.kinds.Placed.{Placed}
 use Rattle.pgn_lex.specs.Tokens.{tokens}
@@ -18,7 +18,7 @@ pub record ReaderState : Type 0 where
 
 -- the bytes that a source gave in a call stand behind those that were taken before
 abbrev pub Takes : Option (List ℕ) → Option (List ℕ) → List ℕ → List ℕ → Type 0
-Takes left left' taken taken' = (more : List ℕ) × Consumes left left' more × (taken' ≡ taken ++ more)
+Takes left left' taken taken' = Gathers left left' taken taken'
 
 -- What a reader keeps, as long as no call failed: nothing before the source has ended; then the tokens of all bytes, of which
 -- some belong to the games that were given.

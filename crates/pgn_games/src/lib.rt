@@ -1,7 +1,7 @@
 //! The games of a text in PGN, of any bytes whatever, one at a time.
 //!
-//! `played`, `marks` and `faults` have the game that is given, `reading` the reader and `taking` how it takes a source;
-//! `turns` and `cutting` cut tokens into games, and `tag_pairs`, `movetext` and `slices` say what the tokens of one say.
+//! `played`, `marks` and `faults` have the game that is given, and `reading` the reader; `turns` and `cutting` cut tokens
+//! into games, and `tag_pairs`, `movetext` and `slices` say what the tokens of one say.
 #![tactic(auto)]
 
 mod cutting;
@@ -12,7 +12,6 @@ mod played;
 mod reading;
 mod slices;
 mod tag_pairs;
-mod taking;
 #[cfg(test)]
 mod tests;
 mod turns;

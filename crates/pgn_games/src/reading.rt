@@ -12,9 +12,8 @@ ghost use Rattle.pgn_games.specs.Reading.{Takes, gives_game};
 use crate::cutting::first_size;
 use crate::played::Game;
 use crate::slices::game;
-use crate::taking::take_all;
 use cha_list::NoMemory;
-use cha_outside::{MOST_BYTES, ReadEnd, Source};
+use cha_outside::{MOST_BYTES, ReadEnd, Source, take_all};
 use pgn_lex::{Placed, tokens_of};
 use std::alloc::Global;
 use std::marker::Model;
@@ -78,6 +77,7 @@ impl Reader {
         ensures given { self.new.given ≡ (if gives_game result then self.old.given + 1 else self.old.given) }
         ensures none { result ≡ Ok None → (self.new.ended ≡ true) × (length (games self.new.taken) ≤ self.old.given) }
         ensures first { take self.old.given (games self.new.taken) ≡ take self.old.given (games self.old.taken) }
+        ensures settled { self.old.ended ≡ true → self.new.taken ≡ self.old.taken }
         ensures no_more_reads { self.old.ended ≡ true → (source.new ≡ source.old) × (self.new.ended ≡ true) }
         ensures end { self.old.ended ≡ false → self.new.ended ≡ true → IsAtEnd (S.left source.new) }
         ensures read_fault { result ≡ Err ReadEnd.ReadFault → Rose (S.faults source.old) (S.faults source.new) }
@@ -107,7 +107,7 @@ impl Reader {
         ensures failed { self.new.failed ≡ is_err result }
         ensures later { S.faults source.old ≤ S.faults source.new }
     {
-        match take_all(&mut self.bytes, source) {
+        match take_all(&mut self.bytes, source, MOST_BYTES) {
             Ok(()) => {}
             Err(end) => {
                 self.failed = true;

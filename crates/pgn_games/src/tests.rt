@@ -4,10 +4,14 @@ mod long_texts;
 mod real_files;
 mod small_texts;
 
-use crate::{Game, GameFault, Reader, ResultMark};
+use crate::{Game, GameFault, ReadEnd, Reader, ResultMark};
 use cha_fen::{FenFault, write};
-use cha_outside::Bytes;
+use cha_outside::{Bytes, Pieces};
+use long_texts::{LONG, Long};
+use real_files::FILES;
+use small_texts::{BAD_TOKENS, ENDS, STARTS, TAGS, TWO_FAULTS, VARIATIONS};
 use std::alloc::Global;
+use std::process::Abort;
 use std::test::Fail;
 
 const OPENING: &[u8] = b"rnbqkbnr/pppppppp/8/8/8/8/PPPPPPPP/RNBQKBNR w KQkq -";
@@ -22,62 +26,124 @@ fn shown(alloc: Global, bytes: &[u8]) -> Result<Vec<u8>, Fail> {
         if reader.failed() {
             return Ok(text);
         }
-        match reader.next(&mut source)? {
-            None => return Ok(text),
-            Some(game) => show(alloc, &game, &mut text)?,
-        }
+        let Some(game) = reader.next(&mut source)? else {
+            return Ok(text);
+        };
+        show(alloc, &game, &mut text)?;
     }
     Ok(text)
 }
 
 fn show(alloc: Global, game: &Game, text: &mut Vec<u8>) -> Result<(), Fail> {
-    if !text.is_empty() {
-        text.extend_from_slice(b" | ")?;
-    }
     let start = write(alloc, &game.start)?;
-    if start.items() != OPENING {
-        text.push(b'<')?;
-        text.extend_from_slice(start.items())?;
-        text.extend_from_slice(b"> ")?;
+    let fault = fault_text(alloc, game.fault)?;
+    let between: &[u8] = if text.is_empty() { b"" } else { b" | " };
+    let opens = start.items() == OPENING;
+    let parts: [&[u8]; 4] = if opens {
+        [between, b"", b"", b""]
+    } else {
+        [between, b"<", start.items(), b"> "]
+    };
+    for part in parts {
+        text.extend_from_slice(part)?;
     }
     for word in game.words.items() {
         text.extend_from_slice(word.items())?;
         text.push(b' ')?;
     }
-    text.extend_from_slice(marked(game.recorded).as_bytes())?;
-    if game.forfeit {
-        text.extend_from_slice(b" time")?;
-    }
-    match game.fault {
-        None => {}
-        Some(GameFault::BadToken(offset)) => {
-            let place = format!(in alloc; " #BadToken {offset}")?;
-            text.extend_from_slice(place.as_bytes())?;
-        }
-        Some(fault) => text.extend_from_slice(named(fault).as_bytes())?,
+    let time: &[u8] = if game.forfeit { b" time" } else { b"" };
+    for part in [marked(game.recorded), time, fault.as_bytes()] {
+        text.extend_from_slice(part)?;
     }
     Ok(())
 }
 
-fn marked(mark: ResultMark) -> &'static str {
+fn marked(mark: ResultMark) -> &'static [u8] {
     match mark {
-        ResultMark::WhiteWins => "1-0",
-        ResultMark::BlackWins => "0-1",
-        ResultMark::Draw => "1/2-1/2",
-        ResultMark::Unknown => "*",
+        ResultMark::WhiteWins => b"1-0",
+        ResultMark::BlackWins => b"0-1",
+        ResultMark::Draw => b"1/2-1/2",
+        ResultMark::Unknown => b"*",
+    }
+}
+
+fn fault_text(alloc: Global, fault: Option<GameFault>) -> Result<String, Fail> {
+    match fault {
+        None => Ok(String::new(alloc)),
+        Some(GameFault::BadToken(offset)) => Ok(format!(in alloc; " #BadToken {offset}")?),
+        Some(fault) => Ok(format!(in alloc; " #{}", named(fault))?),
     }
 }
 
 fn named(fault: GameFault) -> &'static str {
     match fault {
-        GameFault::BadToken(_) => " #BadToken",
-        GameFault::Unclosed => " #Unclosed",
-        GameFault::ValueTooLong => " #ValueTooLong",
-        GameFault::Variant => " #Variant",
-        GameFault::BadStart(FenFault::Shape) => " #BadStart Shape",
-        GameFault::BadStart(FenFault::Kings) => " #BadStart Kings",
-        GameFault::BadStart(FenFault::PawnRank) => " #BadStart PawnRank",
-        GameFault::BadStart(FenFault::OpponentInCheck) => " #BadStart OpponentInCheck",
-        GameFault::TooManyPlies => " #TooManyPlies",
+        GameFault::BadToken(_) => "BadToken",
+        GameFault::Unclosed => "Unclosed",
+        GameFault::ValueTooLong => "ValueTooLong",
+        GameFault::Variant => "Variant",
+        GameFault::BadStart(FenFault::Shape) => "BadStart Shape",
+        GameFault::BadStart(FenFault::Kings) => "BadStart Kings",
+        GameFault::BadStart(FenFault::PawnRank) => "BadStart PawnRank",
+        GameFault::BadStart(FenFault::OpponentInCheck) => "BadStart OpponentInCheck",
+        GameFault::TooManyPlies => "TooManyPlies",
     }
+}
+
+/// Asserts the games of a text.
+fn has_games(rt: &impl Abort, alloc: Global, text: &[u8], want: &[u8]) -> Result<(), Fail> {
+    let found = shown(alloc, text)?;
+    assert_eq!(rt; found.as_slice(), want, "{text:?}");
+    Ok(())
+}
+
+#[test]
+fn texts_have_their_games(rt: HostRuntime) -> Result<(), Fail> {
+    for table in [ENDS, VARIATIONS, STARTS, TAGS, TWO_FAULTS, FILES] {
+        for (text, want) in table {
+            has_games(&rt, rt.alloc(), text.as_bytes(), want.as_bytes())?;
+        }
+    }
+    for (text, want) in BAD_TOKENS {
+        has_games(&rt, rt.alloc(), text, want.as_bytes())?;
+    }
+    Ok(())
+}
+
+fn long_text(alloc: Global, long: Long) -> Result<Vec<u8>, Fail> {
+    let mut text = Vec::new(alloc);
+    for (part, count) in long {
+        for _part in 0..*count {
+            text.extend_from_slice(part.as_bytes())?;
+        }
+    }
+    Ok(text)
+}
+
+#[test]
+fn long_texts_have_their_games(rt: HostRuntime) -> Result<(), Fail> {
+    for (long, want) in LONG {
+        let text = long_text(rt.alloc(), long)?;
+        let want = long_text(rt.alloc(), want)?;
+        has_games(&rt, rt.alloc(), text.as_slice(), want.as_slice())?;
+    }
+    Ok(())
+}
+
+/// Eight bytes in pieces of three take four reads, the end among them.
+#[test]
+fn a_reader_fails_where_its_source_fails(rt: HostRuntime) -> Result<(), Fail> {
+    let alloc = rt.alloc();
+    for failing in 1..7 {
+        let sizes = [3].to_vec(alloc)?;
+        let fails = [failing].to_vec(alloc)?;
+        let mut source = Pieces::new(b"e4 * d4 ".to_vec(alloc)?, sizes, fails);
+        let mut reader = Reader::new(alloc)?;
+        let found = reader.next(&mut source);
+        assert_eq!(rt; reader.failed(), failing <= 4, "call {failing}");
+        match found {
+            Ok(game) => assert!(rt; game.is_some()),
+            Err(end) => assert_eq!(rt; end, ReadEnd::ReadFault),
+        }
+    }
+    Ok(())
 }

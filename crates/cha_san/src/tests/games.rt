@@ -1,12 +1,7 @@
 //! Whole games, from the opening position to their last, and games that stop at a word.
 
-use super::{game_of, games_end, last_position};
-use crate::play;
-use cha_board::Position;
-use std::test::Fail;
-
 /// The players, the moves, and the last position.
-const GAMES: &str =
+pub const GAMES: &str =
     "Opera game, Morphy against Duke Karl and Count Isouard, Paris 1858 | e4 e5 Nf3 d6 d4 Bg4 dxe5 Bxf3 Qxf3 dxe5 Bc4 Nf6 Qb3 Qe7 Nc3 c6 Bg5 b5 Nxb5 cxb5 Bxb5+ Nbd7 O-O-O Rd8 Rxd7 Rxd7 Rd1 Qe6 Bxd7+ Nxd7 Qb8+ Nxb8 Rd8# | 1n1Rkb1r/p4ppp/4q3/4p1B1/4P3/8/PPP2PPP/2K5 b k -
 Immortal game, Anderssen against Kieseritzky, London 1851 | e4 e5 f4 exf4 Bc4 Qh4+ Kf1 b5 Bxb5 Nf6 Nf3 Qh6 d3 Nh5 Nh4 Qg5 Nf5 c6 g4 Nf6 Rg1 cxb5 h4 Qg6 h5 Qg5 Qf3 Ng8 Bxf4 Qf6 Nc3 Bc5 Nd5 Qxb2 Bd6 Bxg1 e5 Qxa1+ Ke2 Na6 Nxg7+ Kd8 Qf6+ Nxf6 Be7# | r1bk3r/p2pBpNp/n4n2/1p1NP2P/6P1/3P4/P1P1K3/q5b1 b - -
 Evergreen game, Anderssen against Dufresne, Berlin 1852 | e4 e5 Nf3 Nc6 Bc4 Bc5 b4 Bxb4 c3 Ba5 d4 exd4 O-O d3 Qb3 Qf6 e5 Qg6 Re1 Nge7 Ba3 b5 Qxb5 Rb8 Qa4 Bb6 Nbd2 Bb7 Ne4 Qf5 Bxd3 Qh5 Nf6+ gxf6 exf6 Rg8 Rad1 Qxf3 Rxe7+ Nxe7 Qxd7+ Kxd7 Bf5+ Ke8 Bd7+ Kf8 Bxe7# | 1r3kr1/pbpBBp1p/1b3P2/8/8/2P2q2/P4PPP/3R2K1 b - -
@@ -37,48 +32,10 @@ McDonnell against Labourdonnais, London 1834 | e4 c5 Nf3 Nc6 d4 cxd4 Nxd4 e5 Nxc
 Reti against Bogoljubow, New York 1924 | Nf3 Nf6 c4 e6 g3 d5 Bg2 Bd6 O-O O-O b3 Re8 Bb2 Nbd7 d4 c6 Nbd2 Ne4 Nxe4 dxe4 Ne5 f5 f3 exf3 Bxf3 Qc7 Nxd7 Bxd7 e4 e5 c5 Bf8 Qc2 exd4 exf5 Rad8 Bh5 Re5 Bxd4 Rxf5 Rxf5 Bxf5 Qxf5 Rxd4 Rf1 Rd8 Bf7+ Kh8 Be8 | 3rBb1k/ppq3pp/2p5/2P2Q2/8/1P4P1/P6P/5RK1 b - -
 Lasker's trap | d4 d5 c4 e5 dxe5 d4 e3 Bb4+ Bd2 dxe3 Bxb4 exf2+ Ke2 fxg1=N+ Ke1 Qh4+ | rnb1k1nr/ppp2ppp/8/4P3/1BP4q/8/PP4PP/RN1QKBnR w kq -";
 
-#[test]
-fn games_end_where_they_ended(rt: HostRuntime) -> Result<(), Fail> {
-    games_end(&rt, rt.alloc(), GAMES)
-}
-
 /// What is wrong, the words, and the number of the first that names no move, with its fault.
-const STOPPED: &str = "no pawn goes so | e5 | 1 no such move
+pub const STOPPED: &str = "no pawn goes so | e5 | 1 no such move
 no move | knight | 1 not SAN
 a pawn is in the way | e4 e5 Nf3 Nc6 Bb5 Bg4 zzz | 6 no such move
 no move behind moves | e4 e5 Nf3 Nc6 Bb5 zzz Bg4 | 6 not SAN
 after the mate | f3 e5 g4 Qh4# h3 | 5 no such move
 two knights | d4 Nf6 Nf3 d6 Nd2 | 5 ambiguous";
-
-#[test]
-fn the_first_word_that_names_no_move_is_counted_from_one(rt: HostRuntime) -> Result<(), Fail> {
-    games_end(&rt, rt.alloc(), STOPPED)
-}
-
-#[test]
-fn positions_are_one_more_than_the_words(rt: HostRuntime) -> Result<(), Fail> {
-    let game = game_of(rt.alloc(), Position::start(), "e4 c5")?;
-    if game.fault.is_none() && game.words.items().len() <= 12_000 {
-        match play(rt.alloc(), &game) {
-            Ok(positions) => assert_eq!(rt; positions.items().len(), 3),
-            Err(fault) => assert_eq!(rt; fault.ply, 0),
-        }
-    }
-    Ok(())
-}
-
-#[test]
-fn a_game_of_12000_words_is_played(rt: HostRuntime) -> Result<(), Fail> {
-    let mut words = String::new(rt.alloc());
-    words.push_str("Nf3 Nf6 Ng1 Ng8")?;
-    for _round in 1..3000 {
-        words.push_str(" Nf3 Nf6 Ng1 Ng8")?;
-    }
-    let game = game_of(rt.alloc(), Position::start(), words.as_str())?;
-    assert_eq!(rt; game.words.items().len(), 12_000);
-    assert_eq!(rt;
-        last_position(rt.alloc(), &game)?.items(),
-        b"rnbqkbnr/pppppppp/8/8/8/8/PPPPPPPP/RNBQKBNR w KQkq -".as_slice()
-    );
-    Ok(())
-}

@@ -1,8 +1,5 @@
 //! Small files as the programs of chess write them.
 
-use super::shown;
-use std::test::Fail;
-
 /// lichess: evaluations and clocks in comments, judgements as glyphs and in variations.
 const LICHESS: &str = r#"[Event "Rated blitz game"]
 [Site "https://lichess.org/abcdefgh"]
@@ -149,29 +146,23 @@ O-O 9. h3 Nb8 10. d4 Nbd7 11. c4 c6 12. cxb5 axb5 13. Nc3 Bb7 14. Bg5 b4 15.
 Nb1 h6 16. Bh4 c5 1/2-1/2
 "#;
 
-#[test]
-fn files_of_programs(rt: HostRuntime) -> Result<(), Fail> {
-    for (text, want) in [
-        (LICHESS, "e4 e5 Qh5?! Nc6 Bc4 g6 Qf3 Nf6 0-1 time"),
-        (
-            LICHESS_POSITION,
-            "<8/8/8/4k3/8/8/4P3/4K3 w - -> e3 Kd5 Kd2 Ke4 1/2-1/2",
-        ),
-        (LICHESS_960, "Nf3 Nc6 1-0 #Variant"),
-        (CHESS_COM, "e4 e5 Nf3 0-1 time"),
-        (CHESS_COM_TWO, "d4 d5 c4 1-0 | f3 e5 g4 Qh4# 0-1"),
-        (FICS, "Nf3 d5 O-O-O c6 1-0 | d4 Nf6 c4 e6 1/2-1/2"),
-        (ICC, "Nf3 d5 g3 c5 Bg2 Nc6 Nb1d2 e7e5 0-1 time"),
-        (CHESS_BASE, "d4 d5 Bf4 Nf6 e3 e6 1/2-1/2"),
-        (SCID, "e4 c5 Nf3 d6 d4 *"),
-        (COLLECTION, "e4 e5 Nf3 1-0 | d4 d5 * | c4 1/2-1/2 | g3 *"),
-        (
-            STANDARD,
-            "e4 e5 Nf3 Nc6 Bb5 a6 Ba4 Nf6 O-O Be7 Re1 b5 Bb3 d6 c3 O-O h3 Nb8 d4 Nbd7 c4 c6 cxb5 axb5 Nc3 Bb7 Bg5 b4 Nb1 h6 Bh4 c5 1/2-1/2",
-        ),
-    ] {
-        let found = shown(rt.alloc(), text.as_bytes())?;
-        assert_eq!(rt; found.as_slice(), want.as_bytes(), "{text}");
-    }
-    Ok(())
-}
+/// The files, and their games.
+pub const FILES: &[(&str, &str)] = &[
+    (LICHESS, "e4 e5 Qh5?! Nc6 Bc4 g6 Qf3 Nf6 0-1 time"),
+    (
+        LICHESS_POSITION,
+        "<8/8/8/4k3/8/8/4P3/4K3 w - -> e3 Kd5 Kd2 Ke4 1/2-1/2",
+    ),
+    (LICHESS_960, "Nf3 Nc6 1-0 #Variant"),
+    (CHESS_COM, "e4 e5 Nf3 0-1 time"),
+    (CHESS_COM_TWO, "d4 d5 c4 1-0 | f3 e5 g4 Qh4# 0-1"),
+    (FICS, "Nf3 d5 O-O-O c6 1-0 | d4 Nf6 c4 e6 1/2-1/2"),
+    (ICC, "Nf3 d5 g3 c5 Bg2 Nc6 Nb1d2 e7e5 0-1 time"),
+    (CHESS_BASE, "d4 d5 Bf4 Nf6 e3 e6 1/2-1/2"),
+    (SCID, "e4 c5 Nf3 d6 d4 *"),
+    (COLLECTION, "e4 e5 Nf3 1-0 | d4 d5 * | c4 1/2-1/2 | g3 *"),
+    (
+        STANDARD,
+        "e4 e5 Nf3 Nc6 Bb5 a6 Ba4 Nf6 O-O Be7 Re1 b5 Bb3 d6 c3 O-O h3 Nb8 d4 Nbd7 c4 c6 cxb5 axb5 Nc3 Bb7 Bg5 b4 Nb1 h6 Bh4 c5 1/2-1/2",
+    ),
+];

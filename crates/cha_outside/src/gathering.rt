@@ -25,11 +25,7 @@ pub enum ReadEnd {
 /// Appends what a source gives, up to its end. It reads 4,096 bytes at a time, and begins no read once there are more
 /// than `limit`. What was read before a failure stands among the bytes too.
 #[tactic(auto, using(crate::proofs::Gathered::gathers_nothing, crate::proofs::Gathered::gathers_more, crate::proofs::Gathered::gathers_and_keeps))]
-pub fn take_all<S: Source>(
-    taken: &mut Vec<u8>,
-    source: &mut S,
-    limit: usize,
-) -> Result<(), ReadEnd>
+pub fn take_all<S: Source>(taken: &mut Vec<u8>, source: &mut S, limit: usize) -> Result<(), ReadEnd>
     ensures bytes { Gathers (S.left source.old) (S.left source.new) taken.old.items taken.new.items }
     ensures ok { OnOk result (IsAtEnd (S.left source.new)) }
     ensures read_fault { result ≡ Err ReadEnd.ReadFault → Rose (S.faults source.old) (S.faults source.new) }

@@ -18,24 +18,25 @@ fn shown(alloc: Global, bytes: &[u8]) -> Result<Vec<u8>, Fail> {
 
 fn show(alloc: Global, placed: &Placed, text: &mut Vec<u8>) -> Result<(), Fail> {
     let offset = format!(in alloc; "@{}", placed.offset)?;
-    let space: &[u8] = if text.is_empty() { b"" } else { b" " };
-    text.extend_from_slice(space)?;
-    for part in parts(&placed.token) {
-        text.extend_from_slice(part)?;
+    if !text.is_empty() {
+        text.push(b' ')?;
+    }
+    match &placed.token {
+        Token::Tag { name, value, cut } => show_tag(name.items(), value.items(), *cut, text)?,
+        Token::Word(word) => text.extend_from_slice(word.items())?,
+        token => text.extend_from_slice(named(token))?,
     }
     text.extend_from_slice(offset.as_bytes())?;
     Ok(())
 }
 
-fn parts(token: &Token) -> [&[u8]; 5] {
-    match token {
-        Token::Tag { name, value, cut } => {
-            let end: &[u8] = if *cut { b"+]" } else { b"]" };
-            [b"[", name.items(), b"=", value.items(), end]
-        }
-        Token::Word(word) => [word.items(), b"", b"", b"", b""],
-        other => [named(other), b"", b"", b"", b""],
-    }
+fn show_tag(name: &[u8], value: &[u8], cut: bool, text: &mut Vec<u8>) -> Result<(), Fail> {
+    text.push(b'[')?;
+    text.extend_from_slice(name)?;
+    text.push(b'=')?;
+    text.extend_from_slice(value)?;
+    text.extend_from_slice(if cut { b"+]" } else { b"]" })?;
+    Ok(())
 }
 
 fn named(token: &Token) -> &'static [u8] {

@@ -5,6 +5,7 @@ mod real_files;
 mod small_texts;
 
 use crate::{Game, GameFault, ReadEnd, Reader, ResultMark};
+use cha_board::Position;
 use cha_fen::{FenFault, write};
 use cha_outside::{Bytes, Pieces};
 use long_texts::{LONG, Long};
@@ -35,25 +36,27 @@ fn shown(alloc: Global, bytes: &[u8]) -> Result<Vec<u8>, Fail> {
 }
 
 fn show(alloc: Global, game: &Game, text: &mut Vec<u8>) -> Result<(), Fail> {
-    let start = write(alloc, &game.start)?;
     let fault = fault_text(alloc, game.fault)?;
-    let between: &[u8] = if text.is_empty() { b"" } else { b" | " };
-    let opens = start.items() == OPENING;
-    let parts: [&[u8]; 4] = if opens {
-        [between, b"", b"", b""]
-    } else {
-        [between, b"<", start.items(), b"> "]
-    };
-    for part in parts {
-        text.extend_from_slice(part)?;
+    if !text.is_empty() {
+        text.extend_from_slice(b" | ")?;
     }
+    show_start(alloc, &game.start, text)?;
     for word in game.words.items() {
         text.extend_from_slice(word.items())?;
         text.push(b' ')?;
     }
-    let time: &[u8] = if game.forfeit { b" time" } else { b"" };
-    for part in [marked(game.recorded), time, fault.as_bytes()] {
-        text.extend_from_slice(part)?;
+    text.extend_from_slice(marked(game.recorded))?;
+    text.extend_from_slice(if game.forfeit { b" time" } else { b"" })?;
+    text.extend_from_slice(fault.as_bytes())?;
+    Ok(())
+}
+
+fn show_start(alloc: Global, start: &Position, text: &mut Vec<u8>) -> Result<(), Fail> {
+    let start = write(alloc, start)?;
+    if start.items() != OPENING {
+        text.push(b'<')?;
+        text.extend_from_slice(start.items())?;
+        text.extend_from_slice(b"> ")?;
     }
     Ok(())
 }

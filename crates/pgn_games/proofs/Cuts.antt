@@ -21,7 +21,7 @@ onto_one : (xs : List Placed) (t : Placed) (games : List (List Placed)) → onto
 onto_one xs t [] = refl
 onto_one xs t (game ∷ games) = ap (λ x. x ∷ games) (sym (append_assoc xs (t ∷ []) game))
 
-cut_step : (place : Place) (t : Placed) (ts : List Placed) → cut place (t ∷ ts) ≡ put (turn place t.token) t (cut (place_after (turn place t.token)) ts)
+pub cut_step : (place : Place) (t : Placed) (ts : List Placed) → cut place (t ∷ ts) ≡ put (turn place t.token) t (cut (place_after (turn place t.token)) ts)
 unfolding cut
 cut_step Before t ts = refl
 cut_step Tags t ts = refl
@@ -70,7 +70,7 @@ begins_by : (b : Bool) (place : Place) (token : Token) → (if b then tag_turn p
 begins_by true place token e = refl
 begins_by false place token e = absurd (moves_begin_none ((open_at place == 0) && is_some (mark_of token)) (Moves (depth_after (open_at place) token)) e)
 
-tag_begins : (place : Place) (token : Token) → turn place token ≡ Begins → turn Before token ≡ Stays Tags
+pub tag_begins : (place : Place) (token : Token) → turn place token ≡ Begins → turn Before token ≡ Stays Tags
 unfolding turn
 tag_begins place token e = begins_by (is_tag token) place token e
 

@@ -1,7 +1,8 @@
 //! The games of a text in PGN, of any bytes whatever, one at a time.
 //!
 //! `played`, `marks` and `faults` have the game that is given, and `reading` the reader; `turns` and `cutting` cut tokens
-//! into games, and `tag_pairs`, `movetext` and `slices` say what the tokens of one say.
+//! into games, `whole` has the law that no token is lost, and `tag_pairs`, `movetext` and `slices` say what the tokens of
+//! one game say.
 #![tactic(auto)]
 
 mod cutting;
@@ -15,9 +16,11 @@ mod tag_pairs;
 #[cfg(test)]
 mod tests;
 mod turns;
+mod whole;
 
 pub use cha_outside::ReadEnd;
 pub use faults::GameFault;
 pub use marks::ResultMark;
 pub use played::{Game, Words};
 pub use reading::Reader;
+pub use whole::each_token_is_in_one_game;

@@ -1,4 +1,5 @@
 pub mod Examples
+pub mod InOrder
 pub mod Keeping
 pub mod KeptWords
 pub mod Passing

@@ -4,8 +4,8 @@ use Rattle.std.proofs.lemmas.List.{drop_all}
 use Rattle.std.proofs.lemmas.Bool.{eqb-true, false_from_ne_true}
 use Rattle.std.proofs.lemmas.Bool.Decides.{nat_tests}
 use Rattle.cha_board.specs.declared.men.Man.{Man}
-use Rattle.cha_fen.specs.Placement.{joined, if_size, if_room, squares_of, row_squares, men_upward, men_of_rows}
-use Rattle.cha_fen.specs.Adding.{Adds}
+use Rattle.cha_fen.specs.Placement.{joined, if_size, squares_of, row_squares, men_upward, men_of_rows}
+use Rattle.cha_fen.specs.Adding.{Adds, if_room}
 
 pub joined_adds : (x y : Option (List (Option Man))) (old mid out : List (Option Man)) (r : Bool) → Adds true old mid x → Adds r mid out y → Adds r old out (joined x y)
 joined_adds None y old mid out r h k = cc (h.1)

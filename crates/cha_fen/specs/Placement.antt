@@ -61,11 +61,6 @@ abbrev pub if_size : ℕ → Option (List (Option Man)) → Option (List (Option
 if_size n None = None
 if_size n (Some men) = if length men == n then Some men else None
 
--- squares, if there are at most n
-abbrev pub if_room : ℕ → Option (List (Option Man)) → Option (List (Option Man))
-if_room n None = None
-if_room n (Some men) = if nat_le (length men) n then Some men else None
-
 -- the squares of rows that come from the highest to the lowest: those of the lowest row first, eight of each
 unfoldable pub men_upward : List (List ℕ) → Option (List (Option Man))
 men_upward [] = Some []

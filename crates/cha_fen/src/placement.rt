@@ -3,8 +3,8 @@
 ghost use Rattle.std.specs.Prelude.{◌≡◌, ◌+◌, ◌*◌, ◌≤◌, ◌++◌, Option, None, length, replicate};
 ghost use Rattle.std.specs.Bool.{OnTrue};
 ghost use Rattle.cha_board.specs.declared.men.Man.{Man};
-ghost use Rattle.cha_fen.specs.Placement.{kind_of, man_of, squares_of, if_room, if_size, row_squares, rows, men_of_rows, placement_of};
-ghost use Rattle.cha_fen.specs.Adding.{Adds};
+ghost use Rattle.cha_fen.specs.Placement.{kind_of, man_of, squares_of, if_size, row_squares, rows, men_of_rows, placement_of};
+ghost use Rattle.cha_fen.specs.Adding.{Adds, if_room};
 
 use arrayvec::ArrayVec;
 use cha_board::{Color, Kind, Man};

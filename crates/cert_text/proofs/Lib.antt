@@ -5,4 +5,5 @@ mod Going
 mod Parts
 mod Spelling
 mod Plain
+mod LinesAgain
 mod Rereading

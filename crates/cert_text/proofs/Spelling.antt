@@ -164,9 +164,6 @@ rows_ok tail rows n [] f e = rows_none tail rows n f (begins_reach tail) e
 rows_ok tail rows n (line ∷ lines) f e = mutual_rows tail rows n line lines f (begins_reach line) (row_of rows line) refl (λ row. rows_ok tail (rows ++ row ∷ []) (n + 1) lines f) e
 
 -- a node, by its lines
-record NodeRead (lines : List (List ℕ)) (f : Found Node) : Type 0 where
-  is : lines ≡ node_lines f.value ++ f.lines
-
 leaf_read : (tail : List ℕ) (q : Board) (n : ℕ) (lines : List (List ℕ)) (f : Found Node) → leaf_after tail q n lines ≡ Ok f → leaf_line q ∷ lines ≡ node_lines f.value ++ f.lines
 unfolding leaf_after
 leaf_read tail q n lines f e =

@@ -1,7 +1,7 @@
 -- Sets that pass the tests of the rules are closed.
 use Rattle.std.proofs.Common.{◌≡◌, ℕ, ◌+◌, ◌-◌, ◌<◌, Bool, true, false, not, ◌&&◌, ◌||◌, ◌==◌, if◌then◌else◌, List, length, get_or, Option, Some, refl, ap, sym, ◌∙◌}
 use Rattle.std.specs.List.{list_all}
-use Rattle.std.proofs.lemmas.Bool.{and_parts, and_from, or_left, or_right, both_ways, not-true, eq-eqb, false_from_ne_true}
+use Rattle.std.proofs.lemmas.Bool.{and_parts, and_from, or_left, or_right, both_ways, not-true, eq-eqb, ne_eqb, false_from_ne_true}
 use Rattle.std.proofs.lemmas.List.Folds.{Any-from_list_any, list_any_at}
 use Rattle.std.proofs.lemmas.List.Sums.{AllPass-from_list_all}
 use Rattle.cha_board.specs.declared.men.Color.{Color}
@@ -16,9 +16,10 @@ use Rattle.cha_board.specs.SquareSets.{has_square}
 use Rattle.cha_board.specs.SetLaws.{has-set_of}
 use Rattle.cha_board.proofs.Scans.{all_squares_at}
 use Rattle.cha_moves.specs.Moves.{second_rank, fourth_rank, last_rank, middle, is_target, is_promotion, victim_of}
-use Rattle.cha_moves.proofs.Identity.{on_board}
+use Rattle.cha_moves.proofs.Identity.{on_board, same_kind_equal}
 use Rattle.mob_law.specs.Reach.{Sets, is_fixed, is_open, is_guarded}
 use Rattle.mob_law.specs.Closed.{has_fixed_enemy, Entry, Begins, PieceGoes, PiecesMove, Enters, PawnsStep, PawnsDoubleStep, EnemyReaches, PawnCaptures, PawnsCapture, Castles, IsClosed}
+use Rattle.mob_law.proofs.Men.{other_kind}
 use Rattle.mob_sets.specs.Rows.{SetRows, is_entry, has_entry, sets_of}
 use Rattle.mob_sets.proofs.Entries.{entry_parts}
 use Rattle.mob_check.specs.declared.groups.Group.TheVariants.{MenOf}
@@ -55,9 +56,9 @@ enters_gives p s o c u t h =
     let four = s.has o Queen t && s.has o Rook t && s.has o Bishop t && s.has o Knight t in
     let both = and_parts (if last then four else s.has o Pawn t) (leaves_loose s o u) h in
     record {
-      stays = λ e. chosen_second last four (s.has o Pawn t) both.0 e;
+      stays = λ e. chosen_second last four (s.has o Pawn t) both.0 (ne_eqb (rank_of t) (last_rank c) e);
       becomes = λ e k promotes. (
-          let all = chosen_first last four (s.has o Pawn t) both.0 e in
+          let all = chosen_first last four (s.has o Pawn t) both.0 (eq-eqb (rank_of t) (last_rank c) e) in
           let a = and_parts (s.has o Queen t && s.has o Rook t && s.has o Bishop t) (s.has o Knight t) all in
           let b = and_parts (s.has o Queen t && s.has o Rook t) (s.has o Bishop t) a.0 in
           let d = and_parts (s.has o Queen t) (s.has o Rook t) b.0 in
@@ -168,7 +169,7 @@ module _ (p : Board) (r : SetRows) (size : length p.men ≡ 64) where
 
   pieces_closed : list_all (row_holds p r fixed) r.rows ≡ true → PiecesMove p (sets_of r)
   pieces_closed all o man k u t entry other aims opens guard =
-      piece_gives o man.color k u t entry.to (piece_at all o man k u t entry other) (may_go_from man.color k u t aims opens guard)
+      piece_gives o man.color k u t entry.to (piece_at all o man k u t entry (other_kind k Pawn other)) (may_go_from man.color k u t aims opens (λ king. guard (same_kind_equal k King king)))
 
   steps_closed : list_all (row_holds p r fixed) r.rows ≡ true → PawnsStep p (sets_of r)
   unfolding may_step

@@ -1,7 +1,7 @@
 -- Closed sets pass the tests of the rules.
 use Rattle.std.proofs.Common.{◌≡◌, ℕ, ◌+◌, ◌-◌, ◌<◌, Bool, true, false, not, ◌&&◌, ◌||◌, ◌==◌, if◌then◌else◌, List, length, get_or, Option, Some, None, refl, ap, sym, subst, ◌∙◌, inl, inr}
 use Rattle.std.specs.List.{list_all, list_any}
-use Rattle.std.proofs.lemmas.Bool.{and_parts, and_from, or_cases, both_ways, not-true, eqb-true, false_from_ne_true}
+use Rattle.std.proofs.lemmas.Bool.{and_parts, and_from, or_cases, both_ways, not-true, eqb-true, eqb-false, false_from_ne_true}
 use Rattle.std.proofs.lemmas.List.{get_or_default}
 use Rattle.std.proofs.lemmas.List.Folds.{Any-from_list_any, list_any_at}
 use Rattle.std.proofs.lemmas.List.Sums.{list_all-from_AllPass}
@@ -17,8 +17,10 @@ use Rattle.cha_board.specs.SquareSets.{has_square}
 use Rattle.cha_board.specs.SetLaws.{has-set_of}
 use Rattle.cha_board.proofs.Scans.{each_square}
 use Rattle.cha_moves.specs.Moves.{second_rank, fourth_rank, last_rank, middle, is_target, victim_of}
+use Rattle.cha_moves.proofs.Identity.{same_color_equal}
 use Rattle.mob_law.specs.Reach.{Sets, is_fixed}
 use Rattle.mob_law.specs.Closed.{has_fixed_enemy, Entry, Enters, EnemyReaches, IsClosed}
+use Rattle.mob_law.proofs.Men.{kinds_differ, same_kind_from}
 use Rattle.mob_sets.specs.Rows.{Row, SetRows, is_entry, has_entry, sets_of}
 use Rattle.mob_sets.proofs.Order.{same_kind_tells}
 use Rattle.mob_sets.proofs.Entries.{entry_from}
@@ -28,12 +30,6 @@ use Rattle.mob_check.specs.Reaches.{is_row_of, reaches_by, reaches, reach_of}
 use Rattle.mob_check.specs.Closing.{leaves_loose, bars, may_go, piece_holds, arrives, pawn_enters, may_step, may_double_step, may_capture, may_capture_target, capture_holds, pawn_holds, target_holds, source_holds, square_holds, squares_hold, row_holds_as, row_holds, begins_as, begins_at, castles_short_hold, castles_long_hold, castlings_hold, are_closed}
 use Rattle.mob_check.proofs.Choices.{if_from, chosen}
 use Rattle.mob_check.proofs.Fixing.{fixed_is, enemy_is, guard_is, clear_is}
-
-same_color_tells : (a b : Color) → same_color a b ≡ true → a ≡ b
-same_color_tells White White e = refl
-same_color_tells Black Black e = refl
-same_color_tells White Black e = cc
-same_color_tells Black White e = cc
 
 leaves_from : (s : Sets) (o u : ℕ) → (u ≡ o → s.loose o ≡ true) → leaves_loose s o u ≡ true
 unfolding leaves_loose
@@ -45,10 +41,11 @@ enters_from p s o c u t e =
     let last = rank_of t == last_rank c in
     let four = s.has o Queen t && s.has o Rook t && s.has o Bishop t && s.has o Knight t in
     let all = λ (h : last ≡ true).
+    let at = eqb-true (rank_of t) (last_rank c) h in
     and_from (s.has o Queen t && s.has o Rook t && s.has o Bishop t) (s.has o Knight t)
-    (and_from (s.has o Queen t && s.has o Rook t) (s.has o Bishop t) (and_from (s.has o Queen t) (s.has o Rook t) (e.becomes h Queen refl) (e.becomes h Rook refl)) (e.becomes h Bishop refl))
-    (e.becomes h Knight refl) in
-    and_from (if last then four else s.has o Pawn t) (leaves_loose s o u) (chosen last four (s.has o Pawn t) all e.stays) (leaves_from s o u e.leaves)
+    (and_from (s.has o Queen t && s.has o Rook t) (s.has o Bishop t) (and_from (s.has o Queen t) (s.has o Rook t) (e.becomes at Queen refl) (e.becomes at Rook refl)) (e.becomes at Bishop refl))
+    (e.becomes at Knight refl) in
+    and_from (if last then four else s.has o Pawn t) (leaves_loose s o u) (chosen last four (s.has o Pawn t) all (λ h. e.stays (eqb-false (rank_of t) (last_rank c) h))) (leaves_from s o u e.leaves)
 
 -- For a position and rows:
 module _ (p : Board) (r : SetRows) (size : length p.men ≡ 64) where
@@ -90,8 +87,8 @@ module _ (p : Board) (r : SetRows) (size : length p.men ≡ 64) where
       let one = and_parts (aims_at c k u t && is_clear fixed u t) (not guarded) goes in
       let two = and_parts (aims_at c k u t) (is_clear fixed u t) one.0 in
       let opens = sym (clear_is p s size u t) ∙ two.1 in
-      let rule = closed.pieces_move o man k u t entry other two.0 opens (λ royal.
-      sym (guard_is p s size (other_color c) t) ∙ false_from_ne_true (has_guard fixed (other_color c) t) (λ h. both_ways guarded (not-true guarded one.1) (and_from (same_kind k King) (has_guard fixed (other_color c) t) royal h))) in
+      let rule = closed.pieces_move o man k u t entry (kinds_differ k Pawn other) two.0 opens (λ royal.
+      sym (guard_is p s size (other_color c) t) ∙ false_from_ne_true (has_guard fixed (other_color c) t) (λ h. both_ways guarded (not-true guarded one.1) (and_from (same_kind k King) (has_guard fixed (other_color c) t) (same_kind_from k King royal) h))) in
       and_from (not (is_empty fixed t) || (s.has o k t && leaves_loose s o u)) (not (bars fixed c t))
       (if_from (is_empty fixed t) (s.has o k t && leaves_loose s o u) (λ empty.
       let free = unfixed t empty in
@@ -115,7 +112,7 @@ module _ (p : Board) (r : SetRows) (size : length p.men ≡ 64) where
       let b = not_barring c t entry.to rule.spares in
       let d = if_from passes (pawn_enters s o c u t && s.loose (victim_of c t)) (λ h.
       let both = and_parts (is_target p.target t) (same_color c p.side) h in
-      let mine = same_color_tells c p.side both.1 in
+      let mine = same_color_equal c p.side both.1 in
       and_from (pawn_enters s o c u t) (s.loose (victim_of c t)) (enters_from p s o c u t (rule.en_passant both.0 mine)) (rule.victim both.0 mine)) in
       and_from (first && not (bars fixed c t)) last (and_from first (not (bars fixed c t)) a b) d)
 

@@ -1,11 +1,9 @@
 -- A threat is found by the tests, and what they find is one.
 use Rattle.std.proofs.Common.{◌≡◌, ◌≢◌, ℕ, ◌<◌, Bool, true, false, not, ◌&&◌, ◌||◌, ◌==◌, if◌then◌else◌, List, length, refl, ap, sym, subst, ◌∙◌, arith, inl, inr}
 use Rattle.std.specs.List.{list_any}
-use Rattle.std.proofs.lemmas.Bool.{and_parts, and_from, or_cases, or_left, or_right, both_ways, cases_Bool, not-true, ne_eqb, eqb-false, false_from_ne_true}
-use Rattle.std.proofs.lemmas.List.Folds.{Any-from_list_any, list_any_at}
+use Rattle.std.proofs.lemmas.Bool.{and_parts, and_from, or_cases, or_left, or_right, both_ways, cases_Bool, not-true, eq-eqb, eqb-true, ne_eqb, eqb-false, false_from_ne_true}
 use Rattle.cha_board.specs.declared.men.Color.{Color}
 use Rattle.cha_board.specs.declared.men.Kind.{Kind}
-use Rattle.cha_board.specs.declared.men.Kind.TheVariants.{Pawn, Knight, Bishop, Rook, Queen, King}
 use Rattle.cha_board.specs.Men.{other_color}
 use Rattle.cha_board.specs.Squares.{squares, aims_at, steps_apart}
 use Rattle.cha_board.specs.Board.{Board, is_clear}
@@ -16,23 +14,13 @@ use Rattle.mob_law.specs.Reach.{Sets}
 use Rattle.mob_law.specs.Threats.{KingOn, NonKingOn, HasAtMostOneMan, Checks, Attacks, Covered, Blocked, NextToKing, Attacked, Threat, HasNoMate}
 use Rattle.mob_law.proofs.Attackers.{some_square}
 use Rattle.mob_sets.specs.Rows.{SetRows, sets_of}
+use Rattle.mob_sets.proofs.KindTests.{any_kind_at, some_kind}
 use Rattle.mob_check.specs.declared.scene.Scene.{Scene}
 use Rattle.mob_check.specs.Scenes.{squares_as, has_two, scene_of}
-use Rattle.mob_check.specs.Mates.{kinds, checks_as, checks_from, has_check, seen_through, strikes, struck_by, strikes_as, strikes_from, is_struck, struck, keeps_from, is_shut, shuts_from, may_shut, mates_with_all, mates_as, mates_from, mates_with_one, may_mate_on, may_mate}
+use Rattle.mob_check.specs.Mates.{checks_as, checks_from, has_check, seen_through, strikes, struck_by, strikes_as, strikes_from, is_struck, struck, keeps_from, is_shut, shuts_from, may_shut, mates_with_all, mates_as, mates_from, mates_with_one, may_mate_on, may_mate}
 use Rattle.mob_check.proofs.Choices.{if_at, if_from, chosen, chosen_first, chosen_second}
 use Rattle.mob_check.proofs.Fixing.{clear_is, through_is}
 use Rattle.mob_check.proofs.MenInReach.{squares_as_is, king_gives, king_from, man_gives, man_from, any_gives, any_from, one_from, two_not_one}
-
-any_kind_at : (f : Kind → Bool) (k : Kind) → f k ≡ true → list_any f kinds ≡ true
-any_kind_at f Pawn h = list_any_at f kinds 0 Pawn (omega arith) h
-any_kind_at f Knight h = list_any_at f kinds 1 Pawn (omega arith) h
-any_kind_at f Bishop h = list_any_at f kinds 2 Pawn (omega arith) h
-any_kind_at f Rook h = list_any_at f kinds 3 Pawn (omega arith) h
-any_kind_at f Queen h = list_any_at f kinds 4 Pawn (omega arith) h
-any_kind_at f King h = list_any_at f kinds 5 Pawn (omega arith) h
-
-some_kind : (f : Kind → Bool) → list_any f kinds ≡ true → (k : Kind) × (f k ≡ true)
-some_kind f h = (let found = Any-from_list_any f kinds h in (found.1, found.4))
 
 joined_has : (a b : List Bool) (n : ℕ) → n < 64 → has_square (set_joined a b) n ≡ (has_square a n || has_square b n)
 unfolding set_joined
@@ -122,21 +110,21 @@ module _ (p : Board) (r : SetRows) (w : Color) (size : length p.men ≡ 64) wher
       (j.0, v.0, attacks_give ks n v.0 j.0 small man as_kind.1)
 
   -- the winner's king shuts in the loser's
-  shut_test : (ks wk : ℕ) (covered : List Bool) → KingOn p s w wk → wk ≢ ks → (steps_apart ks wk == 1) ≡ false
+  shut_test : (ks wk : ℕ) (covered : List Bool) → KingOn p s w wk → wk ≢ ks → steps_apart ks wk ≢ 1
       → ((n : ℕ) → n < 64 → (steps_apart ks n == 1) ≡ true → (has_square covered n || (steps_apart wk n == 1)) ≡ true) → may_shut scene covered ks ≡ true
   unfolding may_shut shuts_from is_shut keeps_from scene_of
   shut_test ks wk covered king distinct far each =
       let here = king_from p r w wk king in
       let all = each_square (keeps_from covered ks wk) (λ n small. if_from (steps_apart ks n == 1) (has_square covered n || (steps_apart wk n == 1)) (each n small)) in
       let a = and_from (has_square scene.winner_king wk) (not (wk == ks)) here (apart_from wk ks distinct) in
-      let b = and_from (has_square scene.winner_king wk && not (wk == ks)) (not (steps_apart ks wk == 1)) a (ap not far) in
+      let b = and_from (has_square scene.winner_king wk && not (wk == ks)) (not (steps_apart ks wk == 1)) a (apart_from (steps_apart ks wk) 1 far) in
       any_square_at (shuts_from scene covered ks) wk king.small (and_from (has_square scene.winner_king wk && not (wk == ks) && not (steps_apart ks wk == 1)) (is_shut covered ks wk) b all)
 
   record ShutBy (ks : ℕ) (covered : List Bool) : Type 0 where
     wk : ℕ
     king : KingOn p s w wk
     distinct : wk ≢ ks
-    far : (steps_apart ks wk == 1) ≡ false
+    far : steps_apart ks wk ≢ 1
     each : (n : ℕ) → n < 64 → (steps_apart ks n == 1) ≡ true → (has_square covered n || (steps_apart wk n == 1)) ≡ true
 
   shut_gives : (ks : ℕ) (covered : List Bool) → may_shut scene covered ks ≡ true → ShutBy ks covered
@@ -150,7 +138,7 @@ module _ (p : Board) (r : SetRows) (w : Color) (size : length p.men ≡ 64) wher
         wk = wk.0;
         king = king_gives p r w wk.0 wk.1 d.0;
         distinct = apart_tells wk.0 ks d.1;
-        far = not-true (steps_apart ks wk.0 == 1) b.1;
+        far = apart_tells (steps_apart ks wk.0) 1 b.1;
         each = λ n small near_by. if_at (steps_apart ks n == 1) (has_square covered n || (steps_apart wk.0 n == 1)) (all_squares_at (keeps_from covered ks wk.0) n a.1 small) near_by;
       }
 
@@ -162,7 +150,7 @@ module _ (p : Board) (r : SetRows) (w : Color) (size : length p.men ≡ 64) wher
       let t = struck scene (seen_through scene ks) ks in
       or_left (has_square (set_joined scene.loser_men t) n) (steps_apart wk n == 1) (joined_has scene.loser_men t n small' ∙ or_left (has_square scene.loser_men n) (has_square t n) (any_from p r (other_color w) j n man))
   cover_all ks wk n u k small small' near_by (NextToKing h) =
-      or_right (has_square (set_joined scene.loser_men (struck scene (seen_through scene ks) ks)) n) (steps_apart wk n == 1) h
+      or_right (has_square (set_joined scene.loser_men (struck scene (seen_through scene ks) ks)) n) (steps_apart wk n == 1) (eq-eqb (steps_apart wk n) 1 h)
   cover_all ks wk n u k small small' near_by (Attacked j v a lone) =
       let t = struck scene (seen_through scene ks) ks in
       or_left (has_square (set_joined scene.loser_men t) n) (steps_apart wk n == 1) (joined_has scene.loser_men t n small' ∙ or_right (has_square scene.loser_men n) (has_square t n) (struck_test ks n v j small small' near_by a))
@@ -175,7 +163,7 @@ module _ (p : Board) (r : SetRows) (w : Color) (size : length p.men ≡ 64) wher
       let t = struck_by w (seen_through scene ks) ks u k in
       or_left (has_square (set_joined scene.loser_men t) n) (steps_apart wk n == 1) (joined_has scene.loser_men t n small' ∙ or_left (has_square scene.loser_men n) (has_square t n) (any_from p r (other_color w) j n man))
   cover_one ks wk n u k one small small' near_by (NextToKing h) =
-      or_right (has_square (set_joined scene.loser_men (struck_by w (seen_through scene ks) ks u k)) n) (steps_apart wk n == 1) h
+      or_right (has_square (set_joined scene.loser_men (struck_by w (seen_through scene ks) ks u k)) n) (steps_apart wk n == 1) (eq-eqb (steps_apart wk n) 1 h)
   cover_one ks wk n u k one small small' near_by (Attacked j v a lone) =
       let t = struck_by w (seen_through scene ks) ks u k in
       let same = lone one in
@@ -194,10 +182,10 @@ module _ (p : Board) (r : SetRows) (w : Color) (size : length p.men ≡ 64) wher
       let u_small = t.checks.checker.small in
       let one = λ (h : not (has_two p.men w) ≡ true). (
       let lone = one_from p w size (not-true (has_two p.men w) h) in
-      let shut = shut_test ks wk (set_joined scene.loser_men (struck_by w seen ks u k)) t.winner t.distinct t.far (λ n small' near_by. cover_one ks wk n u k lone small small' near_by (t.covered n small' near_by)) in
+      let shut = shut_test ks wk (set_joined scene.loser_men (struck_by w seen ks u k)) t.winner t.distinct t.far (λ n small' near_by. cover_one ks wk n u k lone small small' near_by (t.covered n small' (eqb-true (steps_apart ks n) 1 near_by))) in
       any_square_at (mates_from scene seen ks) u u_small (any_kind_at (mates_as scene seen ks u) k (and_from (checks_as scene ks u k) (may_shut scene (set_joined scene.loser_men (struck_by w seen ks u k)) ks) check shut))) in
       let many = λ (h : not (has_two p.men w) ≡ false). (
-      let shut = shut_test ks wk (set_joined scene.loser_men (struck scene seen ks)) t.winner t.distinct t.far (λ n small' near_by. cover_all ks wk n u k small small' near_by (t.covered n small' near_by)) in
+      let shut = shut_test ks wk (set_joined scene.loser_men (struck scene seen ks)) t.winner t.distinct t.far (λ n small' near_by. cover_all ks wk n u k small small' near_by (t.covered n small' (eqb-true (steps_apart ks n) 1 near_by))) in
       let some = any_square_at (checks_from scene ks) u u_small (any_kind_at (checks_as scene ks u) k check) in
       and_from (has_check scene ks) (may_shut scene (set_joined scene.loser_men (struck scene seen ks)) ks) some shut) in
       and_from (has_square scene.loser_king ks) (if not (has_two p.men w) then mates_with_one scene seen ks else mates_with_all scene seen ks)
@@ -210,7 +198,7 @@ module _ (p : Board) (r : SetRows) (w : Color) (size : length p.men ≡ 64) wher
   covered_one ks wk n u k small small' man h =
       let t = struck_by w (seen_through scene ks) ks u k in
       elim (or_cases (has_square (set_joined scene.loser_men t) n) (steps_apart wk n == 1) h) [
-        | inr near_by ↦ NextToKing near_by
+        | inr near_by ↦ NextToKing (eqb-true (steps_apart wk n) 1 near_by)
         | inl on ↦ elim (or_cases (has_square scene.loser_men n) (has_square t n) (sym (joined_has scene.loser_men t n small') ∙ on)) [
           | inl there ↦ (let blocker = any_gives p r (other_color w) n small' there in Blocked blocker.0 blocker.1)
           | inr hit ↦ Attacked k u (attacks_give ks n u k small man (sym (has-set_of (strikes w (seen_through scene ks) ks u k) n small') ∙ hit)) (λ lone. (refl, refl))
@@ -223,7 +211,7 @@ module _ (p : Board) (r : SetRows) (w : Color) (size : length p.men ≡ 64) wher
   covered_all ks wk n u k two small small' h =
       let t = struck scene (seen_through scene ks) ks in
       elim (or_cases (has_square (set_joined scene.loser_men t) n) (steps_apart wk n == 1) h) [
-        | inr near_by ↦ NextToKing near_by
+        | inr near_by ↦ NextToKing (eqb-true (steps_apart wk n) 1 near_by)
         | inl on ↦ elim (or_cases (has_square scene.loser_men n) (has_square t n) (sym (joined_has scene.loser_men t n small') ∙ on)) [
           | inl there ↦ (let blocker = any_gives p r (other_color w) n small' there in Blocked blocker.0 blocker.1)
           | inr hit ↦ (let a = struck_gives ks n small small' hit in Attacked a.0 a.1 a.2 (λ lone. absurd (two_not_one p w two lone)))
@@ -248,7 +236,7 @@ module _ (p : Board) (r : SetRows) (w : Color) (size : length p.men ≡ 64) wher
           kind = k.0;
           square = u.0;
           checks = check;
-          covered = λ n small' near_by. covered_one ks shut.wk n u.0 k.0 small small' check.checker (shut.each n small' near_by);
+          covered = λ n small' near_by. covered_one ks shut.wk n u.0 k.0 small small' check.checker (shut.each n small' (eq-eqb (steps_apart ks n) 1 near_by));
         },
       )
 
@@ -270,7 +258,7 @@ module _ (p : Board) (r : SetRows) (w : Color) (size : length p.men ≡ 64) wher
           kind = k.0;
           square = u.0;
           checks = check;
-          covered = λ n small' near_by. covered_all ks shut.wk n u.0 k.0 two small small' (shut.each n small' near_by);
+          covered = λ n small' near_by. covered_all ks shut.wk n u.0 k.0 two small small' (shut.each n small' (eq-eqb (steps_apart ks n) 1 near_by));
         },
       )
 

@@ -1,6 +1,5 @@
 -- Squares on which no man of the winner is in reach: from there none gives check, attacks a square or mates.
 use Rattle.std.proofs.Common.{◌≡◌, ℕ, ◌<◌, Bool, true, false, ◌&&◌, ◌||◌, ◌==◌, if◌then◌else◌, List, refl, ap, sym, ◌∙◌}
-use Rattle.std.specs.List.{list_any}
 use Rattle.std.specs.Int.{bit_at}
 use Rattle.std.proofs.lemmas.Nat.Bits.{bit_at-zero}
 use Rattle.cha_board.specs.declared.men.Kind.{Kind}
@@ -10,10 +9,11 @@ use Rattle.std.specs.Prelude.{Option}
 use Rattle.cha_board.specs.SquareSets.{set_of_bits, has_square, set_joined}
 use Rattle.cha_board.specs.SetLaws.{has-set_of}
 use Rattle.cha_board.proofs.Scans.{no_square}
+use Rattle.mob_sets.proofs.KindTests.{no_kind}
 use Rattle.mob_check.specs.declared.scene.Reach.{Reach}
 use Rattle.mob_check.specs.declared.scene.Scene.{Scene}
 use Rattle.mob_check.specs.Scenes.{squares_as, all_in_reach}
-use Rattle.mob_check.specs.Mates.{kinds, checks_as, checks_from, has_check, seen_through, strikes_as, strikes_from, mates_as, mates_from, mates_with_one, mates_with_all, may_mate_on, may_mate}
+use Rattle.mob_check.specs.Mates.{checks_as, checks_from, has_check, seen_through, strikes_as, strikes_from, mates_as, mates_from, mates_with_one, mates_with_all, may_mate_on, may_mate}
 
 neither : (a b : Bool) → (a || b) ≡ false → (a ≡ false) × (b ≡ false)
 neither true b h = cc
@@ -46,9 +46,6 @@ not_as r u k small none =
     each p n b s q l Rook = s
     each p n b s q l Queen = q
     each p n b s q l King = l
-
-no_kind : (q : Kind → Bool) → ((k : Kind) → q k ≡ false) → list_any q kinds ≡ false
-no_kind q fails = rw (fails Pawn, fails Knight, fails Bishop, fails Rook, fails Queen, fails King) refl
 
 pub no_check_from : (scene : Scene) (ks u : ℕ) → u < 64 → has_square (all_in_reach scene.men) u ≡ false → checks_from scene ks u ≡ false
 unfolding checks_from checks_as

@@ -1,19 +1,16 @@
 -- Whether a mate is in reach, as tests. `ks` is the loser's king's square, `wk` the winner's, and `seen` the fixed men with
 -- ks left empty, so that the king is not in the way of what attacks the squares behind it.
-use Rattle.std.specs.Prelude.{ℕ, ◌==◌, Bool, not, ◌&&◌, ◌||◌, if◌then◌else◌, List, [], ◌∷◌, Option, None, slice_set}
+use Rattle.std.specs.Prelude.{ℕ, ◌==◌, Bool, not, ◌&&◌, ◌||◌, if◌then◌else◌, List, Option, None, slice_set}
 use Rattle.std.specs.List.{list_all, list_any}
 use Rattle.cha_board.specs.declared.men.Color.{Color}
 use Rattle.cha_board.specs.declared.men.Kind.{Kind}
-use Rattle.cha_board.specs.declared.men.Kind.TheVariants.{Pawn, Knight, Bishop, Rook, Queen, King}
 use Rattle.cha_board.specs.declared.men.Man.{Man}
 use Rattle.cha_board.specs.Squares.{squares, aims_at, steps_apart}
 use Rattle.cha_board.specs.Board.{is_clear}
 use Rattle.cha_board.specs.SquareSets.{set_of, has_square, set_joined}
+use Rattle.mob_sets.specs.Rows.{kinds}
 use Rattle.mob_check.specs.declared.scene.Scene.{Scene}
 use Rattle.mob_check.specs.Scenes.{squares_as}
-
-abbrev pub kinds : List Kind
-kinds = Pawn ∷ Knight ∷ Bishop ∷ Rook ∷ Queen ∷ King ∷ []
 
 -- a man of the winner, as a k on u, may give check to the king on ks
 unfoldable pub checks_as : Scene → ℕ → ℕ → Kind → Bool

@@ -1,6 +1,6 @@
--- The squares next to each square.
-use Rattle.std.specs.Prelude.{ℕ, ◌==◌, Bool, List, map}
-use Rattle.cha_board.specs.Squares.{squares, steps_apart}
+-- The squares next to a square.
+use Rattle.std.specs.Prelude.{ℕ, ◌==◌, Bool, List}
+use Rattle.cha_board.specs.Squares.{steps_apart}
 use Rattle.cha_board.specs.SquareSets.{set_of}
 
 -- n is next to s
@@ -10,7 +10,3 @@ is_next_to s n = steps_apart s n == 1
 -- the squares next to s
 unfoldable pub next_to : ℕ → List Bool
 next_to s = set_of (is_next_to s)
-
--- the squares next to each square
-unfoldable pub near_all : List (List Bool)
-near_all = map next_to squares

@@ -26,4 +26,5 @@ mod test_sets;
 
 pub use bound::proves_unwinnable;
 pub use closing::closed;
+pub use groups::is_man_other_than_king;
 pub use mates::no_mate;

@@ -3,17 +3,17 @@
 ghost use Rattle.std.specs.Prelude.{◌≡◌, ◌↔◌, IsTrue};
 ghost use Rattle.mob_law.specs.Threats.{HasNoMate};
 ghost use Rattle.mob_sets.specs.Rows.{sets_of};
-ghost use Rattle.mob_check.specs.Nearness.{near_all};
 ghost use Rattle.mob_check.specs.Mates.{is_shut, shuts_from, may_shut, mates_with_all, mates_as, mates_from, mates_with_one, may_mate_on, may_mate};
 
-use crate::near::{is_near, near_squares};
+use crate::near::{is_near, squares_near};
 use crate::scene::{Scene, somewhere};
 use crate::strikes::{check_as, some_check, struck, struck_from, through_king};
 use cha_board::{Color, Kind, Man, Position, Square, SquareSet};
 use mob_sets::Sets;
 
-/// Whether mobility sets have no mate for a winner: wherever the two kings may stand, either no man of the winner may give
-/// check, or the loser's king cannot be kept from some square next to it.
+/// Whether mobility sets have no mate for a winner (this project): wherever the two kings may stand, either no man of the
+/// winner may give check, or the loser's king cannot be kept from some square next to it. Where the winner has one man
+/// beside its king, that man has to do both from one square. It takes no memory.
 pub fn no_mate(position: &Position, winner: Color, sets: &Sets) -> bool
     ensures { IsTrue result ↔ HasNoMate position.now (sets_of sets.now) winner }
 {
@@ -29,9 +29,8 @@ fn some_mate(scene: &Scene) -> bool
     if somewhere(&scene.men).bits() == 0 {
         return false;
     }
-    let near = near_squares();
     for index in 0..64 {
-        if mate_on(scene, &near, Square::at(index)) {
+        if mate_on(scene, Square::at(index)) {
             return true;
         }
     }
@@ -40,8 +39,7 @@ fn some_mate(scene: &Scene) -> bool
 
 /// Whether a mate of the king on a square is in reach.
 #[tactic(auto, unfolding(crate::specs::Mates::may_mate_on))]
-fn mate_on(scene: &Scene, near: &[SquareSet; 64], king: Square) -> bool
-    requires { near.now ≡ near_all }
+fn mate_on(scene: &Scene, king: Square) -> bool
     ensures { result ≡ may_mate_on scene.now king }
 {
     if !scene.loser_king.has(king) {
@@ -49,47 +47,34 @@ fn mate_on(scene: &Scene, near: &[SquareSet; 64], king: Square) -> bool
     }
     let seen = through_king(scene, king);
     if scene.one_man {
-        mate_with_one(scene, near, &seen, king)
+        mate_with_one(scene, &seen, king)
     } else {
-        mate_with_all(scene, near, &seen, king)
+        mate_with_all(scene, &seen, king)
     }
 }
 
 /// Whether one man of the winner may give check while its men and its king keep the other king in.
 #[tactic(auto, unfolding(crate::specs::Mates::mates_with_all))]
-fn mate_with_all(
-    scene: &Scene,
-    near: &[SquareSet; 64],
-    seen: &[Option<Man>; 64],
-    king: Square,
-) -> bool
-    requires { near.now ≡ near_all }
+fn mate_with_all(scene: &Scene, seen: &[Option<Man>; 64], king: Square) -> bool
     ensures { result ≡ mates_with_all scene.now seen.now king }
 {
     some_check(scene, king)
         && some_shut(
             scene,
-            near,
-            scene.loser_men.joined(struck(scene, near, seen, king)),
+            scene.loser_men.joined(struck(scene, seen, king)),
             king,
         )
 }
 
 /// Whether the only man of the winner may give check while it and its king keep the other king in.
 #[tactic(auto, unfolding(crate::specs::Mates::mates_with_one), using(crate::proofs::Unreached::no_mate_from))]
-fn mate_with_one(
-    scene: &Scene,
-    near: &[SquareSet; 64],
-    seen: &[Option<Man>; 64],
-    king: Square,
-) -> bool
-    requires { near.now ≡ near_all }
+fn mate_with_one(scene: &Scene, seen: &[Option<Man>; 64], king: Square) -> bool
     ensures { result ≡ mates_with_one scene.now seen.now king }
 {
     let men = somewhere(&scene.men);
     for index in 0..64 {
         let from = Square::at(index);
-        if men.has(from) && mate_from(scene, near, seen, king, from) {
+        if men.has(from) && mate_from(scene, seen, king, from) {
             return true;
         }
     }
@@ -98,56 +83,39 @@ fn mate_with_one(
 
 /// The same from a square.
 #[tactic(auto, unfolding(crate::specs::Mates::mates_from))]
-fn mate_from(
-    scene: &Scene,
-    near: &[SquareSet; 64],
-    seen: &[Option<Man>; 64],
-    king: Square,
-    from: Square,
-) -> bool
-    requires { near.now ≡ near_all }
+fn mate_from(scene: &Scene, seen: &[Option<Man>; 64], king: Square, from: Square) -> bool
     ensures { result ≡ mates_from scene.now seen.now king from }
 {
-    mate_as(scene, near, seen, king, from, Kind::Pawn)
-        || mate_as(scene, near, seen, king, from, Kind::Knight)
-        || mate_as(scene, near, seen, king, from, Kind::Bishop)
-        || mate_as(scene, near, seen, king, from, Kind::Rook)
-        || mate_as(scene, near, seen, king, from, Kind::Queen)
-        || mate_as(scene, near, seen, king, from, Kind::King)
+    mate_as(scene, seen, king, from, Kind::Pawn)
+        || mate_as(scene, seen, king, from, Kind::Knight)
+        || mate_as(scene, seen, king, from, Kind::Bishop)
+        || mate_as(scene, seen, king, from, Kind::Rook)
+        || mate_as(scene, seen, king, from, Kind::Queen)
+        || mate_as(scene, seen, king, from, Kind::King)
 }
 
 /// The same from a square, as a kind.
 #[tactic(auto, unfolding(crate::specs::Mates::mates_as))]
-fn mate_as(
-    scene: &Scene,
-    near: &[SquareSet; 64],
-    seen: &[Option<Man>; 64],
-    king: Square,
-    from: Square,
-    kind: Kind,
-) -> bool
-    requires { near.now ≡ near_all }
+fn mate_as(scene: &Scene, seen: &[Option<Man>; 64], king: Square, from: Square, kind: Kind) -> bool
     ensures { result ≡ mates_as scene.now seen.now king from kind }
 {
     check_as(scene, king, from, kind)
         && some_shut(
             scene,
-            near,
             scene
                 .loser_men
-                .joined(struck_from(scene.winner, near, seen, king, from, kind)),
+                .joined(struck_from(scene.winner, seen, king, from, kind)),
             king,
         )
 }
 
 /// Whether the winner's king may stand so that with covered squares it keeps the other king in.
 #[tactic(auto, unfolding(crate::specs::Mates::may_shut))]
-fn some_shut(scene: &Scene, near: &[SquareSet; 64], covered: SquareSet, king: Square) -> bool
-    requires { near.now ≡ near_all }
+fn some_shut(scene: &Scene, covered: SquareSet, king: Square) -> bool
     ensures { result ≡ may_shut scene.now covered king }
 {
     for index in 0..64 {
-        if shut_from(scene, near, covered, king, Square::at(index)) {
+        if shut_from(scene, covered, king, Square::at(index)) {
             return true;
         }
     }
@@ -156,27 +124,18 @@ fn some_shut(scene: &Scene, near: &[SquareSet; 64], covered: SquareSet, king: Sq
 
 /// Whether the winner's king may stand on a square and does so there.
 #[tactic(auto, unfolding(crate::specs::Mates::shuts_from))]
-fn shut_from(
-    scene: &Scene,
-    near: &[SquareSet; 64],
-    covered: SquareSet,
-    king: Square,
-    winner_king: Square,
-) -> bool
-    requires { near.now ≡ near_all }
+fn shut_from(scene: &Scene, covered: SquareSet, king: Square, winner_king: Square) -> bool
     ensures { result ≡ shuts_from scene.now covered king winner_king }
 {
     scene.winner_king.has(winner_king)
         && winner_king.index() != king.index()
-        && !is_near(near, king, winner_king)
-        && shut_in(near, covered, king, winner_king)
+        && !is_near(king, winner_king)
+        && shut_in(covered, king, winner_king)
 }
 
 /// Whether the king is kept from each square next to it.
-fn shut_in(near: &[SquareSet; 64], covered: SquareSet, king: Square, winner_king: Square) -> bool
-    requires { near.now ≡ near_all }
+fn shut_in(covered: SquareSet, king: Square, winner_king: Square) -> bool
     ensures { result ≡ is_shut covered king winner_king }
 {
-    let others = near[usize::from(winner_king.index())];
-    near[usize::from(king.index())].within(covered.joined(others))
+    squares_near(king).within(covered.joined(squares_near(winner_king)))
 }

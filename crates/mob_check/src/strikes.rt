@@ -3,12 +3,11 @@
 ghost use Rattle.std.specs.Prelude.{◌≡◌};
 ghost use Rattle.std.specs.List.{list_any};
 ghost use Rattle.cha_board.specs.Squares.{squares};
-ghost use Rattle.mob_check.specs.Nearness.{near_all};
 ghost use Rattle.mob_check.specs.Mates.{checks_as, checks_from, has_check, seen_through, strikes, struck_by, strikes_as, strikes_from, is_struck, struck as struck_set};
 
 use crate::near::is_near;
 use crate::scene::{Scene, reach_as, somewhere};
-use cha_board::{Color, Kind, Man, Square, SquareSet, aims_at, sees, steps_between};
+use cha_board::{Color, Kind, Man, Square, SquareSet, aims_at, sees};
 
 /// Whether a man of the winner may give check to the king on a square.
 #[tactic(auto, unfolding(crate::specs::Mates::has_check), using(crate::proofs::Unreached::no_check_from))]
@@ -60,19 +59,13 @@ pub fn through_king(scene: &Scene, king: Square) -> [Option<Man>; 64]
 }
 
 /// The squares next to the king that some man of the winner may attack.
-pub fn struck(
-    scene: &Scene,
-    near: &[SquareSet; 64],
-    seen: &[Option<Man>; 64],
-    king: Square,
-) -> SquareSet
-    requires { near.now ≡ near_all }
+pub fn struck(scene: &Scene, seen: &[Option<Man>; 64], king: Square) -> SquareSet
     ensures { result ≡ struck_set scene.now seen.now king }
 {
     let mut squares = SquareSet::empty();
     for index in 0..64 {
         let at = Square::at(index);
-        if struck_on(scene, near, seen, king, at) {
+        if struck_on(scene, seen, king, at) {
             squares = squares.with(at);
         }
     }
@@ -81,17 +74,10 @@ pub fn struck(
 
 /// Whether some man of the winner may attack a square next to the king.
 #[tactic(auto, unfolding(crate::specs::Mates::is_struck))]
-fn struck_on(
-    scene: &Scene,
-    near: &[SquareSet; 64],
-    seen: &[Option<Man>; 64],
-    king: Square,
-    at: Square,
-) -> bool
-    requires { near.now ≡ near_all }
+fn struck_on(scene: &Scene, seen: &[Option<Man>; 64], king: Square, at: Square) -> bool
     ensures { result ≡ is_struck scene.now seen.now king at }
 {
-    is_near(near, king, at) && some_strike(scene, seen, king, at)
+    is_near(king, at) && some_strike(scene, seen, king, at)
 }
 
 /// Whether some man of the winner may attack a square.
@@ -155,7 +141,7 @@ fn strike(
 ) -> bool
     ensures { result ≡ strikes side seen.now king from kind at }
 {
-    steps_between(king, at) == 1
+    is_near(king, at)
         && from.index() != at.index()
         && from.index() != king.index()
         && aims_at(side, kind, from, at)
@@ -165,38 +151,19 @@ fn strike(
 /// The squares next to the king that a man attacks.
 pub fn struck_from(
     side: Color,
-    near: &[SquareSet; 64],
     seen: &[Option<Man>; 64],
     king: Square,
     from: Square,
     kind: Kind,
 ) -> SquareSet
-    requires { near.now ≡ near_all }
     ensures { result ≡ struck_by side seen.now king from kind }
 {
     let mut squares = SquareSet::empty();
     for index in 0..64 {
         let at = Square::at(index);
-        if strike_near(side, near, seen, king, from, kind, at) {
+        if strike(side, seen, king, from, kind, at) {
             squares = squares.with(at);
         }
     }
     squares
-}
-
-/// Whether a man attacks a square next to the king, which is asked first.
-#[tactic(auto, unfolding(crate::specs::Mates::strikes))]
-fn strike_near(
-    side: Color,
-    near: &[SquareSet; 64],
-    seen: &[Option<Man>; 64],
-    king: Square,
-    from: Square,
-    kind: Kind,
-    at: Square,
-) -> bool
-    requires { near.now ≡ near_all }
-    ensures { result ≡ strikes side seen.now king from kind at }
-{
-    is_near(near, king, at) && strike(side, seen, king, from, kind, at)
 }

@@ -68,7 +68,7 @@ module _ (p : Board) (s : Sets) (valid : IsValid p) (rules : IsClosedButForCastl
   slides : (o u t : ℕ) (man : Man) → man_at p.men o ≡ Some man → Slide u t → s.has o Rook u ≡ true → is_fixed p s t ≡ false → (s.has o Rook t ≡ true) × (u ≡ o → s.loose o ≡ true)
   slides o u t man stood slide reach free =
       let entry : Entry p s o man Rook u t = record { stood = stood; reach = reach; from = slide.from; to = slide.to } in
-      let goes = rules.pieces_move o man Rook u t entry refl (slide.aims man.color) (open_near p s u t slide.nothing) (λ king. absurd cc) in
+      let goes = rules.pieces_move o man Rook u t entry (λ e. cc) (slide.aims man.color) (open_near p s u t slide.nothing) (λ king. absurd cc) in
       (goes.goes free, λ e. goes.leaves free e)
 
   -- a rook of c in reach on t is an enemy of the other side there
@@ -102,7 +102,7 @@ module _ (p : Board) (s : Sets) (valid : IsValid p) (rules : IsClosedButForCastl
           aims = rw kind (king_aims_from (other_color c) f second step);
           near = rw kind refl;
         } in
-        goes_there p s valid rules (other_color c) second f small way.second_small second_free g (rw kind refl) (λ k. subst G (sym (other_other c)) own)
+        goes_there p s valid rules (other_color c) second f small way.second_small second_free g (λ pawn. cc) (λ k. subst G (sym (other_other c)) own)
 
     second_unguarded : is_guarded p s (other_color c) second ≡ false
     second_unguarded =
@@ -153,10 +153,10 @@ module _ (p : Board) (s : Sets) (valid : IsValid p) (rules : IsClosedButForCastl
         let begins : s.has h King h ≡ true = subst K k.kind (rules.begins h k.man k.found) in
         let G : ℕ → Type 0 = λ x. is_guarded p s (other_color k.man.color) x ≡ false in
         let e1 : Entry p s h k.man King h first = record { stood = k.found; reach = begins; from = way.home; to = way.first_small } in
-        let g1 = rules.pieces_move h k.man King h first e1 refl (king_aims_from k.man.color h first way.begins) (open_near p s h first (near h first way.home way.first_small way.begins).clear)
+        let g1 = rules.pieces_move h k.man King h first e1 (λ e. cc) (king_aims_from k.man.color h first way.begins) (open_near p s h first (near h first way.home way.first_small way.begins).clear)
         (λ x. rw color first_unguarded) in
         let e2 : Entry p s h k.man King first second = record { stood = k.found; reach = g1.goes first_free; from = way.first_small; to = way.second_small } in
-        let g2 = rules.pieces_move h k.man King first second e2 refl (king_aims_from k.man.color first second way.ends) (open_near p s first second (near first second way.first_small way.second_small way.ends).clear)
+        let g2 = rules.pieces_move h k.man King first second e2 (λ e. cc) (king_aims_from k.man.color first second way.ends) (open_near p s first second (near first second way.first_small way.second_small way.ends).clear)
         (λ x. rw color second_unguarded) in
         (g2.goes second_free, g1.leaves first_free refl)
 

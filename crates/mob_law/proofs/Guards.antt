@@ -1,12 +1,12 @@
 -- Which fixed men guard a square on which nothing is fixed, where all rules but those of castling hold.
-use Rattle.std.proofs.Common.{◌≡◌, ℕ, ◌<◌, Bool, true, false, not, ◌&&◌, ◌||◌, ◌==◌, Option, Some, None, refl, sym, subst, ap, ◌∙◌, inl, inr}
+use Rattle.std.proofs.Common.{◌≡◌, ◌≢◌, ℕ, ◌<◌, Bool, true, false, not, ◌&&◌, ◌||◌, ◌==◌, Option, Some, None, refl, sym, subst, ap, ◌∙◌, inl, inr}
 use Rattle.std.specs.List.{list_all}
 use Rattle.std.proofs.lemmas.Bool.{and_parts, both_ways, false_from_ne_true, not-true}
 use Rattle.cha_board.specs.declared.men.Color.{Color}
 use Rattle.cha_board.specs.declared.men.Kind.{Kind}
 use Rattle.cha_board.specs.declared.men.Kind.TheVariants.{Pawn, Knight, Bishop, Rook, Queen, King}
 use Rattle.cha_board.specs.declared.men.Man.{Man}
-use Rattle.cha_board.specs.Men.{other_color, same_color, same_kind, is_man}
+use Rattle.cha_board.specs.Men.{other_color, same_color, is_man}
 use Rattle.cha_board.specs.Squares.{squares, steps_apart, aims_at}
 use Rattle.cha_board.specs.Board.{Board, man_at, in_check, home_of, IsValid}
 use Rattle.cha_board.proofs.Scans.{all_squares_at}
@@ -50,14 +50,14 @@ some_guard p s c t h =
 pub data Class (k : Kind) : Type 0 where
   APawn : k ≡ Pawn → Class k
   AKing : k ≡ King → Class k
-  APiece : same_kind k Pawn ≡ false → same_kind k King ≡ false → Class k
+  APiece : k ≢ Pawn → k ≢ King → Class k
 
 pub class_of : (k : Kind) → Class k
 class_of Pawn = APawn refl
-class_of Knight = APiece refl refl
-class_of Bishop = APiece refl refl
-class_of Rook = APiece refl refl
-class_of Queen = APiece refl refl
+class_of Knight = APiece (λ e. cc) (λ e. cc)
+class_of Bishop = APiece (λ e. cc) (λ e. cc)
+class_of Rook = APiece (λ e. cc) (λ e. cc)
+class_of Queen = APiece (λ e. cc) (λ e. cc)
 class_of King = AKing refl
 
 -- no pawn of c captures onto t
@@ -70,8 +70,8 @@ module _ (p : Board) (s : Sets) (valid : IsValid p) (rules : IsClosedButForCastl
   own_entry f t man found small small' = record { stood = found; reach = rules.begins f man found; from = small; to = small' }
 
   -- a guard goes where it guards, and so is not fixed, unless it is a pawn, or a king that the other side keeps off
-  pub goes_there : (c : Color) (t f : ℕ) → f < 64 → t < 64 → is_fixed p s t ≡ false → (g : Guard p s c t f) → same_kind g.man.kind Pawn ≡ false
-      → (same_kind g.man.kind King ≡ true → is_guarded p s (other_color c) t ≡ false) → ⊥
+  pub goes_there : (c : Color) (t f : ℕ) → f < 64 → t < 64 → is_fixed p s t ≡ false → (g : Guard p s c t f) → g.man.kind ≢ Pawn
+      → (g.man.kind ≡ King → is_guarded p s (other_color c) t ≡ false) → ⊥
   goes_there c t f small small' free g piece unguarded =
       let none = leap_clear c g.man.kind f t small small' g.aims g.near in
       let A : Color → Type 0 = λ x. aims_at x g.man.kind f t ≡ true in
@@ -97,7 +97,7 @@ module _ (p : Board) (s : Sets) (valid : IsValid p) (rules : IsClosedButForCastl
       elim (class_of g.man.kind) [
         | APawn e ↦ absurd (captures_there c t f small small' free g e enemy)
         | AKing e ↦ e
-        | APiece a b ↦ absurd (goes_there c t f small small' free g a (λ king. absurd (both_ways (same_kind g.man.kind King) b king)))
+        | APiece a b ↦ absurd (goes_there c t f small small' free g a (λ king. absurd (b king)))
       ]
 
   -- a king on its home guards what is next to it, and no man of its side guards a square that is not, onto which its pawns do
@@ -119,7 +119,7 @@ module _ (p : Board) (s : Sets) (valid : IsValid p) (rules : IsClosedButForCastl
             let one : f ≡ home_of c = sym there ∙ at_home in
             let step : (steps_apart f t == 1) ≡ true = king_aims c f t (subst A e g.aims) in
             both_ways (steps_apart (home_of c) t == 1) far (rw one at step))
-        | APiece a b ↦ goes_there c t f from.1 small free g a (λ king. absurd (both_ways (same_kind g.man.kind King) b king))
+        | APiece a b ↦ goes_there c t f from.1 small free g a (λ king. absurd (b king))
       ])
 
   -- no enemy king stands next to a king

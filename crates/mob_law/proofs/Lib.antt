@@ -14,7 +14,5 @@ pub mod Pawns
 pub mod Castles
 pub mod Keeping
 pub mod Law
-pub mod Growing
-pub mod Widest
 pub mod Guards
 pub mod CastlingFollows

@@ -1,6 +1,6 @@
 -- A mate where the facts hold is a threat in the sets.
 use Rattle.std.proofs.Common.{◌≡◌, ◌≢◌, ℕ, ◌<◌, true, false, not, ◌||◌, ◌==◌, ◌⊎◌, List, [], length, Option, Some, None, Contains, refl, sym, subst, ap, ◌∙◌, arith, inl, inr}
-use Rattle.std.proofs.lemmas.Bool.{and_from, or_left, or_right, both_ways, false_from_ne_true, true_from_ne_false, not-true, cases_Bool, cases_eq, eq-eqb}
+use Rattle.std.proofs.lemmas.Bool.{and_from, or_left, or_right, both_ways, false_from_ne_true, true_from_ne_false, not-true, cases_Bool, cases_eq, eq-eqb, eqb-true}
 use Rattle.cha_board.specs.declared.men.Color.{Color}
 use Rattle.cha_board.specs.declared.men.Kind.TheVariants.{King}
 use Rattle.cha_board.specs.declared.men.Man.{Man}
@@ -181,7 +181,7 @@ module _ (p : Board) (s : Sets) (q : Board) (w : Color) (origin : ℕ → ℕ) (
             let f = same_kind_equal e.man.kind King h in
             let spot = king_is_one q.men w u (valid.kings w) (omega (arith, from.1, size)) (is_man_from (man_at q.men u) e.man w King stood (same_color_equal e.man.color w e.own) f) in
             let near_by : (steps_apart u n == 1) ≡ true = king_aims w u n (rw f at e.aims) in
-            NextToKing (rw spot near_by))
+            NextToKing (eqb-true (steps_apart (winner_on q w) n) 1 (rw spot near_by)))
         | inr h ↦ Attacked e.man.kind u (record {
           attacker = non_king_on p s q origin scene.facts valid w u e.man stood e.own h;
           not_there = not_there;
@@ -257,10 +257,10 @@ mate_threatens p s q w valid held mate =
         loser = king_on p s q origin held.1 valid (other_color w) k st.loser_is;
         winner = king_on p s q origin held.1 valid w h st.winner_is;
         distinct = λ e. not_of_other (other_color w) King (man_at q.men k) st.loser.man st.loser.found (let color = st.loser.color in rw color (same_color_self (other_color w))) (rw (other_other, ← e) st.winner_is);
-        far = st.far;
+        far = λ e. both_ways (steps_apart k h == 1) st.far (eq-eqb (steps_apart k h) 1 e);
         kind = c.man.kind;
         square = c.square;
         checks = c.checks;
-        covered = λ n small step. covered_at p s q w origin scene st c n small step (man_at q.men n) refl;
+        covered = λ n small step. covered_at p s q w origin scene st c n small (eq-eqb (steps_apart k n) 1 step) (man_at q.men n) refl;
       },
     )

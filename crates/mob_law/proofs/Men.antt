@@ -1,6 +1,6 @@
 -- What the tests of men mean, as far as the law needs it.
-use Rattle.std.proofs.Common.{◌≡◌, true, false, not, ◌⊎◌, Option, Some, refl, subst, ap, inl, inr}
-use Rattle.std.proofs.lemmas.Bool.{and_parts, and_from}
+use Rattle.std.proofs.Common.{◌≡◌, ◌≢◌, true, false, not, ◌⊎◌, Option, Some, refl, subst, ap, inl, inr}
+use Rattle.std.proofs.lemmas.Bool.{and_parts, and_from, both_ways, false_from_ne_true}
 use Rattle.cha_board.specs.declared.men.Color.{Color}
 use Rattle.cha_board.specs.declared.men.Color.TheVariants.{White, Black}
 use Rattle.cha_board.specs.declared.men.Kind.{Kind}
@@ -8,7 +8,7 @@ use Rattle.cha_board.specs.declared.men.Kind.TheVariants.{King}
 use Rattle.cha_board.specs.declared.men.Man.{Man}
 use Rattle.cha_board.specs.Men.{other_color, same_color, same_kind, is_man, is_non_king}
 use Rattle.cha_moves.specs.Moves.{may_enter}
-use Rattle.cha_moves.proofs.Identity.{one_color}
+use Rattle.cha_moves.proofs.Identity.{one_color, same_kind_equal, same_kind_self}
 
 -- a colour is a side's or the other's
 pub either_color : (a c : Color) → (a ≡ c) ⊎ (a ≡ other_color c)
@@ -30,6 +30,16 @@ not_of_other c k o man found own other =
     let P : Option Man → Type 0 = λ x. is_man (other_color c) k x ≡ true in
     let both = and_parts (same_color man.color (other_color c)) (same_kind man.kind k) (subst P found other) in
     one_color man.color c own both.0
+
+-- what a test of two kinds says
+pub other_kind : (a b : Kind) → a ≢ b → same_kind a b ≡ false
+other_kind a b other = false_from_ne_true (same_kind a b) (λ h. other (same_kind_equal a b h))
+
+pub kinds_differ : (a b : Kind) → same_kind a b ≡ false → a ≢ b
+kinds_differ a b h e = both_ways (same_kind a b) h (rw e (same_kind_self b))
+
+pub same_kind_from : (a b : Kind) → a ≡ b → same_kind a b ≡ true
+same_kind_from a b e = rw e (same_kind_self b)
 
 -- a man of c that is no king
 pub is_non_king_from : (c : Color) (man : Man) → same_color man.color c ≡ true → same_kind man.kind King ≡ false → is_non_king c (Some man) ≡ true

@@ -1,6 +1,6 @@
 -- A move of one man: what the rules of closed sets owe it, and that it then carries the facts along.
 use Rattle.std.proofs.Common.{◌≡◌, ◌≢◌, ℕ, ◌+◌, ◌-◌, ◌<◌, true, false, cond, ◌&&◌, ◌==◌, ◌⊎◌, List, length, Option, Some, None, slice_set, refl, sym, subst, ap, ◌∙◌, arith, inl, inr}
-use Rattle.std.proofs.lemmas.Bool.{and_parts, both_ways, cases_Bool, cases_eq, eqb-true, eq-eqb, ne_eqb}
+use Rattle.std.proofs.lemmas.Bool.{and_parts, both_ways, cases_Bool, cases_eq, eqb-true, eqb-false, eq-eqb, ne_eqb}
 use Rattle.cha_board.specs.declared.men.Color.{Color}
 use Rattle.cha_board.specs.declared.men.Kind.{Kind}
 use Rattle.cha_board.specs.declared.men.Kind.TheVariants.{Pawn}
@@ -9,7 +9,7 @@ use Rattle.cha_board.specs.Men.{other_color, is_man}
 use Rattle.cha_board.specs.Squares.{rank_of}
 use Rattle.cha_board.specs.Board.{Board, man_at, home_of}
 use Rattle.cha_moves.specs.Step.{Move}
-use Rattle.cha_moves.specs.Moves.{second_rank, middle, is_target, is_double_step, arriving, victim_of, castles_short, castles_long, captures_en_passant, men_after, target_after, after}
+use Rattle.cha_moves.specs.Moves.{second_rank, last_rank, middle, is_target, is_double_step, arriving, victim_of, castles_short, castles_long, captures_en_passant, men_after, target_after, after}
 use Rattle.cha_moves.proofs.Identity.{other_other, none_some, man_of, is_man_from}
 use Rattle.cha_moves.proofs.Made.{Step, put, put_other, length-moved, moved_other, men_moved, makes, Plainly, Passing, Shortly, Longly}
 use Rattle.cha_moves.proofs.Kept.{arrived_is, victim_of_move}
@@ -125,7 +125,7 @@ module _ (p : Board) (s : Sets) (q : Board) (origin : ℕ → ℕ) (m : Move) (m
             let color : from.first.color ≡ q.side = from.color ∙ pawn.color in
             let reach : s.has (origin m.from) Pawn m.from ≡ true = (let P : Kind → Type 0 = λ x. s.has (origin m.from) x m.from ≡ true in subst P pawn.kind from.reach) in
             let enters = closed.pawns_step (origin m.from) from.first m.from (middle m.from m.to) (record { stood = from.stood; reach = reach; from = step.from; to = g.small }) g.file (rw color g.ahead) (empty_not_fixed p s q origin facts (middle m.from m.to) d.free) in
-            let in_reach : s.has (origin m.from) Pawn (middle m.from m.to) ≡ true = enters.stays (rw color g.not_last) in
+            let in_reach : s.has (origin m.from) Pawn (middle m.from m.to) ≡ true = enters.stays (eqb-false (rank_of (middle m.from m.to)) (last_rank from.first.color) (rw color g.not_last)) in
             JustNow (rw (victim, went, own, other_other) d.begins) (rw (victim, went, ← at) in_reach))
         | inr e ↦ (let nothing : is_target None t ≡ true = rw e at here in cc)
       ]

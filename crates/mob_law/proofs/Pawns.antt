@@ -31,15 +31,15 @@ pawn_reach p s o c u t man new None enters pawn well arrives =
     let is : same_kind man.kind Pawn ≡ true = rw pawn refl in
     elim (promoted c man.kind t None well) [
       | inl x ↦ cc
-      | inr x ↦ subst P kind (enters.stays (false_from_ne_true (rank_of t == last_rank c) (λ last.
-          both_ways (same_kind man.kind Pawn && (rank_of t == last_rank c)) x.1 (and_from (same_kind man.kind Pawn) (rank_of t == last_rank c) is last))))
+      | inr x ↦ subst P kind (enters.stays (λ last.
+          both_ways (same_kind man.kind Pawn && (rank_of t == last_rank c)) x.1 (and_from (same_kind man.kind Pawn) (rank_of t == last_rank c) is (eq-eqb (rank_of t) (last_rank c) last))))
     ]
 pawn_reach p s o c u t man new (Some k) enters pawn well arrives =
     let late : Man = record { color = man.color; kind = k } in
     let kind : k ≡ new.kind = ap (λ (x : Man). x.kind) (some_inj late new arrives) in
     let P : Kind → Type 0 = λ j. s.has o j t ≡ true in
     elim (promoted c man.kind t (Some k) well) [
-      | inl x ↦ subst P kind (enters.becomes (eq-eqb (rank_of t) (last_rank c) x.1) k x.2)
+      | inl x ↦ subst P kind (enters.becomes x.1 k x.2)
       | inr x ↦ cc
     ]
 

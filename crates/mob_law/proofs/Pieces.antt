@@ -17,7 +17,7 @@ use Rattle.cha_moves.proofs.Kept.{stays_man, kings_kept}
 use Rattle.mob_law.specs.Reach.{Sets, is_fixed, is_open, is_leaper, guards_as, guards_from, is_guarded}
 use Rattle.mob_law.specs.Closed.{has_fixed_enemy, IsClosed}
 use Rattle.mob_law.proofs.Facts.{Facts}
-use Rattle.mob_law.proofs.Men.{other_color_of, not_of_other}
+use Rattle.mob_law.proofs.Men.{other_color_of, not_of_other, kinds_differ}
 use Rattle.mob_law.proofs.Geometry.{near, king_aims, aims_at_self, leap_clear}
 use Rattle.mob_law.proofs.Kings.{king_is_one}
 use Rattle.mob_law.proofs.Attackers.{some_square, attacks_by, clear_near}
@@ -143,8 +143,7 @@ module _ (p : Board) (s : Sets) (q : Board) (origin : ℕ → ℕ) (m : Move) (m
       let from = facts.each m.from man step.may.found in
       let color : from.first.color ≡ q.side = from.color ∙ same_color_equal man.color q.side step.may.own in
       let entry = entry_of p s q origin facts m.from m.to man step.may.found step.from step.to in
-      let walks = closed.pieces_move (origin m.from) from.first man.kind m.from m.to entry way.other (rw color way.aims) way.open_way (λ h.
-      let kind = same_kind_equal man.kind King h in
+      let walks = closed.pieces_move (origin m.from) from.first man.kind m.from m.to entry (kinds_differ man.kind Pawn way.other) (rw color way.aims) way.open_way (λ kind.
       let near_by : (steps_apart m.from m.to == 1) ≡ true = king_aims q.side m.from m.to (rw kind at way.aims) in
       rw color (false_from_ne_true (is_guarded p s (other_color q.side) m.to) (λ guarded. both_ways (in_check (men_after q m) q.side) safe (guarded_checks kind near_by guarded)))) in
       let free = spared p s q origin facts q.side m.to step.may.enter (rw color at walks.spares) in

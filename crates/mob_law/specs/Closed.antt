@@ -1,10 +1,10 @@
 -- Closed sets: the rules by which they hold all that legal moves reach (this project, from the ways in which men move).
-use Rattle.std.specs.Prelude.{◌≡◌, ℕ, ◌<◌, ◌+◌, ◌-◌, ◌==◌, Bool, true, false, ◌&&◌, Some}
+use Rattle.std.specs.Prelude.{◌≡◌, ◌≢◌, ℕ, ◌<◌, ◌+◌, ◌-◌, Bool, true, false, ◌&&◌, Some}
 use Rattle.cha_board.specs.declared.men.Color.{Color}
 use Rattle.cha_board.specs.declared.men.Kind.{Kind}
 use Rattle.cha_board.specs.declared.men.Kind.TheVariants.{Pawn, Rook, King}
 use Rattle.cha_board.specs.declared.men.Man.{Man}
-use Rattle.cha_board.specs.Men.{other_color, same_kind, is_non_king}
+use Rattle.cha_board.specs.Men.{other_color, is_non_king}
 use Rattle.cha_board.specs.Squares.{rank_of, files_apart, is_rank_ahead, aims_at}
 use Rattle.cha_board.specs.Board.{Board, man_at, home_of, has_short_right, has_long_right}
 use Rattle.cha_moves.specs.Moves.{second_rank, fourth_rank, last_rank, middle, is_target, is_promotion, victim_of}
@@ -36,15 +36,15 @@ pub record PieceGoes (p : Board) (s : Sets) (o : ℕ) (c : Color) (k : Kind) (u 
 -- 3.2 to 3.6 and 3.8.1)
 abbrev pub PiecesMove : Board → Sets → Type 0
 PiecesMove p s =
-    (o : ℕ) (man : Man) (k : Kind) (u t : ℕ) → Entry p s o man k u t → same_kind k Pawn ≡ false
+    (o : ℕ) (man : Man) (k : Kind) (u t : ℕ) → Entry p s o man k u t → k ≢ Pawn
     → aims_at man.color k u t ≡ true → is_open p s u t ≡ true
-    → (same_kind k King ≡ true → is_guarded p s (other_color man.color) t ≡ false) → PieceGoes p s o man.color k u t
+    → (k ≡ King → is_guarded p s (other_color man.color) t ≡ false) → PieceGoes p s o man.color k u t
 
 -- a pawn enters t from u: it is in reach there, on the last rank as each of the four kinds that it may become, and it leaves
 -- its origin
 pub record Enters (p : Board) (s : Sets) (o : ℕ) (c : Color) (u t : ℕ) : Type 0 where
-  pub stays : (rank_of t == last_rank c) ≡ false → s.has o Pawn t ≡ true
-  pub becomes : (rank_of t == last_rank c) ≡ true → (k : Kind) → is_promotion (Some k) ≡ true → s.has o k t ≡ true
+  pub stays : rank_of t ≢ last_rank c → s.has o Pawn t ≡ true
+  pub becomes : rank_of t ≡ last_rank c → (k : Kind) → is_promotion (Some k) ≡ true → s.has o k t ≡ true
   pub leaves : u ≡ o → s.loose o ≡ true
 
 -- a pawn enters the square in front of it, unless that is fixed (Article 3.7.1)

@@ -1,6 +1,6 @@
 -- Sets without a mate: wherever the two kings may stand, no mate of the loser is in reach (this project; Laws of Chess,
 -- Article 5.1.1, says what a mate is).
-use Rattle.std.specs.Prelude.{◌≡◌, ◌≢◌, ℕ, ◌<◌, ◌==◌, true, false}
+use Rattle.std.specs.Prelude.{◌≡◌, ◌≢◌, ℕ, ◌<◌, true}
 use Rattle.cha_board.specs.declared.men.Color.{Color}
 use Rattle.cha_board.specs.declared.men.Kind.{Kind}
 use Rattle.cha_board.specs.declared.men.Kind.TheVariants.{King}
@@ -48,7 +48,7 @@ pub data Covered (p : Board) (s : Sets) (w : Color) (ks wk n : ℕ) (k : Kind) (
   -- a man of its own may stand there,
   Blocked : (j : Kind) → NonKingOn p s (other_color w) j n → Covered p s w ks wk n k u
   -- or the winner's king on wk is next to n,
-  NextToKing : (steps_apart wk n == 1) ≡ true → Covered p s w ks wk n k u
+  NextToKing : steps_apart wk n ≡ 1 → Covered p s w ks wk n k u
   -- or a man of the winner may attack n; where the winner has one man beside its king, that is the one that gives check
   Attacked : (j : Kind) (v : ℕ) → Attacks p s w ks n j v → (HasAtMostOneMan p w → (j ≡ k) × (v ≡ u)) → Covered p s w ks wk n k u
 
@@ -58,11 +58,11 @@ pub record Threat (p : Board) (s : Sets) (w : Color) (ks wk : ℕ) : Type 0 wher
   pub loser : KingOn p s (other_color w) ks
   pub winner : KingOn p s w wk
   pub distinct : wk ≢ ks
-  pub far : (steps_apart ks wk == 1) ≡ false
+  pub far : steps_apart ks wk ≢ 1
   pub kind : Kind
   pub square : ℕ
   pub checks : Checks p s w ks kind square
-  pub covered : (n : ℕ) → n < 64 → (steps_apart ks n == 1) ≡ true → Covered p s w ks wk n kind square
+  pub covered : (n : ℕ) → n < 64 → steps_apart ks n ≡ 1 → Covered p s w ks wk n kind square
 
 -- no squares of the two kings are a threat
 abbrev pub HasNoMate : Board → Sets → Color → Type 0

@@ -3,3 +3,4 @@ pub mod Entries
 pub mod Keeping
 pub mod Entering
 pub mod Canonical
+pub mod KindTests

@@ -1,5 +1,5 @@
 -- Mobility sets as rows: one for each origin and kind with squares in reach (this project).
-use Rattle.std.specs.Prelude.{ℕ, ◌+◌, ◌*◌, ◌==◌, Bool, ◌&&◌, ◌||◌, List}
+use Rattle.std.specs.Prelude.{ℕ, ◌+◌, ◌*◌, ◌==◌, Bool, ◌&&◌, ◌||◌, List, [], ◌∷◌}
 use Rattle.std.specs.List.{list_any}
 use Rattle.cha_board.specs.declared.men.Kind.{Kind}
 use Rattle.cha_board.specs.declared.men.Kind.TheVariants.{Pawn, Knight, Bishop, Rook, Queen, King}
@@ -54,6 +54,10 @@ abbrev pub single_row : ℕ → Kind → ℕ → Row
 single_row o k u = record { origin = o; kind = k; squares = set_with empty_set u }
 
 -- the kinds in the order of rows: P, N, B, R, Q, K
+abbrev pub kinds : List Kind
+kinds = Pawn ∷ Knight ∷ Bishop ∷ Rook ∷ Queen ∷ King ∷ []
+
+-- the number of a kind in that order
 abbrev pub kind_number : Kind → ℕ
 kind_number Pawn = 0
 kind_number Knight = 1

@@ -12,5 +12,5 @@ mod sets;
 mod tests;
 
 pub use one_spelling::sets_tell_rows;
-pub use rows::SetRow;
+pub use rows::{SetRow, place};
 pub use sets::Sets;

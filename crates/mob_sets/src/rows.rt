@@ -27,7 +27,7 @@ impl Model for SetRow {
 }
 
 impl SetRow {
-    /// The place of the row among the others.
+    /// The place of the row among the others, from 0 to 383.
     pub fn place(self) -> usize
         ensures { result ≡ row_place self }
     {
@@ -53,9 +53,10 @@ impl SetRow {
     }
 }
 
-/// The place of the row of an origin and a kind among the others.
+/// The place of the row of an origin and a kind among the others, from 0 to 383.
 pub fn place(origin: Square, kind: Kind) -> usize
-    ensures { result ≡ place_of origin kind }
+    ensures value { result ≡ place_of origin kind }
+    ensures bound { result < 384 }
 {
     usize::from(origin.index()) * 6 + number(kind)
 }

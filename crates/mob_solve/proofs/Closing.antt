@@ -1,7 +1,7 @@
 -- Sets that keep the rules on their own ground are closed.
-use Rattle.std.proofs.Common.{◌≡◌, ℕ, zero, suc, ◌+◌, ◌-◌, ◌<◌, ◌≤◌, Bool, true, false, not, ◌&&◌, ◌||◌, ◌==◌, List, length, if◌then◌else◌, Option, Some, None, refl, sym, ap, subst, ◌∙◌, arith, inl, inr}
+use Rattle.std.proofs.Common.{◌≡◌, ◌≢◌, ℕ, zero, suc, ◌+◌, ◌-◌, ◌<◌, ◌≤◌, Bool, true, false, not, ◌&&◌, ◌||◌, ◌==◌, List, length, if◌then◌else◌, Option, Some, None, refl, sym, ap, subst, ◌∙◌, arith, inl, inr}
 use Rattle.std.specs.List.{list_any}
-use Rattle.std.proofs.lemmas.Bool.{and_parts, and_from, or_left, or_right, both_ways, false_from_ne_true, eq-eqb, eqb-true, cases_Bool}
+use Rattle.std.proofs.lemmas.Bool.{and_parts, and_from, or_left, or_right, both_ways, false_from_ne_true, eq-eqb, ne_eqb, eqb-true, cases_Bool}
 use Rattle.cha_board.specs.declared.men.Color.{Color}
 use Rattle.cha_board.specs.declared.men.Color.TheVariants.{White, Black}
 use Rattle.cha_board.specs.declared.men.Kind.{Kind}
@@ -13,15 +13,19 @@ use Rattle.cha_board.specs.SquareSets.{empty_set, has_square, set_with}
 use Rattle.cha_board.specs.Board.{Board, man_at, home_of, has_short_right, has_long_right}
 use Rattle.cha_board.proofs.Scans.{any_square_at}
 use Rattle.cha_moves.specs.Moves.{second_rank, fourth_rank, last_rank, middle, is_target, victim_of}
-use Rattle.cha_moves.proofs.Identity.{on_board}
+use Rattle.cha_moves.proofs.Identity.{on_board, same_kind_equal}
 use Rattle.mob_law.specs.Reach.{Sets, is_fixed, is_open, is_leaper, is_guarded}
 use Rattle.mob_law.specs.Closed.{has_fixed_enemy, PieceGoes, Enters, EnemyReaches, PawnCaptures, Castles, IsClosed}
+use Rattle.mob_law.proofs.Men.{other_kind}
 use Rattle.mob_law.proofs.Standing.{fixed_stands}
+use Rattle.mob_sets.proofs.KindTests.{any_kind_at}
 use Rattle.mob_solve.specs.Steps.{steps_to, is_stepped_to, stays}
-use Rattle.mob_solve.specs.Grounds.{kinds, reaches_from, is_reached, is_victim_at, ground_of, side_in}
+use Rattle.mob_sets.specs.Rows.{kinds}
+use Rattle.mob_solve.specs.Grounds.{reaches_from, is_reached, is_victim_at, ground_of, side_in}
 use Rattle.mob_solve.specs.Rules.{is_barred, piece_goes, pawn_steps, pawn_double_steps, is_capturable, pawn_captures, pawn_goes, goes_on, is_struck, passes_on, is_passed, is_left, is_freed, AreRules, AllRules}
 use Rattle.mob_solve.proofs.Contents.{in_single, single_has}
-use Rattle.mob_solve.proofs.Grounded.{fixed_at, guards_at, reach_at, men_at, target_at, victim_at, any_kind, piece_stays}
+use Rattle.mob_solve.proofs.GroundAt.{fixed_at, guards_at, reach_at, men_at, target_at, victim_at}
+use Rattle.mob_solve.proofs.Grounded.{piece_stays}
 use Rattle.mob_solve.proofs.Lines.{is_slider, last_step, last_open}
 
 abbrev one : ℕ → List Bool
@@ -53,7 +57,7 @@ module _ (p : Board) (s : Sets) (size : length p.men ≡ 64) (rules : AllRules p
       let small : e.origin < 64 = rw size at (on_board p.men e.origin e.man e.stood) in
       let own : is_non_king (other_color c) (man_at p.men e.origin) ≡ true = ap (is_non_king (other_color c)) e.stood ∙ e.enemy in
       any_square_at (reaches_from p s (other_color c) t) e.origin small
-      (and_from (is_non_king (other_color c) (man_at p.men e.origin)) (list_any (λ k. s.has e.origin k t) kinds) own (any_kind (λ k. s.has e.origin k t) e.kind e.reach))
+      (and_from (is_non_king (other_color c) (man_at p.men e.origin)) (list_any (λ k. s.has e.origin k t) kinds) own (any_kind_at (λ k. s.has e.origin k t) e.kind e.reach))
 
   module _ (o : ℕ) (man : Man) (stood : man_at p.men o ≡ Some man) where
     keeps : (k : Kind) → AreRules (ground_of p s) s o man.color k
@@ -167,13 +171,13 @@ module _ (p : Board) (s : Sets) (size : length p.men ≡ 64) (rules : AllRules p
     piece_goes_on Rook u t reach small small' other aims open_way unguarded = slides (steps_apart u t) Rook u t refl reach small small' aims open_way (omega arith)
     piece_goes_on Queen u t reach small small' other aims open_way unguarded = slides (steps_apart u t) Queen u t refl reach small small' aims open_way (omega arith)
 
-    stays_from : (t : ℕ) → (rank_of t == last_rank man.color) ≡ false → stays man.color Pawn t ≡ true
+    stays_from : (t : ℕ) → rank_of t ≢ last_rank man.color → stays man.color Pawn t ≡ true
     unfolding stays
-    stays_from t h = ap not h
+    stays_from t h = ap not (ne_eqb (rank_of t) (last_rank man.color) h)
 
-    ends_from : (t : ℕ) → (rank_of t == last_rank man.color) ≡ true → stays man.color Pawn t ≡ false
+    ends_from : (t : ℕ) → rank_of t ≡ last_rank man.color → stays man.color Pawn t ≡ false
     unfolding stays
-    ends_from t h = ap not h
+    ends_from t h = ap not (eq-eqb (rank_of t) (last_rank man.color) h)
 
     pawn_enters : (u t : ℕ) → s.has o Pawn u ≡ true → u < 64 → t < 64 → pawn_goes (ground_of p s) man.color u t ≡ true → Enters p s o man.color u t
     unfolding goes_on
@@ -258,7 +262,7 @@ module _ (p : Board) (s : Sets) (size : length p.men ≡ 64) (rules : AllRules p
   pub rules_close : IsClosed p s
   rules_close = record {
     begins = λ o man stood. (rules.men o man stood).begins;
-    pieces_move = λ o man k u t entry other aims open_way unguarded. piece_goes_on o man entry.stood k u t entry.reach entry.from entry.to other aims open_way unguarded;
+    pieces_move = λ o man k u t entry other aims open_way unguarded. piece_goes_on o man entry.stood k u t entry.reach entry.from entry.to (other_kind k Pawn other) aims open_way (λ h. unguarded (same_kind_equal k King h));
     pawns_step = λ o man u t entry file ahead free. steps_enter o man entry.stood u t entry.reach entry.from entry.to file ahead free;
     pawns_double_step = λ o man u t entry file begins ends over free. double_steps_enter o man entry.stood u t entry.reach entry.from entry.to file begins ends over free;
     pawns_capture = λ o man u t entry aims. pawn_captures_on o man entry.stood u t entry.reach entry.from entry.to aims;

@@ -1,13 +1,13 @@
 -- Which origins become loose.
 use Rattle.std.proofs.Common.{◌≡◌, ℕ, ◌<◌, Bool, true, false, not, ◌&&◌, ◌||◌, ◌==◌, List, length, sym, ap, subst, ◌∙◌, inl, inr}
 use Rattle.std.specs.List.{list_any}
-use Rattle.std.proofs.lemmas.Bool.{and_parts, and_from, and_left, and_right, or_cases, or_left, both_ways, false_from_ne_true}
+use Rattle.std.proofs.lemmas.Bool.{and_parts, and_from, and_left, and_right, or_cases, or_left, both_ways, false_from_ne_true, not-true, not-false}
 use Rattle.cha_board.specs.declared.men.Color.{Color}
 use Rattle.cha_board.specs.declared.men.Kind.{Kind}
 use Rattle.cha_board.specs.declared.men.Kind.TheVariants.{Pawn}
 use Rattle.cha_board.specs.Men.{other_color, same_kind}
 use Rattle.cha_board.specs.Squares.{squares}
-use Rattle.cha_board.specs.SquareSets.{set_of, empty_set, has_square, set_with, set_joined, is_subset}
+use Rattle.cha_board.specs.SquareSets.{set_of, empty_set, has_square, set_with, set_joined, has_no_square}
 use Rattle.cha_board.specs.SetLaws.{length-set_of, has-set_of, same_set, same_squares}
 use Rattle.cha_board.proofs.Scans.{any_square_at, no_square}
 use Rattle.mob_law.proofs.Attackers.{some_square}
@@ -15,7 +15,7 @@ use Rattle.mob_solve.specs.declared.ground.Ground.{Ground}
 use Rattle.mob_solve.specs.Steps.{is_stepped_to, spread_of, stays}
 use Rattle.mob_solve.specs.Grounds.{side_in}
 use Rattle.mob_solve.specs.Rules.{is_barred, goes_on, is_entered, entered_from, ends_on, is_struck, passes_on, is_passed, is_left, is_freed}
-use Rattle.mob_solve.proofs.Contents.{in_empty, in_single, single_has, subset_at, outside}
+use Rattle.mob_solve.proofs.Contents.{in_empty, in_single, single_has}
 use Rattle.mob_solve.proofs.Loops.{same_test}
 
 -- the squares that two sets share, and those of the first alone
@@ -26,13 +26,16 @@ abbrev minus : List Bool → List Bool → List Bool
 minus a b = set_of (λ s. has_square a s && not (has_square b s))
 
 -- whether a set has a square
-pub none_in : (f : ℕ → Bool) (set : List Bool) → ((t : ℕ) → t < 64 → has_square set t ≡ f t) → is_subset set empty_set ≡ true → list_any f squares ≡ false
+none_in : (f : ℕ → Bool) (set : List Bool) → ((t : ℕ) → t < 64 → has_square set t ≡ f t) → has_no_square set ≡ true → list_any f squares ≡ false
+unfolding has_no_square
 none_in f set same none =
-    no_square f (λ t small. false_from_ne_true (f t) (λ h. both_ways (has_square empty_set t) (in_empty t) (subset_at set empty_set none t small (same t small ∙ h))))
+    let nothing = not-true (list_any (has_square set) squares) none in
+    no_square f (λ t small. sym (same t small) ∙ false_from_ne_true (has_square set t) (λ h. both_ways (list_any (has_square set) squares) nothing (any_square_at (has_square set) t small h)))
 
-pub some_in : (f : ℕ → Bool) (set : List Bool) → ((t : ℕ) → t < 64 → has_square set t ≡ f t) → is_subset set empty_set ≡ false → list_any f squares ≡ true
+some_in : (f : ℕ → Bool) (set : List Bool) → ((t : ℕ) → t < 64 → has_square set t ≡ f t) → has_no_square set ≡ false → list_any f squares ≡ true
+unfolding has_no_square
 some_in f set same some =
-    let k = outside set empty_set some in
+    let k = some_square (has_square set) (not-false (list_any (has_square set) squares) some) in
     any_square_at f k.0 k.1 (sym (same k.0 k.1) ∙ k.2)
 
 -- the squares that are entered where a man does not stay what it is
@@ -69,7 +72,7 @@ onto_at g c row spread onto spread_is onto_is t small =
     let d : has_square spread t ≡ is_stepped_to c Pawn row t = ap (λ s. has_square s t) spread_is ∙ has-set_of (is_stepped_to c Pawn row) t small in
     ap (λ s. has_square s t) onto_is ∙ has-set_of (λ s. has_square target s && has_square spread s) t small ∙ ap (λ b. has_square target t && b) d
 
-pub passed_none : (g : Ground) (c : Color) (k : Kind) (row spread onto : List Bool) → spread ≡ spread_of c Pawn row → onto ≡ meet (side_in g c).target spread → is_subset onto empty_set ≡ true
+pub passed_none : (g : Ground) (c : Color) (k : Kind) (row spread onto : List Bool) → spread ≡ spread_of c Pawn row → onto ≡ meet (side_in g c).target spread → has_no_square onto ≡ true
     → empty_set ≡ set_of (is_passed g c k row)
 unfolding is_passed
 passed_none g c k row spread onto spread_is onto_is none =
@@ -77,7 +80,7 @@ passed_none g c k row spread onto spread_is onto_is none =
     same_set (λ _. false) (is_passed g c k row) (λ x small.
     sym (and_left (same_kind k Pawn && list_any (passes_on g c row) squares) (has_square (side_in g c).victim x) (and_right (same_kind k Pawn) (list_any (passes_on g c row) squares) nothing)))
 
-pub passed_some : (g : Ground) (c : Color) (k : Kind) (row spread onto : List Bool) → spread ≡ spread_of c Pawn row → onto ≡ meet (side_in g c).target spread → same_kind k Pawn ≡ true → is_subset onto empty_set ≡ false
+pub passed_some : (g : Ground) (c : Color) (k : Kind) (row spread onto : List Bool) → spread ≡ spread_of c Pawn row → onto ≡ meet (side_in g c).target spread → same_kind k Pawn ≡ true → has_no_square onto ≡ false
     → length (side_in g c).victim ≡ 64 → (side_in g c).victim ≡ set_of (is_passed g c k row)
 unfolding is_passed
 passed_some g c k row spread onto spread_is onto_is pawn some width =
@@ -110,7 +113,7 @@ entered_from_home g o c k row one home small one_is home_is t small' =
     any_square_at from o small (and_from (has_square home o) (goes_on g c k o t) (here o small ∙ and_from (has_square row o) (has_square one o) both.0 one_has) both.1))
 
 pub left_none : (g : Ground) (o : ℕ) (c : Color) (k : Kind) (row one home come : List Bool) → o < 64 → one ≡ set_with empty_set o → home ≡ meet row one → come ≡ entered_from g c k home
-    → is_subset come empty_set ≡ true → empty_set ≡ set_of (is_left g o c k row)
+    → has_no_square come ≡ true → empty_set ≡ set_of (is_left g o c k row)
 unfolding is_left
 left_none g o c k row one home come small one_is home_is come_is none =
     let nothing = none_in (goes_home g o c k row) come (λ t inside. ap (λ s. has_square s t) come_is ∙ entered_from_home g o c k row one home small one_is home_is t inside) none in
@@ -122,7 +125,7 @@ left_none g o c k row one home come small one_is home_is come_is none =
     both_ways (list_any (goes_home g o c k row) squares) nothing (any_square_at (goes_home g o c k row) t.0 t.1 (and_from (has_square row o) (goes_on g c k o t.0) b.1 t.2)))))
 
 pub left_some : (g : Ground) (o : ℕ) (c : Color) (k : Kind) (row one home come : List Bool) → o < 64 → one ≡ set_with empty_set o → home ≡ meet row one → come ≡ entered_from g c k home
-    → is_subset come empty_set ≡ false → set_with empty_set o ≡ set_of (is_left g o c k row)
+    → has_no_square come ≡ false → set_with empty_set o ≡ set_of (is_left g o c k row)
 unfolding is_left set_with
 left_some g o c k row one home come small one_is home_is come_is some =
     let something = some_in (goes_home g o c k row) come (λ t inside. ap (λ s. has_square s t) come_is ∙ entered_from_home g o c k row one home small one_is home_is t inside) some in

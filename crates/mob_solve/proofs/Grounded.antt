@@ -1,7 +1,7 @@
--- The ground of sets, square by square, and that closed sets keep the rules on the ground of any sets within them.
-use Rattle.std.proofs.Common.{◌≡◌, ℕ, ◌<◌, Bool, true, false, not, ◌&&◌, ◌||◌, ◌==◌, List, Option, Some, None, refl, sym, ap, subst, ◌∙◌, arith, inl, inr}
+-- Closed sets keep the rules on the ground of any sets within them.
+use Rattle.std.proofs.Common.{◌≡◌, ◌≢◌, ℕ, ◌<◌, Bool, true, false, not, ◌&&◌, ◌||◌, ◌==◌, List, Option, Some, None, refl, sym, ap, subst, ◌∙◌, arith, inl, inr}
 use Rattle.std.specs.List.{list_any}
-use Rattle.std.proofs.lemmas.Bool.{and_parts, and_from, or_cases, or_left, or_right, both_ways, not-true, not-false, eqb-true, cases_Bool}
+use Rattle.std.proofs.lemmas.Bool.{and_parts, and_from, or_cases, or_left, or_right, both_ways, not-true, not-false, eqb-true, eqb-false, cases_Bool}
 use Rattle.cha_board.specs.declared.men.Color.{Color}
 use Rattle.cha_board.specs.declared.men.Color.TheVariants.{White, Black}
 use Rattle.cha_board.specs.declared.men.Kind.{Kind}
@@ -10,49 +10,21 @@ use Rattle.cha_board.specs.declared.men.Man.{Man}
 use Rattle.cha_board.specs.Men.{other_color, same_color, same_kind, is_non_king}
 use Rattle.cha_board.specs.Squares.{squares, rank_of, files_apart, is_rank_ahead, aims_at, steps_apart}
 use Rattle.cha_board.specs.SquareSets.{has_square}
-use Rattle.cha_board.specs.SetLaws.{has-set_of}
 use Rattle.cha_board.specs.Board.{Board, man_at}
 use Rattle.cha_moves.specs.Moves.{second_rank, fourth_rank, last_rank, middle, is_target, is_promotion, victim_of}
 use Rattle.cha_moves.proofs.Identity.{same_color_equal, same_kind_equal}
 use Rattle.mob_law.specs.Reach.{Sets, is_fixed, is_open, is_leaper, is_guarded}
-use Rattle.mob_law.specs.Closed.{has_fixed_enemy, Entry, Enters, EnemyReaches, IsClosed}
+use Rattle.mob_law.specs.Closed.{has_fixed_enemy, Entry, Enters, IsClosed}
 use Rattle.mob_law.proofs.Attackers.{some_square}
 use Rattle.mob_law.proofs.Geometry.{leap_clear}
-use Rattle.mob_law.proofs.Growing.{Within, free_grows, guard_shrinks, enemy_grows, enemy_forced}
+use Rattle.mob_law.proofs.Men.{kinds_differ, same_kind_from}
 use Rattle.mob_law.proofs.Standing.{open_near}
 use Rattle.mob_solve.specs.Least.{IsWithin}
 use Rattle.mob_solve.specs.Steps.{steps_to, is_stepped_to, stays}
-use Rattle.mob_solve.specs.Grounds.{kinds, reaches_from, is_reached, has_own, is_target_for, is_victim_at, is_victim_for, side_ground_of, ground_of, side_in}
+use Rattle.mob_solve.specs.Grounds.{is_victim_at, ground_of, side_in}
 use Rattle.mob_solve.specs.Rules.{is_barred, piece_goes, pawn_steps, pawn_double_steps, is_capturable, pawn_captures, pawn_goes, goes_on, is_struck, passes_on, is_passed, is_left, is_freed, AreRules, CastlingRules, AllRules}
-
-pub fixed_at : (p : Board) (s : Sets) (u : ℕ) → u < 64 → has_square (ground_of p s).fixed u ≡ is_fixed p s u
-unfolding ground_of
-fixed_at p s u small = has-set_of (is_fixed p s) u small
-
-pub guards_at : (p : Board) (s : Sets) (c : Color) (t : ℕ) → t < 64 → has_square (side_in (ground_of p s) c).guards t ≡ is_guarded p s c t
-unfolding ground_of side_ground_of
-guards_at p s White t small = has-set_of (is_guarded p s White) t small
-guards_at p s Black t small = has-set_of (is_guarded p s Black) t small
-
-pub reach_at : (p : Board) (s : Sets) (c : Color) (t : ℕ) → t < 64 → has_square (side_in (ground_of p s) c).reach t ≡ is_reached p s c t
-unfolding ground_of side_ground_of
-reach_at p s White t small = has-set_of (is_reached p s White) t small
-reach_at p s Black t small = has-set_of (is_reached p s Black) t small
-
-pub men_at : (p : Board) (s : Sets) (c : Color) (t : ℕ) → t < 64 → has_square (side_in (ground_of p s) c).men t ≡ is_non_king c (man_at p.men t)
-unfolding ground_of side_ground_of has_own
-men_at p s White t small = has-set_of (has_own p White) t small
-men_at p s Black t small = has-set_of (has_own p Black) t small
-
-pub target_at : (p : Board) (s : Sets) (c : Color) (t : ℕ) → t < 64 → has_square (side_in (ground_of p s) c).target t ≡ (is_target p.target t && same_color c p.side)
-unfolding ground_of side_ground_of is_target_for
-target_at p s White t small = has-set_of (is_target_for p White) t small
-target_at p s Black t small = has-set_of (is_target_for p Black) t small
-
-pub victim_at : (p : Board) (s : Sets) (c : Color) (x : ℕ) → x < 64 → has_square (side_in (ground_of p s) c).victim x ≡ (is_victim_at c p.target x && same_color c p.side)
-unfolding ground_of side_ground_of is_victim_for
-victim_at p s White x small = has-set_of (is_victim_for p White) x small
-victim_at p s Black x small = has-set_of (is_victim_for p Black) x small
+use Rattle.mob_solve.proofs.GroundAt.{fixed_at, guards_at, reach_at, men_at, target_at, victim_at, reached_enemy}
+use Rattle.mob_solve.proofs.Growing.{free_grows, guard_shrinks, enemy_grows, enemy_forced}
 
 -- the pawn that is captured en passant stands behind the target
 victim_behind : (c : Color) (o : Option ℕ) (t x : ℕ) → is_target o t ≡ true → is_victim_at c o x ≡ true → x ≡ victim_of c t
@@ -62,62 +34,19 @@ victim_behind c (Some u) t x h k =
     let f = eqb-true (victim_of c u) x k in
     sym f ∙ ap (victim_of c) e
 
--- an enemy that is reached is one that is in reach
-some_kind : (f : Kind → Bool) → list_any f kinds ≡ true → (k : Kind) × (f k ≡ true)
-some_kind f h =
-    elim (or_cases (f Pawn) (f Knight || (f Bishop || (f Rook || (f Queen || (f King || false))))) h) [
-      | inl e ↦ (Pawn, e)
-      | inr a ↦ (elim (or_cases (f Knight) (f Bishop || (f Rook || (f Queen || (f King || false)))) a) [
-        | inl e ↦ (Knight, e)
-        | inr b ↦ (elim (or_cases (f Bishop) (f Rook || (f Queen || (f King || false))) b) [
-          | inl e ↦ (Bishop, e)
-          | inr d ↦ (elim (or_cases (f Rook) (f Queen || (f King || false)) d) [
-            | inl e ↦ (Rook, e)
-            | inr i ↦ (elim (or_cases (f Queen) (f King || false) i) [
-              | inl e ↦ (Queen, e)
-              | inr j ↦ (elim (or_cases (f King) false j) [
-                | inl e ↦ (King, e)
-                | inr none ↦ cc
-              ])
-            ])
-          ])
-        ])
-      ])
-    ]
-
-pub any_kind : (f : Kind → Bool) (k : Kind) → f k ≡ true → list_any f kinds ≡ true
-any_kind f Pawn h = or_left (f Pawn) (f Knight || (f Bishop || (f Rook || (f Queen || (f King || false))))) h
-any_kind f Knight h = or_right (f Pawn) (f Knight || (f Bishop || (f Rook || (f Queen || (f King || false))))) (or_left (f Knight) (f Bishop || (f Rook || (f Queen || (f King || false)))) h)
-any_kind f Bishop h = or_right (f Pawn) _ (or_right (f Knight) _ (or_left (f Bishop) (f Rook || (f Queen || (f King || false))) h))
-any_kind f Rook h = or_right (f Pawn) _ (or_right (f Knight) _ (or_right (f Bishop) _ (or_left (f Rook) (f Queen || (f King || false)) h)))
-any_kind f Queen h = or_right (f Pawn) _ (or_right (f Knight) _ (or_right (f Bishop) _ (or_right (f Rook) _ (or_left (f Queen) (f King || false) h))))
-any_kind f King h = or_right (f Pawn) _ (or_right (f Knight) _ (or_right (f Bishop) _ (or_right (f Rook) _ (or_right (f Queen) _ (or_left (f King) false h)))))
-
-enemy_of : (p : Board) (s : Sets) (c : Color) (t o : ℕ) (found : Option Man) → man_at p.men o ≡ found → is_non_king (other_color c) found ≡ true → (k : Kind) → s.has o k t ≡ true → EnemyReaches p s c t
-enemy_of p s c t o None stood enemy k reach = cc
-enemy_of p s c t o (Some man) stood enemy k reach = record { origin = o; man = man; kind = k; stood = stood; enemy = enemy; reach = reach }
-
-pub reached_enemy : (p : Board) (s : Sets) (c : Color) (t : ℕ) → is_reached p s (other_color c) t ≡ true → EnemyReaches p s c t
-unfolding is_reached reaches_from
-reached_enemy p s c t h =
-    let o = some_square (reaches_from p s (other_color c) t) h in
-    let both = and_parts (is_non_king (other_color c) (man_at p.men o.0)) (list_any (λ k. s.has o.0 k t) kinds) o.2 in
-    let k = some_kind (λ k. s.has o.0 k t) both.1 in
-    enemy_of p s c t o.0 (man_at p.men o.0) refl both.0 k.0 k.1
-
 -- a man that goes from u to t
 record Goes (r : Sets) (o : ℕ) (c : Color) (k : Kind) (u t : ℕ) : Type 0 where
   stay : stays c k t ≡ true → r.has o k t ≡ true
   become : stays c k t ≡ false → (j : Kind) → is_promotion (Some j) ≡ true → r.has o j t ≡ true
   leaves : u ≡ o → r.loose o ≡ true
 
-pawn_stays : (c : Color) (t : ℕ) → stays c Pawn t ≡ true → (rank_of t == last_rank c) ≡ false
+pawn_stays : (c : Color) (t : ℕ) → stays c Pawn t ≡ true → rank_of t ≢ last_rank c
 unfolding stays
-pawn_stays c t h = not-true (rank_of t == last_rank c) h
+pawn_stays c t h = eqb-false (rank_of t) (last_rank c) (not-true (rank_of t == last_rank c) h)
 
-pawn_ends : (c : Color) (t : ℕ) → stays c Pawn t ≡ false → (rank_of t == last_rank c) ≡ true
+pawn_ends : (c : Color) (t : ℕ) → stays c Pawn t ≡ false → rank_of t ≡ last_rank c
 unfolding stays
-pawn_ends c t h = not-false (rank_of t == last_rank c) h
+pawn_ends c t h = eqb-true (rank_of t) (last_rank c) (not-false (rank_of t == last_rank c) h)
 
 pub piece_stays : (c : Color) (k : Kind) (t : ℕ) → same_kind k Pawn ≡ false → stays c k t ≡ true
 unfolding stays
@@ -131,14 +60,11 @@ entered_goes p r o c u t e = record {
 }
 
 -- Where s lie within r, and r are closed:
-module _ (p : Board) (s r : Sets) (inside : IsWithin s r) (closed : IsClosed p r) where
-  within : Within s r
-  within = record { has = inside.has; loose = inside.loose }
-
+module _ (p : Board) (s r : Sets) (within : IsWithin s r) (closed : IsClosed p r) where
   free_at : (t : ℕ) → t < 64 → has_square (ground_of p s).fixed t ≡ false → is_fixed p r t ≡ false
   free_at t small h = free_grows p s r within t (sym (fixed_at p s t small) ∙ h)
 
-  unguarded : (c : Color) (k : Kind) (t : ℕ) → t < 64 → is_barred (ground_of p s) c k t ≡ false → same_kind k King ≡ true → is_guarded p r (other_color c) t ≡ false
+  unguarded : (c : Color) (k : Kind) (t : ℕ) → t < 64 → is_barred (ground_of p s) c k t ≡ false → k ≡ King → is_guarded p r (other_color c) t ≡ false
   unfolding is_barred
   unguarded c k t small h king =
       let none : has_square (side_in (ground_of p s) (other_color c)).guards t ≡ false = sym (ap (λ b. b && has_square (side_in (ground_of p s) (other_color c)).guards t) king) ∙ h in
@@ -159,7 +85,7 @@ module _ (p : Board) (s r : Sets) (inside : IsWithin s r) (closed : IsClosed p r
       let b = and_parts (steps_to man.color k u t) (not (is_barred g man.color k t)) a.0 in
       let way = open_step man.color k u t small small' b.0 in
       let free = free_at t small' (not-true (has_square g.fixed t) a.1) in
-      let rule = closed.pieces_move o man k u t (record { stood = stood; reach = reach; from = small; to = small' }) other way.0 way.1
+      let rule = closed.pieces_move o man k u t (record { stood = stood; reach = reach; from = small; to = small' }) (kinds_differ k Pawn other) way.0 way.1
       (unguarded man.color k t small' (not-true (is_barred g man.color k t) b.1)) in
       record { stay = λ _. rule.goes free; become = λ h'. absurd (both_ways (stays man.color k t) h' (piece_stays man.color k t other)); leaves = rule.leaves free }
 
@@ -219,7 +145,7 @@ module _ (p : Board) (s r : Sets) (inside : IsWithin s r) (closed : IsClosed p r
             let P : Kind → Type 0 = λ j. r.has o j u ≡ true in
             let Q : Kind → Type 0 = λ j. aims_at man.color j u x ≡ true in
             (closed.pawns_capture o man u x (record { stood = stood; reach = subst P pawn reach; from = small; to = small' }) (subst Q pawn way.0)).spares)
-        | inr other ↦ (closed.pieces_move o man k u x (record { stood = stood; reach = reach; from = small; to = small' }) other way.0 way.1 (unguarded man.color k x small' bar)).spares
+        | inr other ↦ (closed.pieces_move o man k u x (record { stood = stood; reach = reach; from = small; to = small' }) (kinds_differ k Pawn other) way.0 way.1 (unguarded man.color k x small' bar)).spares
       ]
 
   struck_forced : (o : ℕ) (man : Man) (k : Kind) (set : List Bool) → man_at p.men o ≡ Some man → ((u : ℕ) → has_square set u ≡ true → r.has o k u ≡ true) → (x : ℕ) → x < 64

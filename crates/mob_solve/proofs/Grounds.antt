@@ -17,7 +17,8 @@ use Rattle.cha_moves.specs.Moves.{is_target, victim_of}
 use Rattle.mob_law.specs.Reach.{Sets, is_fixed, is_leaper, guards_as, guards_from}
 use Rattle.mob_law.proofs.Attackers.{some_square}
 use Rattle.mob_solve.specs.Steps.{steps_to, is_stepped_to, spread_of}
-use Rattle.mob_solve.specs.Grounds.{kinds, reaches_from, has_own, is_target_for, is_victim_at, is_victim_for}
+use Rattle.mob_sets.specs.Rows.{kinds}
+use Rattle.mob_solve.specs.Grounds.{reaches_from, has_own, is_target_for, is_victim_at, is_victim_for}
 use Rattle.mob_solve.proofs.Contents.{in_empty, in_single, single_has}
 use Rattle.mob_solve.proofs.Loops.{same_test}
 

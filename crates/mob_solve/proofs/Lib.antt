@@ -1,5 +1,4 @@
 pub mod Loops
-pub mod Bits
 pub mod Shifted
 pub mod Pulls
 pub mod Contents
@@ -9,6 +8,8 @@ pub mod Going
 pub mod Filling
 pub mod Freeing
 pub mod RowRules
+pub mod GroundAt
+pub mod Growing
 pub mod Grounded
 pub mod Lines
 pub mod Closing

@@ -1,21 +1,17 @@
 -- What the rules look at besides the entry at hand: what is fixed, guarded and reached in some sets.
-use Rattle.std.specs.Prelude.{ℕ, ◌==◌, Bool, false, ◌&&◌, List, [], ◌∷◌, Option, Some, None}
+use Rattle.std.specs.Prelude.{ℕ, ◌==◌, Bool, false, ◌&&◌, Option, Some, None}
 use Rattle.std.specs.List.{list_any}
 use Rattle.cha_board.specs.declared.men.Color.{Color}
 use Rattle.cha_board.specs.declared.men.Color.TheVariants.{White, Black}
-use Rattle.cha_board.specs.declared.men.Kind.{Kind}
-use Rattle.cha_board.specs.declared.men.Kind.TheVariants.{Pawn, Knight, Bishop, Rook, Queen, King}
 use Rattle.cha_board.specs.Men.{same_color, is_non_king}
 use Rattle.cha_board.specs.Squares.{squares}
 use Rattle.cha_board.specs.SquareSets.{set_of}
 use Rattle.cha_board.specs.Board.{Board, man_at}
 use Rattle.cha_moves.specs.Moves.{is_target, victim_of}
 use Rattle.mob_law.specs.Reach.{Sets, is_fixed, is_guarded}
+use Rattle.mob_sets.specs.Rows.{kinds}
 use Rattle.mob_solve.specs.declared.ground.Ground.{Ground}
 use Rattle.mob_solve.specs.declared.ground.SideGround.{SideGround}
-
-abbrev pub kinds : List Kind
-kinds = Pawn ∷ Knight ∷ Bishop ∷ Rook ∷ Queen ∷ King ∷ []
 
 -- the man of o, one of c other than the king, is in reach on t
 unfoldable pub reaches_from : Board → Sets → Color → ℕ → ℕ → Bool

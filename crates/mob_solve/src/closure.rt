@@ -13,7 +13,8 @@ use cha_list::NoMemory;
 use mob_sets::Sets;
 use std::alloc::Global;
 
-/// The least closed sets of a position: they are closed, and they lie within all closed sets.
+/// The least closed sets of a position: they are closed, and they lie within all closed sets (this project). `NoMemory`
+/// means that the allocator refused memory, and says nothing of the position.
 pub fn least(alloc: Global, position: &Position) -> Result<Sets, NoMemory>
     ensures { IfOk result (λ s. IsLeast position.now (sets_of s)) }
 {

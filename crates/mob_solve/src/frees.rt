@@ -6,7 +6,7 @@ ghost use Rattle.mob_solve.specs.Rules.{is_struck, is_passed, is_left, is_freed}
 
 use crate::goes::{barred, entered};
 use crate::ground::Ground;
-use crate::squares::{is_none, meeting, single, without};
+use crate::squares::single;
 use crate::steps::spread;
 use cha_board::{Color, Kind, Square, SquareSet};
 
@@ -23,9 +23,9 @@ pub fn freed(ground: &Ground, origin: Square, side: Color, kind: Kind, row: Squa
 fn struck(ground: &Ground, side: Color, kind: Kind, row: SquareSet) -> SquareSet
     ensures { result ≡ set_of (is_struck ground.now side kind row) }
 {
-    let prey = meeting(ground.fixed, ground.side(side.other()).men);
-    let free = without(prey, barred(ground, side, kind));
-    meeting(free, spread(side, kind, row))
+    let prey = ground.fixed.common(ground.side(side.other()).men);
+    let free = prey.minus(barred(ground, side, kind));
+    free.common(spread(side, kind, row))
 }
 
 /// The square of the pawn that it may capture en passant at once, if there is one.
@@ -38,7 +38,7 @@ fn passed(ground: &Ground, side: Color, kind: Kind, row: SquareSet) -> SquareSet
     let own = ground.side(side);
     // The number of a set tells that it has 64 truth values.
     let _number = own.victim.bits();
-    if is_none(meeting(own.target, spread(side, Kind::Pawn, row))) {
+    if own.target.common(spread(side, Kind::Pawn, row)).is_empty() {
         SquareSet::empty()
     } else {
         own.victim
@@ -49,8 +49,8 @@ fn passed(ground: &Ground, side: Color, kind: Kind, row: SquareSet) -> SquareSet
 fn left(ground: &Ground, origin: Square, side: Color, kind: Kind, row: SquareSet) -> SquareSet
     ensures { result ≡ set_of (is_left ground.now origin side kind row) }
 {
-    let home = meeting(row, single(origin));
-    if is_none(entered(ground, side, kind, home)) {
+    let home = row.common(single(origin));
+    if entered(ground, side, kind, home).is_empty() {
         SquareSet::empty()
     } else {
         single(origin)

@@ -8,7 +8,6 @@ ghost use Rattle.mob_solve.specs.Rules.{is_barred, is_capturable, entered_from, 
 
 use crate::ground::Ground;
 use crate::ranks::{ahead, beginning, ending, staying};
-use crate::squares::{meeting, without};
 use crate::steps::spread;
 use cha_board::{Color, Kind, SquareSet};
 
@@ -27,7 +26,7 @@ pub fn barred(ground: &Ground, side: Color, kind: Kind) -> SquareSet
 fn capturable(ground: &Ground, side: Color) -> SquareSet
     ensures { (t : ℕ) → t < 64 → has_square result t ≡ is_capturable ground.now side t }
 {
-    let enemies = without(ground.side(side.other()).reach, ground.fixed);
+    let enemies = ground.side(side.other()).reach.minus(ground.fixed);
     enemies.joined(ground.side(side).target)
 }
 
@@ -50,8 +49,8 @@ fn pieces_go(ground: &Ground, side: Color, kind: Kind, from: SquareSet) -> Squar
     requires { same_kind kind Pawn ≡ false }
     ensures { result ≡ entered_from ground.now side kind from }
 {
-    let near = without(spread(side, kind, from), barred(ground, side, kind));
-    without(near, ground.fixed)
+    let near = spread(side, kind, from).minus(barred(ground, side, kind));
+    near.minus(ground.fixed)
 }
 
 /// The squares to which pawns go.
@@ -60,10 +59,10 @@ fn pawns_go(ground: &Ground, side: Color, from: SquareSet) -> SquareSet
 {
     // The number of a set tells that it has 64 truth values.
     let _number = from.bits();
-    let one = without(ahead(side, from), ground.fixed);
-    let over = without(ahead(side, beginning(side, from)), ground.fixed);
-    let two = without(ahead(side, over), ground.fixed);
-    let captures = meeting(spread(side, Kind::Pawn, from), capturable(ground, side));
+    let one = ahead(side, from).minus(ground.fixed);
+    let over = ahead(side, beginning(side, from)).minus(ground.fixed);
+    let two = ahead(side, over).minus(ground.fixed);
+    let captures = spread(side, Kind::Pawn, from).common(capturable(ground, side));
     one.joined(two).joined(captures)
 }
 

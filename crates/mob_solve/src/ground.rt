@@ -7,12 +7,13 @@ ghost use Rattle.cha_moves.specs.Moves.{victim_of};
 ghost use Rattle.mob_law.specs.Reach.{is_fixed, guards_as, is_guarded};
 ghost use Rattle.mob_solve.specs.Steps.{spread_of};
 ghost use Rattle.mob_solve.specs.Reaching.{sets_in};
-ghost use Rattle.mob_solve.specs.Grounds.{kinds, is_reached, has_own, is_target_for, is_victim_for, side_ground_of, ground_of, side_in};
+ghost use Rattle.mob_sets.specs.Rows.{kinds};
+ghost use Rattle.mob_solve.specs.Grounds.{is_reached, has_own, is_target_for, is_victim_for, side_ground_of, ground_of, side_in};
 
-use crate::others::is_man_other_than_king;
 use crate::reach::Reach;
 use crate::steps::spread;
 use cha_board::{Color, Kind, Man, Position, Square, SquareSet};
+use mob_check::is_man_other_than_king;
 
 /// What the rules look at of a side.
 #[derive(Clone, Copy, Debug, PartialEq, Eq)]

@@ -2,7 +2,7 @@
 //!
 //! `reach` has the sets as they grow, `squares`, `shifts`, `ranks` and `steps` sets of squares, `ground` what the rules look
 //! at, `goes` and `frees` what they ask, `rows` and `castling` the rules, `passes` all of them in turn, `closure` the least
-//! closed sets, `entries` how they are handed out, `others` the men of a side other than its king, and `verdicts` the static verdict.
+//! closed sets, `entries` how they are handed out, and `verdicts` the static verdict.
 //! For tests `plain` and `plain_rules` have the solver in its plain form.
 #![tactic(auto)]
 
@@ -12,7 +12,6 @@ mod entries;
 mod frees;
 mod goes;
 mod ground;
-mod others;
 mod passes;
 #[cfg(test)]
 mod plain;

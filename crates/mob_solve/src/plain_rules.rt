@@ -1,11 +1,12 @@
 //! The rules of closed sets in their plain form, for each entry and square.
 
-use crate::others::is_man_other_than_king;
 use cha_board::{
     Color, Kind, Man, Position, Square, SquareSet, aims_at, files_between, rank_ahead, sees,
     steps_between,
 };
 use cha_list::NoMemory;
+use cha_moves::{double_step_rank, first_pawn_rank, promotion_rank};
+use mob_check::is_man_other_than_king;
 use mob_sets::Sets;
 
 /// What the rules look at, as it stands when a pass begins: the fixed men, and where men other than kings are in reach.
@@ -109,10 +110,6 @@ fn pawn_goes(
 
 /// Whether a pawn goes ahead to a square by one step or by two.
 fn steps(view: &View, entry: &Entry, to: Square) -> bool {
-    let (second, fourth) = match entry.side {
-        Color::White => (1, 3),
-        Color::Black => (6, 4),
-    };
     if files_between(entry.from, to) != 0 || !is_free(view, to) {
         return false;
     }
@@ -120,16 +117,14 @@ fn steps(view: &View, entry: &Entry, to: Square) -> bool {
         return true;
     }
     let middle = Square::at((entry.from.index() + to.index()) / 2);
-    entry.from.rank() == second && to.rank() == fourth && is_free(view, middle)
+    entry.from.rank() == first_pawn_rank(entry.side)
+        && to.rank() == double_step_rank(entry.side)
+        && is_free(view, middle)
 }
 
 /// A pawn enters a square, on its last rank as each kind that it may become.
 fn enter(sets: &mut Sets, entry: &Entry, to: Square) -> Result<bool, NoMemory> {
-    let last = match entry.side {
-        Color::White => 7,
-        Color::Black => 0,
-    };
-    if to.rank() != last {
+    if to.rank() != promotion_rank(entry.side) {
         return arrive(sets, entry, Kind::Pawn, to);
     }
     let mut grew = false;

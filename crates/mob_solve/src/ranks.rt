@@ -8,7 +8,6 @@ ghost use Rattle.mob_solve.specs.Steps.{stays};
 ghost use Rattle.mob_solve.specs.Shifts.{is_ahead};
 
 use crate::shifts::{north, south};
-use crate::squares::{meeting, without};
 use cha_board::{Color, Kind, SquareSet};
 
 /// The set moved ahead by one rank, as a side sees it.
@@ -25,7 +24,7 @@ pub fn ahead(side: Color, set: SquareSet) -> SquareSet
 pub fn beginning(side: Color, set: SquareSet) -> SquareSet
     ensures { result ≡ set_of (λ t. has_square set t && (rank_of t == second_rank side)) }
 {
-    meeting(set, second_rank_squares(side))
+    set.common(second_rank_squares(side))
 }
 
 /// The squares of the rank on which the pawns of a side begin.
@@ -63,12 +62,12 @@ fn changing(side: Color, kind: Kind) -> SquareSet
 pub fn staying(side: Color, kind: Kind, set: SquareSet) -> SquareSet
     ensures { result ≡ set_of (λ t. has_square set t && stays side kind t) }
 {
-    without(set, changing(side, kind))
+    set.minus(changing(side, kind))
 }
 
 /// The squares of a set on which it does not.
 pub fn ending(side: Color, kind: Kind, set: SquareSet) -> SquareSet
     ensures { result ≡ set_of (λ t. has_square set t && not (stays side kind t)) }
 {
-    meeting(set, changing(side, kind))
+    set.common(changing(side, kind))
 }

@@ -4,11 +4,11 @@ ghost use Rattle.std.specs.Prelude.{◌≡◌, ◌<◌, ℕ, false, true};
 ghost use Rattle.cha_board.specs.declared.men.Kind.{Kind as ManKind};
 ghost use Rattle.cha_board.specs.SquareSets.{has_square};
 ghost use Rattle.mob_law.specs.Reach.{Sets};
-ghost use Rattle.mob_sets.specs.Rows.{kind_number, place_of};
 ghost use Rattle.mob_solve.specs.Least.{IsWithin};
 ghost use Rattle.mob_solve.specs.Reaching.{row_of, sets_in, Grew};
 
 use cha_board::{Kind, Square, SquareSet};
+use mob_sets::place;
 
 /// For each origin and kind the squares that are known to be in reach, and the origins that are known to be loose.
 #[derive(Drop)]
@@ -62,28 +62,5 @@ impl Reach {
         }
         self.loose = self.loose.joined(origins);
         true
-    }
-}
-
-/// The place of the row of an origin and a kind.
-fn place(origin: Square, kind: Kind) -> usize
-    ensures value { result ≡ place_of origin kind }
-    ensures bound { result < 384 }
-{
-    usize::from(origin.index()) * 6 + number(kind)
-}
-
-/// The number of a kind in the order of rows.
-fn number(kind: Kind) -> usize
-    ensures value { result ≡ kind_number kind }
-    ensures bound { result < 6 }
-{
-    match kind {
-        Kind::Pawn => 0,
-        Kind::Knight => 1,
-        Kind::Bishop => 2,
-        Kind::Rook => 3,
-        Kind::Queen => 4,
-        Kind::King => 5,
     }
 }

@@ -4,7 +4,6 @@ ghost use Rattle.std.specs.Prelude.{◌≡◌};
 ghost use Rattle.cha_board.specs.SquareSets.{set_of};
 ghost use Rattle.mob_solve.specs.Shifts.{is_above, is_below, is_right, is_left_of};
 
-use crate::squares::meeting;
 use cha_board::SquareSet;
 
 /// The set moved up the board by one rank.
@@ -26,7 +25,7 @@ pub fn east(set: SquareSet) -> SquareSet
     ensures { result ≡ set_of (is_right set) }
 {
     let all_but_a = SquareSet::from_bits(0xfefe_fefe_fefe_fefe);
-    meeting(SquareSet::from_bits(set.bits() << 1), all_but_a)
+    SquareSet::from_bits(set.bits() << 1).common(all_but_a)
 }
 
 /// The set moved to the left by one file.
@@ -34,5 +33,5 @@ pub fn west(set: SquareSet) -> SquareSet
     ensures { result ≡ set_of (is_left_of set) }
 {
     let all_but_h = SquareSet::from_bits(0x7f7f_7f7f_7f7f_7f7f);
-    meeting(SquareSet::from_bits(set.bits() >> 1), all_but_h)
+    SquareSet::from_bits(set.bits() >> 1).common(all_but_h)
 }

@@ -6,6 +6,7 @@ ghost use Rattle.mob_law.specs.Closed.{IsClosed};
 ghost use Rattle.mob_law.specs.Threats.{HasNoMate};
 ghost use Rattle.mob_law.specs.Static.{IsStaticallyUnwinnable};
 ghost use Rattle.mob_sets.specs.Rows.{sets_of};
+ghost use Rattle.mob_solve.specs.Least.{IsLeast};
 
 use crate::closure::least;
 use cha_board::{Color, Position};
@@ -15,12 +16,14 @@ use mob_sets::Sets;
 use std::alloc::Global;
 
 /// Mobility sets that are closed for a position and have no mate for a winner, so that it cannot win whatever legal
-/// moves may come; or None where no closed sets are without a mate for it, which leaves the question open.
+/// moves may come; or None where no closed sets are without a mate for it, which leaves the question open (this project).
+/// The sets are the least closed ones. `NoMemory` means that the allocator refused memory, and says nothing of the position.
 pub fn static_verdict(
     alloc: Global,
     position: &Position,
     winner: Color,
 ) -> Result<Option<Sets>, NoMemory>
+    ensures least { IfOk result (λ o. IfSome o (λ s. IsLeast position.now (sets_of s))) }
     ensures closed { IfOk result (λ o. IfSome o (λ s. IsClosed position.now (sets_of s))) }
     ensures no_mate { IfOk result (λ o. IfSome o (λ s. HasNoMate position.now (sets_of s) winner)) }
     ensures law { IfOk result (λ o. IfSome o (λ s. IsUnwinnable position.now winner)) }

@@ -1,8 +1,8 @@
 //! The least sets of worked positions, set by set: the loose origins, then each row with the number of its origin, its kind
 //! and its squares.
 
-use crate::{least, static_verdict};
-use cha_board::{Color, Kind};
+use crate::least;
+use cha_board::Kind;
 use cha_fen::read;
 use std::test::Fail;
 
@@ -85,45 +85,6 @@ fn least_sets_are_the_worked_ones(rt: HostRuntime) -> Result<(), Fail> {
             assert!(rt; row.kind == *kind, "{fen}");
             assert!(rt; row.squares.bits() == *squares, "{fen}");
         }
-    }
-    Ok(())
-}
-
-/// Positions, the winner, and whether the sets show that it cannot win.
-const VERDICTS: [(&str, Color, bool); 9] = [
-    // A king and a bishop, or a king and a knight, against a king.
-    ("8/8/8/4k3/8/8/8/4KB2 w - -", Color::White, true),
-    ("8/8/8/4k3/8/8/8/4KB2 w - -", Color::Black, true),
-    ("8/8/8/4k3/8/8/8/4KN2 w - -", Color::White, true),
-    ("8/8/8/4k3/8/8/8/4KN2 w - -", Color::Black, true),
-    // The king has to take the queen, but the sets do not look at who is to move.
-    ("k7/1Q6/8/8/8/8/8/4K3 b - -", Color::White, false),
-    // The third wall, and the same men where f5xg6 en passant opens it.
-    (
-        "4k3/8/5p2/p1p1pPp1/P1P1P1P1/8/8/4K3 w - -",
-        Color::White,
-        true,
-    ),
-    (
-        "4k3/8/5p2/p1p1pPp1/P1P1P1P1/8/8/4K3 w - -",
-        Color::Black,
-        true,
-    ),
-    (
-        "4k3/8/5p2/p1p1pPp1/P1P1P1P1/8/8/4K3 w - g6",
-        Color::White,
-        false,
-    ),
-    // The sets let the queen stand in its king's way on any one square.
-    ("8/8/8/4k3/3q4/8/8/4KN2 w - -", Color::White, false),
-];
-
-#[test]
-fn verdicts_of_worked_positions(rt: HostRuntime) -> Result<(), Fail> {
-    for (fen, winner, want) in &VERDICTS {
-        let position = read(fen.as_bytes())?;
-        let sets = static_verdict(rt.alloc(), &position, *winner)?;
-        assert!(rt; sets.is_some() == *want, "{fen}");
     }
     Ok(())
 }

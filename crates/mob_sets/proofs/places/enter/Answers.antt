@@ -6,20 +6,20 @@ use Rattle.mob_sets.proofs.places.enter.Goals as goal
 
 pub returns-in-Ok-clause-grew : goal.returns-in-Ok-clause-grew
 returns-in-Ok-clause-grew c =
-    c.widen.ensures.grew no_row ∙ sym (ap not (shown_there c.args.rows.now.items c.in-Ok.index c.args.origin c.args.kind c.args.at no_row c.requires (rw (c.place.ensures, c.as_slice.ensures.value) at c.in-Ok.ensures.there)))
+    c.widen.ensures.grew no_row ∙ sym (ap not (shown_there c.args.rows.now.items c.in-Ok.index c.args.origin c.args.kind c.args.at no_row c.requires (rw (c.place.ensures.value, c.as_slice.ensures.value) at c.in-Ok.ensures.there)))
 
 pub returns-in-Ok-clause-ok : goal.returns-in-Ok-clause-ok
 returns-in-Ok-clause-ok c =
-    rw (c.widen.ensures.row no_row) (widened_entries c.args.rows.now.items c.in-Ok.index c.args.origin c.args.kind c.args.at no_row c.requires (rw (c.place.ensures, c.as_slice.ensures.value) at c.in-Ok.ensures.there) c.widen.ensures.small)
+    rw (c.widen.ensures.row no_row) (widened_entries c.args.rows.now.items c.in-Ok.index c.args.origin c.args.kind c.args.at no_row c.requires (rw (c.place.ensures.value, c.as_slice.ensures.value) at c.in-Ok.ensures.there) c.widen.ensures.small)
 
 pub returns-in-Ok-clause-tidy : goal.returns-in-Ok-clause-tidy
 returns-in-Ok-clause-tidy c =
-    let there = rw (c.place.ensures, c.as_slice.ensures.value) at c.in-Ok.ensures.there in
+    let there = rw (c.place.ensures.value, c.as_slice.ensures.value) at c.in-Ok.ensures.there in
     rw (c.widen.ensures.row no_row) (widened_tidy c.args.rows.now.items c.in-Ok.index c.args.at no_row c.requires there.inside c.widen.ensures.small)
 
 pub returns-in-Ok-insert-clause-grew : goal.returns-in-Ok-insert-clause-grew
 returns-in-Ok-insert-clause-grew c =
-    sym (ap not (shown_nowhere c.args.rows.now.items c.in-Err.index c.args.origin c.args.kind c.args.at c.requires (rw (c.place.ensures, c.as_slice.ensures.value) at c.in-Err.ensures.missing)))
+    sym (ap not (shown_nowhere c.args.rows.now.items c.in-Err.index c.args.origin c.args.kind c.args.at c.requires (rw (c.place.ensures.value, c.as_slice.ensures.value) at c.in-Err.ensures.missing)))
 
 pub returns-in-Ok-insert-clause-ok : goal.returns-in-Ok-insert-clause-ok
 returns-in-Ok-insert-clause-ok c =
@@ -27,5 +27,5 @@ returns-in-Ok-insert-clause-ok c =
 
 pub returns-in-Ok-insert-clause-tidy : goal.returns-in-Ok-insert-clause-tidy
 returns-in-Ok-insert-clause-tidy c =
-    let missing = rw (c.place.ensures, c.as_slice.ensures.value) at c.in-Err.ensures.missing in
+    let missing = rw (c.place.ensures.value, c.as_slice.ensures.value) at c.in-Err.ensures.missing in
     rw (c.in-Ok-insert.ensures.items, c.single-row.ensures.value) (single_tidy c.args.rows.now.items c.in-Err.index c.args.origin c.args.kind c.args.at c.requires missing c.single-row.ensures.small)

@@ -1,9 +1,12 @@
 use Rattle.std.proofs.lemmas.Bool.{both_ways}
 use Rattle.mob_law.specs.Threats.{HasNoMate}
 use Rattle.mob_law.proofs.Law.{bounded}
-use Rattle.mob_law.proofs.Growing.{Within, no_mate_shrinks}
+use Rattle.mob_solve.proofs.Growing.{no_mate_shrinks}
 use Rattle.mob_sets.specs.Rows.{sets_of}
 use Rattle.mob_solve.proofs.verdicts.static_verdict.Goals as goal
+
+pub returns-then-no_mate-clause-least : goal.returns-then-no_mate-clause-least
+returns-then-no_mate-clause-least c = c.in_ok-sets.ensures
 
 pub returns-then-no_mate-clause-closed : goal.returns-then-no_mate-clause-closed
 returns-then-no_mate-clause-closed c = c.in_ok-sets.ensures.closed
@@ -19,7 +22,6 @@ pub returns-else-no_mate-clause-none : goal.returns-else-no_mate-clause-none
 returns-else-no_mate-clause-none c = λ static.
     let p = c.args.position.now in
     let s = sets_of c.in_ok-sets.sets in
-    let inside = c.in_ok-sets.ensures.inside static.0 static.1 in
-    let within : Within s static.0 = record { has = inside.has; loose = inside.loose } in
+    let within = c.in_ok-sets.ensures.inside static.0 static.1 in
     let none : HasNoMate p s c.args.winner = no_mate_shrinks p s static.0 within c.args.winner static.2 in
     both_ways c.no_mate.result c.if-no_mate.false (c.no_mate.ensures.1 none)

@@ -67,7 +67,7 @@ module _ (p : Board) (s r : Sets) (within : IsWithin s r) (closed : IsClosed p r
   unguarded : (c : Color) (k : Kind) (t : ℕ) → t < 64 → is_barred (ground_of p s) c k t ≡ false → k ≡ King → is_guarded p r (other_color c) t ≡ false
   unfolding is_barred
   unguarded c k t small h king =
-      let none : has_square (side_in (ground_of p s) (other_color c)).guards t ≡ false = sym (ap (λ b. b && has_square (side_in (ground_of p s) (other_color c)).guards t) king) ∙ h in
+      let none : has_square (side_in (ground_of p s) (other_color c)).guards t ≡ false = sym (ap (λ b. b && has_square (side_in (ground_of p s) (other_color c)).guards t) (same_kind_from k King king)) ∙ h in
       guard_shrinks p s r within (other_color c) t (sym (guards_at p s (other_color c) t small) ∙ none)
 
   open_step : (c : Color) (k : Kind) (u t : ℕ) → u < 64 → t < 64 → steps_to c k u t ≡ true → (aims_at c k u t ≡ true) × (is_open p r u t ≡ true)

@@ -2,7 +2,7 @@
 
 use crate::test_sets::{enter, loosen, sets_of};
 use crate::{closed, proves_unwinnable};
-use cha_board::{Color, Square};
+use cha_board::{Color, Position, Square};
 use cha_fen::read;
 use mob_sets::Sets;
 use std::alloc::Global;
@@ -133,87 +133,25 @@ const OPEN: [(&str, &str); 10] = [
     ),
 ];
 
-#[test]
-fn least_sets_are_closed_and_have_no_mate(rt: HostRuntime) -> Result<(), Fail> {
-    for (fen, text) in LEAST {
-        let Ok(position) = read(fen.as_bytes()) else {
-            panic!(rt; "{fen}")
-        };
-        let sets = sets_of(rt.alloc(), text)?;
-        assert!(rt; closed(&position, &sets), "{fen}");
-        assert!(rt; proves_unwinnable(&position, Color::White, &sets), "{fen}");
-        assert!(rt; proves_unwinnable(&position, Color::Black, &sets), "{fen}");
-    }
-    Ok(())
-}
-
-#[test]
-fn sets_are_closed_where_each_rule_holds(rt: HostRuntime) -> Result<(), Fail> {
-    for (fen, text) in CLOSED {
-        let Ok(position) = read(fen.as_bytes()) else {
-            panic!(rt; "{fen}")
-        };
-        assert!(rt; closed(&position, &sets_of(rt.alloc(), text)?), "{fen}");
-    }
-    for (fen, text) in OPEN {
-        let Ok(position) = read(fen.as_bytes()) else {
-            panic!(rt; "{fen}")
-        };
-        assert!(rt; !closed(&position, &sets_of(rt.alloc(), text)?), "{fen}");
-    }
-    Ok(())
-}
-
-#[test]
-fn least_sets_are_not_closed_without_one_square(rt: HostRuntime) -> Result<(), Fail> {
-    for (fen, text) in LEAST {
-        let Ok(position) = read(fen.as_bytes()) else {
-            panic!(rt; "{fen}")
-        };
-        let sets = sets_of(rt.alloc(), text)?;
-        for (number, row) in sets.rows().iter().enumerate() {
-            for index in 0..64 {
-                if row.has(Square::at(index)) {
-                    let fewer = without(rt.alloc(), &sets, number, index)?;
-                    assert!(rt; !closed(&position, &fewer), "{fen} {number} {index}");
-                }
-            }
+/// The first position for which sets are closed, or are not, other than wanted.
+fn first_other<'a>(
+    alloc: Global,
+    rows: &[(&'a str, &str)],
+    want: bool,
+) -> Result<Option<&'a str>, Fail> {
+    for (fen, text) in rows {
+        let position = read(fen.as_bytes())?;
+        if closed(&position, &sets_of(alloc, text)?) != want {
+            return Ok(Some(*fen));
         }
     }
-    Ok(())
+    Ok(None)
 }
 
-#[test]
-fn least_sets_are_not_closed_without_one_loose_origin(rt: HostRuntime) -> Result<(), Fail> {
-    for (fen, text) in LEAST {
-        let Ok(position) = read(fen.as_bytes()) else {
-            panic!(rt; "{fen}")
-        };
-        let sets = sets_of(rt.alloc(), text)?;
-        for index in 0..64 {
-            if sets.is_loose(Square::at(index)) {
-                let fewer = with_fixed(rt.alloc(), &sets, index)?;
-                assert!(rt; !closed(&position, &fewer), "{fen} {index}");
-            }
-        }
-    }
-    Ok(())
-}
-
-/// The same sets with an origin that is not loose.
-fn with_fixed(alloc: Global, sets: &Sets, at: u8) -> Result<Sets, Fail> {
+/// The same sets with these loose origins, and without a square of one row.
+fn fewer(alloc: Global, sets: &Sets, loose: u64, without: usize, at: u8) -> Result<Sets, Fail> {
     let mut fewer = Sets::new(alloc);
-    loosen(&mut fewer, sets.loose().bits() & !(1 << (at % 64)));
-    for row in sets.rows() {
-        enter(&mut fewer, row.origin, row.kind, row.squares.bits())?;
-    }
-    Ok(fewer)
-}
-
-/// The same sets without a square of a row.
-fn without(alloc: Global, sets: &Sets, without: usize, at: u8) -> Result<Sets, Fail> {
-    let mut fewer = Sets::new(alloc);
-    loosen(&mut fewer, sets.loose().bits());
+    loosen(&mut fewer, loose);
     for (number, row) in sets.rows().iter().enumerate() {
         let bits = row.squares.bits();
         let kept = if number == without {
@@ -224,4 +162,42 @@ fn without(alloc: Global, sets: &Sets, without: usize, at: u8) -> Result<Sets, F
         enter(&mut fewer, row.origin, row.kind, kept)?;
     }
     Ok(fewer)
+}
+
+/// Whether sets are open without any one of their loose origins and squares.
+fn needs_each(alloc: Global, position: &Position, sets: &Sets) -> Result<bool, Fail> {
+    let loose = sets.loose().bits();
+    for index in 0..64 {
+        let at = Square::at(index);
+        let tied = loose & !(1 << (index % 64));
+        if sets.is_loose(at) && closed(position, &fewer(alloc, sets, tied, 384, 0)?) {
+            return Ok(false);
+        }
+        for (number, row) in sets.rows().iter().enumerate() {
+            if row.has(at) && closed(position, &fewer(alloc, sets, loose, number, index)?) {
+                return Ok(false);
+            }
+        }
+    }
+    Ok(true)
+}
+
+#[test]
+fn sets_are_closed_where_each_rule_holds(rt: HostRuntime) -> Result<(), Fail> {
+    assert_eq!(rt; first_other(rt.alloc(), &LEAST, true)?, None);
+    assert_eq!(rt; first_other(rt.alloc(), &CLOSED, true)?, None);
+    assert_eq!(rt; first_other(rt.alloc(), &OPEN, false)?, None);
+    Ok(())
+}
+
+#[test]
+fn least_sets_have_no_mate_and_are_open_with_less(rt: HostRuntime) -> Result<(), Fail> {
+    for (fen, text) in &LEAST {
+        let position = read(fen.as_bytes())?;
+        let sets = sets_of(rt.alloc(), text)?;
+        assert!(rt; proves_unwinnable(&position, Color::White, &sets), "{fen}");
+        assert!(rt; proves_unwinnable(&position, Color::Black, &sets), "{fen}");
+        assert!(rt; needs_each(rt.alloc(), &position, &sets)?, "{fen}");
+    }
+    Ok(())
 }

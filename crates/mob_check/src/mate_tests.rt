@@ -165,12 +165,10 @@ const SETS: [(&str, &str, bool); 26] = [
 
 #[test]
 fn mates_are_in_reach_where_each_part_of_a_threat_is(rt: HostRuntime) -> Result<(), Fail> {
-    for (fen, text, none) in SETS {
-        let Ok(position) = read(fen.as_bytes()) else {
-            panic!(rt; "{fen}")
-        };
+    for (fen, text, none) in &SETS {
+        let position = read(fen.as_bytes())?;
         let sets = sets_of(rt.alloc(), text)?;
-        assert_eq!(rt; no_mate(&position, Color::White, &sets), none, "{fen}");
+        assert!(rt; no_mate(&position, Color::White, &sets) == *none, "{fen}");
     }
     Ok(())
 }

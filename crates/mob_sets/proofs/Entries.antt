@@ -67,7 +67,7 @@ any_inserted q e rows i y h =
     moved true false c = refl
     moved false b c = refl
 
-shared : (a b c d : Bool) → (a && b && (c || d)) ≡ ((a && b && c) || (a && b && d))
+pub shared : (a b c d : Bool) → (a && b && (c || d)) ≡ ((a && b && c) || (a && b && d))
 shared true true c d = refl
 shared true false c d = refl
 shared false b c d = refl

@@ -31,7 +31,7 @@ length-set_with squares u = length-set_of (λ s. (s == u) || has_square squares 
 full_with : (row : Row) (u : ℕ) → length row.squares ≡ 64 → u < 64 → IsFull (row_with row u)
 full_with row u width small = record { width = length-set_with row.squares u; some = with_is_some row.squares u width small }
 
-place_kept : (rows : List Row) (i : ℕ) (y : Row) (k : ℕ) (d : Row) → i < length rows → row_place y ≡ row_place (get_or rows i d) → row_place (get_or (set rows i y) k d) ≡ row_place (get_or rows k d)
+pub place_kept : (rows : List Row) (i : ℕ) (y : Row) (k : ℕ) (d : Row) → i < length rows → row_place y ≡ row_place (get_or rows i d) → row_place (get_or (set rows i y) k d) ≡ row_place (get_or rows k d)
 place_kept rows i y k d inside same =
     elim (cases_eq k i) [
       | inl e ↦ ap (λ x. row_place (get_or (set rows i y) x d)) e ∙ ap row_place (get_or-set_same rows i y d inside) ∙ same ∙ sym (ap (λ x. row_place (get_or rows x d)) e)

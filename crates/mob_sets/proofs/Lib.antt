@@ -4,3 +4,4 @@ pub mod Keeping
 pub mod Entering
 pub mod Canonical
 pub mod KindTests
+pub mod Joining

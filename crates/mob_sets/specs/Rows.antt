@@ -4,7 +4,7 @@ use Rattle.std.specs.List.{list_any}
 use Rattle.cha_board.specs.declared.men.Kind.{Kind}
 use Rattle.cha_board.specs.declared.men.Kind.TheVariants.{Pawn, Knight, Bishop, Rook, Queen, King}
 use Rattle.cha_board.specs.Men.{same_kind}
-use Rattle.cha_board.specs.SquareSets.{has_square, empty_set, set_with}
+use Rattle.cha_board.specs.SquareSets.{has_square, empty_set, set_with, set_joined}
 use Rattle.mob_law.specs.Reach.{Sets}
 
 -- the squares on which the man of an origin may ever stand as a kind
@@ -38,6 +38,14 @@ entries_with has o k u = λ p j v. ((o == p) && same_kind k j && (v == u)) || ha
 abbrev pub sets_with : Sets → ℕ → Kind → ℕ → Sets
 sets_with s o k u = record { has = entries_with s.has o k u; loose = s.loose }
 
+-- what is in reach, with more squares
+abbrev pub entries_joined : (ℕ → Kind → ℕ → Bool) → ℕ → Kind → List Bool → ℕ → Kind → ℕ → Bool
+entries_joined has o k more = λ p j v. ((o == p) && same_kind k j && has_square more v) || has p j v
+
+-- the sets with more squares in reach
+abbrev pub sets_joined : Sets → ℕ → Kind → List Bool → Sets
+sets_joined s o k more = record { has = entries_joined s.has o k more; loose = s.loose }
+
 -- the sets with one more loose origin
 abbrev pub sets_loosened : Sets → ℕ → Sets
 sets_loosened s o = record {
@@ -48,6 +56,10 @@ sets_loosened s o = record {
 -- the row with one more square
 abbrev pub row_with : Row → ℕ → Row
 row_with row u = record { origin = row.origin; kind = row.kind; squares = set_with row.squares u }
+
+-- the row with more squares
+abbrev pub row_joined : Row → List Bool → Row
+row_joined row more = record { origin = row.origin; kind = row.kind; squares = set_joined more row.squares }
 
 -- the row of one square
 abbrev pub single_row : ℕ → Kind → ℕ → Row

@@ -3,7 +3,7 @@
 ghost use Rattle.std.specs.Prelude.{◌≡◌, ◌<◌, not, slice_index_or, slice_set, IfOk, IfErr, OnOk, OnErr};
 ghost use Rattle.std.specs.Vec.{vec_len};
 ghost use Rattle.cha_board.specs.SquareSets.{has_square};
-ghost use Rattle.mob_sets.specs.Rows.{Row, has_entry, entries_with, single_row, row_with};
+ghost use Rattle.mob_sets.specs.Rows.{Row, has_entry, entries_with, entries_joined, single_row, row_with, row_joined};
 ghost use Rattle.mob_sets.specs.Tidy.{AreTidy, StandsAt, IsThere, IsMissing};
 
 use crate::rows::{SetRow, place};
@@ -69,6 +69,51 @@ pub fn enter(
             }
         }
     }
+}
+
+/// Enters squares into the row of an origin and a kind.
+pub fn join(
+    rows: &mut Vec<SetRow>,
+    origin: Square,
+    kind: Kind,
+    more: SquareSet,
+) -> Result<(), NoMemory>
+    requires { AreTidy rows.old.items }
+    ensures ok { OnOk result (has_entry rows.new.items ≡ entries_joined (has_entry rows.old.items) origin kind more) }
+    ensures err { OnErr result (rows.new.items ≡ rows.old.items) }
+    ensures tidy { AreTidy rows.new.items }
+{
+    // The number of a set tells that it has 64 truth values.
+    let _number = more.bits();
+    if more.is_empty() {
+        return Ok(());
+    }
+    match find(rows.as_slice(), place(origin, kind)) {
+        Ok(index) => {
+            fill(rows, index, more);
+            Ok(())
+        }
+        Err(index) => {
+            let filled = SetRow {
+                origin,
+                kind,
+                squares: more,
+            };
+            match rows.insert(index, filled) {
+                Ok(()) => Ok(()),
+                Err(_) => Err(NoMemory),
+            }
+        }
+    }
+}
+
+/// Adds squares to a row.
+fn fill(rows: &mut Vec<SetRow>, index: usize, more: SquareSet)
+    requires { index < vec_len rows.old }
+    ensures { (d : Row) → rows.new.items ≡ slice_set rows.old.items index (row_joined (slice_index_or rows.old.items index d) more) }
+{
+    let row = rows[index];
+    rows[index] = row.joined(more);
 }
 
 /// The row of one square.

@@ -2,7 +2,7 @@
 
 ghost use Rattle.std.specs.Prelude.{◌≡◌, ◌<◌};
 ghost use Rattle.cha_board.specs.SquareSets.{has_square};
-ghost use Rattle.mob_sets.specs.Rows.{kind_number, place_of, row_place, row_with};
+ghost use Rattle.mob_sets.specs.Rows.{kind_number, place_of, row_place, row_with, row_joined};
 
 use cha_board::{Kind, Square, SquareSet};
 use std::marker::Model;
@@ -49,6 +49,17 @@ impl SetRow {
             origin: self.origin,
             kind: self.kind,
             squares: self.squares.with(at),
+        }
+    }
+
+    /// The row with more squares.
+    pub fn joined(self, more: SquareSet) -> SetRow
+        ensures { result ≡ row_joined self more }
+    {
+        SetRow {
+            origin: self.origin,
+            kind: self.kind,
+            squares: more.joined(self.squares),
         }
     }
 }

@@ -2,10 +2,10 @@
 
 ghost use Rattle.std.specs.Prelude.{◌≡◌, not, [], length, IfOk, OnOk, OnErr};
 ghost use Rattle.cha_board.specs.SquareSets.{empty_set};
-ghost use Rattle.mob_sets.specs.Rows.{sets_of, sets_with, sets_loosened};
+ghost use Rattle.mob_sets.specs.Rows.{sets_of, sets_with, sets_joined, sets_loosened};
 ghost use Rattle.mob_sets.specs.Tidy.{AreTidy};
 
-use crate::places::{enter, shows};
+use crate::places::{enter, join, shows};
 use crate::rows::SetRow;
 use cha_board::{Kind, Square, SquareSet};
 use cha_list::NoMemory;
@@ -78,6 +78,14 @@ impl Sets {
         ensures err { OnErr result (self.new ≡ self.old) }
     {
         enter(&mut self.rows, origin, kind, at)
+    }
+
+    /// Adds squares on which the man of an origin may stand as a kind. On a refusal the sets are unchanged.
+    pub fn join(&mut self, origin: Square, kind: Kind, more: SquareSet) -> Result<(), NoMemory>
+        ensures ok { OnOk result (sets_of self.new ≡ sets_joined (sets_of self.old) origin kind more) }
+        ensures err { OnErr result (self.new ≡ self.old) }
+    {
+        join(&mut self.rows, origin, kind, more)
     }
 
     /// Makes an origin loose, and answers whether it was not.

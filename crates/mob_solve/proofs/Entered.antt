@@ -1,5 +1,5 @@
 -- Sets into which others are entered.
-use Rattle.std.proofs.Common.{◌≡◌, ℕ, ◌<◌, ◌≤◌, Bool, true, false, ◌&&◌, ◌==◌, [], length, refl, sym, ap, subst, arith, inl, inr}
+use Rattle.std.proofs.Common.{◌≡◌, ℕ, ◌<◌, ◌≤◌, Bool, true, false, ◌&&◌, ◌==◌, List, [], length, refl, sym, ap, subst, arith, inl, inr}
 use Rattle.std.proofs.lemmas.Bool.{and_parts, or_cases, or_left, or_right, and_from, both_ways, cases_lt, eq-eqb, eqb-true}
 use Rattle.std.proofs.lemmas.List.{get_or_past}
 use Rattle.cha_board.specs.declared.men.Kind.{Kind}
@@ -7,7 +7,7 @@ use Rattle.cha_board.specs.declared.men.Kind.TheVariants.{Pawn, Knight, Bishop, 
 use Rattle.cha_board.specs.Men.{same_kind}
 use Rattle.cha_board.specs.SquareSets.{empty_set, has_square}
 use Rattle.mob_law.specs.Reach.{Sets}
-use Rattle.mob_sets.specs.Rows.{has_entry, sets_of, place_of, sets_with, sets_loosened}
+use Rattle.mob_sets.specs.Rows.{has_entry, sets_of, place_of, sets_joined, sets_loosened}
 use Rattle.mob_sets.proofs.Order.{same_kind_tells, same_kind_self}
 use Rattle.mob_solve.specs.declared.reach.Reach.{Reach}
 use Rattle.mob_solve.specs.Least.{IsWithin, IsLeast}
@@ -29,31 +29,30 @@ nothing_within r = record {
   loose = λ o h. absurd (both_ways (has_square empty_set o) (in_empty o) h);
 }
 
--- one more square
-pub with_grows : (s new : Sets) (o : ℕ) (k : Kind) (u : ℕ) → new ≡ sets_with s o k u → IsWithin s new
-with_grows s new o k u is =
+-- more squares
+pub joined_grows : (s new : Sets) (o : ℕ) (k : Kind) (more : List Bool) → new ≡ sets_joined s o k more → IsWithin s new
+joined_grows s new o k more is =
     let P : Sets → Type 0 = λ x. IsWithin s x in
-    subst P (sym is) (record { has = λ p j v h. or_right ((o == p) && same_kind k j && (v == u)) (s.has p j v) h; loose = λ p h. h })
+    subst P (sym is) (record { has = λ p j v h. or_right ((o == p) && same_kind k j && has_square more v) (s.has p j v) h; loose = λ p h. h })
 
-pub with_has : (s new : Sets) (o : ℕ) (k : Kind) (u : ℕ) → new ≡ sets_with s o k u → new.has o k u ≡ true
-with_has s new o k u is =
+pub joined_has : (s new : Sets) (o : ℕ) (k : Kind) (more : List Bool) → new ≡ sets_joined s o k more → (u : ℕ) → has_square more u ≡ true → new.has o k u ≡ true
+joined_has s new o k more is u there =
     let P : Sets → Type 0 = λ x. x.has o k u ≡ true in
-    subst P (sym is) (or_left ((o == o) && same_kind k k && (u == u)) (s.has o k u)
-    (and_from ((o == o) && same_kind k k) (u == u) (and_from (o == o) (same_kind k k) (eq-eqb o o refl) (same_kind_self k)) (eq-eqb u u refl)))
+    subst P (sym is) (or_left ((o == o) && same_kind k k && has_square more u) (s.has o k u)
+    (and_from ((o == o) && same_kind k k) (has_square more u) (and_from (o == o) (same_kind k k) (eq-eqb o o refl) (same_kind_self k)) there))
 
-pub with_within : (s new r : Sets) (o : ℕ) (k : Kind) (u : ℕ) → new ≡ sets_with s o k u → r.has o k u ≡ true → IsWithin s r → IsWithin new r
-with_within s new r o k u is given within =
+pub joined_within : (s new r : Sets) (o : ℕ) (k : Kind) (more : List Bool) → new ≡ sets_joined s o k more → ((u : ℕ) → has_square more u ≡ true → r.has o k u ≡ true) → IsWithin s r → IsWithin new r
+joined_within s new r o k more is given within =
     let P : Sets → Type 0 = λ x. IsWithin x r in
     subst P (sym is) (record {
       has = λ p j v h. (
-          elim (or_cases ((o == p) && same_kind k j && (v == u)) (s.has p j v) h) [
+          elim (or_cases ((o == p) && same_kind k j && has_square more v) (s.has p j v) h) [
             | inl e ↦ (
-                let a = and_parts ((o == p) && same_kind k j) (v == u) e in
+                let a = and_parts ((o == p) && same_kind k j) (has_square more v) e in
                 let b = and_parts (o == p) (same_kind k j) a.0 in
                 let A : ℕ → Type 0 = λ x. r.has x j v ≡ true in
                 let B : Kind → Type 0 = λ x. r.has o x v ≡ true in
-                let C : ℕ → Type 0 = λ x. r.has o k x ≡ true in
-                subst A (eqb-true o p b.0) (subst B (same_kind_tells k j b.1) (subst C (sym (eqb-true v u a.1)) given)))
+                subst A (eqb-true o p b.0) (subst B (same_kind_tells k j b.1) (given v a.1)))
             | inr before ↦ within.has p j v before
           ]);
       loose = within.loose;

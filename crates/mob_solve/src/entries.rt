@@ -58,13 +58,6 @@ fn enter_row(
     ensures all { OnOk result ((u : ℕ) → has_square squares u ≡ true → (sets_of sets.new).has origin kind u ≡ true) }
     ensures inside { OnOk result ((r : MobilitySets) → ((u : ℕ) → has_square squares u ≡ true → r.has origin kind u ≡ true) → IsWithin (sets_of sets.old) r → IsWithin (sets_of sets.new) r) }
 {
-    // The number of a set tells that its squares are on the board.
-    let _number = squares.bits();
-    for index in 0..64 {
-        let at = Square::at(index);
-        if squares.has(at) {
-            sets.add(origin, kind, at)?;
-        }
-    }
+    sets.join(origin, kind, squares)?;
     Ok(())
 }

@@ -7,8 +7,8 @@ use mob_sets::Sets;
 use std::alloc::Global;
 use std::test::Fail;
 
-/// Few men, walls, captures en passant and castlings; positions of openings and of games.
-const POSITIONS: [&str; 23] = [
+/// Few men, walls, captures en passant and castlings.
+const FEW_MEN: [&str; 15] = [
     "4k3/8/8/8/8/8/8/4K3 w - -",
     "8/8/8/4k3/8/8/8/4KN2 w - -",
     "4k3/P7/8/8/8/8/6p1/4K3 w - -",
@@ -28,7 +28,10 @@ const POSITIONS: [&str; 23] = [
     "r3k2r/8/8/8/8/8/8/R3K2R w KQkq -",
     // A study by Reti.
     "7K/8/k1P5/7p/8/8/8/8 w - -",
-    // The opening position.
+];
+
+/// Positions of games.
+const OPENINGS: [&str; 4] = [
     "rnbqkbnr/pppppppp/8/8/8/8/PPPPPPPP/RNBQKBNR w KQkq -",
     // A pawn may be captured en passant.
     "rnbqkbnr/ppp1p1pp/8/3pPp2/8/8/PPPP1PPP/RNBQKBNR w KQkq f6",
@@ -36,6 +39,9 @@ const POSITIONS: [&str; 23] = [
     "r1bqkbnr/pppp1ppp/2n5/1B2p3/4P3/5N2/PPPP1PPP/RNBQK2R b KQkq -",
     // Deep Blue and Kasparov, New York 1997.
     "r1bqkb1r/pp1n1pp1/2p1pn1p/6N1/3P4/3B1N2/PPP2PPP/R1BQK2R w KQkq -",
+];
+
+const MIDDLEGAMES: [&str; 4] = [
     // Morphy's opera game.
     "1n1Rkb1r/p4ppp/4q3/4p1B1/4P3/8/PPP2PPP/2K5 b k -",
     // Anderssen's immortal and evergreen games.
@@ -69,7 +75,19 @@ fn first_other<'a>(alloc: Global, positions: &[&'a str]) -> Result<Option<&'a st
 }
 
 #[test]
-fn men_reach_what_the_plain_solver_finds(rt: HostRuntime) -> Result<(), Fail> {
-    assert_eq!(rt; first_other(rt.alloc(), &POSITIONS)?, None);
+fn few_men_reach_what_the_plain_solver_finds(rt: HostRuntime) -> Result<(), Fail> {
+    assert_eq!(rt; first_other(rt.alloc(), &FEW_MEN)?, None);
+    Ok(())
+}
+
+#[test]
+fn men_of_openings_reach_what_the_plain_solver_finds(rt: HostRuntime) -> Result<(), Fail> {
+    assert_eq!(rt; first_other(rt.alloc(), &OPENINGS)?, None);
+    Ok(())
+}
+
+#[test]
+fn men_of_middlegames_reach_what_the_plain_solver_finds(rt: HostRuntime) -> Result<(), Fail> {
+    assert_eq!(rt; first_other(rt.alloc(), &MIDDLEGAMES)?, None);
     Ok(())
 }

@@ -1,5 +1,3 @@
-use Rattle.std.proofs.Common.{◌∙◌}
-use Rattle.cha_board.specs.SquareSets.{set_joined, is_subset}
 use Rattle.mob_check.proofs.NextTo.{shut_is}
 use Rattle.mob_check.proofs.mates.shut_in.Goals as goal
 

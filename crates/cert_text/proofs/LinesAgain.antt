@@ -1,13 +1,12 @@
 -- Each line that is written is read again.
-use Rattle.std.proofs.Common.{◌≡◌, ◌≢◌, ℕ, zero, suc, ◌+◌, ◌-◌, ◌*◌, ◌/◌, ◌%◌, ◌^◌, ◌<◌, ◌≤◌, ◌==◌, nat_lt, nat_le, Bool, true, false, not, ◌&&◌, if◌then◌else◌, List, [], ◌∷◌, ◌++◌, map, length, drop, get_or, Option, Some, None, Ok, decimal, refl, sym, ap, subst, ◌∙◌, arith, append_assoc, append-nil}
+use Rattle.std.proofs.Common.{◌≡◌, ◌≢◌, ℕ, zero, suc, ◌+◌, ◌-◌, ◌*◌, ◌/◌, ◌%◌, ◌^◌, ◌<◌, ◌≤◌, ◌==◌, nat_lt, nat_le, Bool, true, false, not, ◌&&◌, if◌then◌else◌, List, [], ◌∷◌, ◌++◌, length, drop, Option, Some, None, decimal, refl, ap, ◌∙◌, arith}
 use Rattle.std.proofs.Math.Nat.{pow-succ'}
-use Rattle.std.specs.List.{list_all, flat_map, All}
+use Rattle.std.specs.List.{list_all}
 use Rattle.std.specs.Int.{bit_at}
 use Rattle.std.proofs.lemmas.Bool.{and_parts, and_from, eq-eqb}
 use Rattle.std.proofs.lemmas.Bool.Decides.{Decides-eqb, nat_tests}
 use Rattle.std.proofs.lemmas.Fmt.{decimal_nonempty, length-decimal-le}
-use Rattle.std.proofs.lemmas.List.{length-append, get_or_append_left, get_or_at}
-use Rattle.std.proofs.lemmas.Nat.Bits.{bit_at-zero}
+use Rattle.std.proofs.lemmas.List.{length-append}
 use Rattle.std.proofs.lemmas.Slice.Eq.{slice_eq-Decides}
 use Rattle.cha_list.specs.Bytes.{is_from}
 use Rattle.cha_board.specs.declared.men.Color.{Color}
@@ -15,26 +14,19 @@ use Rattle.cha_board.specs.declared.men.Color.TheVariants.{White, Black}
 use Rattle.cha_board.specs.declared.men.Kind.{Kind}
 use Rattle.cha_board.specs.declared.men.Kind.TheVariants.{Pawn, Knight, Bishop, Rook, Queen, King}
 use Rattle.cha_board.specs.Board.{Board, IsValid}
-use Rattle.cha_board.specs.SquareSets.{empty_set, has_square, set_of_bits, bits_of_set}
-use Rattle.cha_board.specs.SetLaws.{one_if, length-set_of, has-set_of, same_squares, same_set, bit_at-bits_of_set}
+use Rattle.cha_board.specs.SquareSets.{has_square, set_of_bits, bits_of_set}
+use Rattle.cha_board.specs.SetLaws.{one_if, length-set_of, has-set_of, same_squares, bit_at-bits_of_set}
 use Rattle.cha_fen.specs.Placement.{kind_of}
 use Rattle.cha_fen.specs.Fen.{fen}
 use Rattle.cha_fen.specs.Written.{kind_letter}
 use Rattle.cha_fen.proofs.WrittenRead.{written_is_read}
-use Rattle.mob_sets.specs.Rows.{Row, row_place}
-use Rattle.mob_sets.specs.Tidy.{AreTidy, IsFull}
-use Rattle.cha_cert.specs.declared.nodes.Node.{Node}
-use Rattle.cha_cert.specs.declared.nodes.Part.{Part}
-use Rattle.cha_cert.specs.declared.nodes.Part.TheVariants.{Inner, Leaf}
-use Rattle.cert_text.specs.declared.faults.CertKind.TheVariants as kinds
+use Rattle.mob_sets.specs.Rows.{Row}
 use Rattle.cert_text.specs.Digits.{hex_digit, hex_digits, value_of}
-use Rattle.cert_text.specs.Spelled.{header_line, end_line, winner_line, count_line, loose_line, row_line, inner_line, leaf_line, part_lines, node_lines, cert_lines, lines_text, cert_text}
+use Rattle.cert_text.specs.Spelled.{winner_line, count_line, loose_line, row_line, inner_line, leaf_line, lines_text}
 use Rattle.cert_text.specs.Lines.{lines_of, tail_of}
-use Rattle.cert_text.specs.Texts.{found, is_text, kept, fixed_of, winner_of, small_count, count_of, loose_of, square_of, follows, row_of, position_if, inner_of, leaf_of, wanted, begins_reach, rows_after, leaf_after, node_after, nodes_after, ended, cert_of}
-use Rattle.cert_text.specs.Agreeing.{IsWritable, IsWritablePart}
+use Rattle.cert_text.specs.Texts.{is_text, kept, fixed_of, winner_of, small_count, count_of, loose_of, square_of, follows, row_of, position_if, inner_of, leaf_of}
 use Rattle.cert_text.proofs.Numbers.{decimal_read, hex_read}
-use Rattle.cert_text.proofs.Parts.{parts_read}
-use Rattle.cert_text.proofs.Plain.{plain, ArePlain, cert_plain}
+use Rattle.cert_text.proofs.Plain.{plain, ArePlain}
 
 if_none : {A : Type 0} (t : Bool) (o : Option A) → o ≡ None → (if t then None else o) ≡ None
 if_none true o e = refl

@@ -1,40 +1,27 @@
 -- What is written is read again.
-use Rattle.std.proofs.Common.{◌≡◌, ◌≢◌, ℕ, zero, suc, ◌+◌, ◌-◌, ◌*◌, ◌/◌, ◌%◌, ◌^◌, ◌<◌, ◌≤◌, ◌==◌, nat_lt, nat_le, Bool, true, false, not, ◌&&◌, if◌then◌else◌, List, [], ◌∷◌, ◌++◌, map, length, drop, get_or, Option, Some, None, Ok, decimal, refl, sym, ap, subst, ◌∙◌, arith, append_assoc, append-nil}
-use Rattle.std.proofs.Math.Nat.{pow-succ'}
+use Rattle.std.proofs.Common.{◌≡◌, ◌≢◌, ℕ, suc, ◌+◌, ◌^◌, ◌<◌, ◌==◌, nat_lt, Bool, true, false, not, List, [], ◌∷◌, ◌++◌, map, length, get_or, Result, Ok, Err, IfErr, refl, sym, ap, subst, ◌∙◌, arith, append_assoc, append-nil}
 use Rattle.std.specs.List.{list_all, flat_map, All}
 use Rattle.std.specs.Int.{bit_at}
-use Rattle.std.proofs.lemmas.Bool.{and_parts, and_from, eq-eqb}
-use Rattle.std.proofs.lemmas.Bool.Decides.{Decides-eqb, nat_tests}
-use Rattle.std.proofs.lemmas.Fmt.{decimal_nonempty, length-decimal-le}
+use Rattle.std.proofs.lemmas.Bool.{and_from}
 use Rattle.std.proofs.lemmas.List.{length-append, get_or_append_left, get_or_at}
 use Rattle.std.proofs.lemmas.Nat.Bits.{bit_at-zero}
-use Rattle.std.proofs.lemmas.Slice.Eq.{slice_eq-Decides}
-use Rattle.cha_list.specs.Bytes.{is_from}
 use Rattle.cha_board.specs.declared.men.Color.{Color}
-use Rattle.cha_board.specs.declared.men.Color.TheVariants.{White, Black}
-use Rattle.cha_board.specs.declared.men.Kind.{Kind}
-use Rattle.cha_board.specs.declared.men.Kind.TheVariants.{Pawn, Knight, Bishop, Rook, Queen, King}
 use Rattle.cha_board.specs.Board.{Board, IsValid}
-use Rattle.cha_board.specs.SquareSets.{empty_set, has_square, set_of_bits, bits_of_set}
-use Rattle.cha_board.specs.SetLaws.{one_if, length-set_of, has-set_of, same_squares, same_set, bit_at-bits_of_set}
-use Rattle.cha_fen.specs.Placement.{kind_of}
-use Rattle.cha_fen.specs.Fen.{fen}
-use Rattle.cha_fen.specs.Written.{kind_letter}
-use Rattle.cha_fen.proofs.WrittenRead.{written_is_read}
+use Rattle.cha_board.specs.SquareSets.{empty_set, set_of_bits, bits_of_set}
+use Rattle.cha_board.specs.SetLaws.{same_set}
 use Rattle.mob_sets.specs.Rows.{Row, row_place}
 use Rattle.mob_sets.specs.Tidy.{AreTidy, IsFull}
 use Rattle.cha_cert.specs.declared.nodes.Node.{Node}
 use Rattle.cha_cert.specs.declared.nodes.Part.{Part}
 use Rattle.cha_cert.specs.declared.nodes.Part.TheVariants.{Inner, Leaf}
 use Rattle.cert_text.specs.declared.faults.CertKind.TheVariants as kinds
-use Rattle.cert_text.specs.Digits.{hex_digit, hex_digits, value_of}
-use Rattle.cert_text.specs.Spelled.{header_line, end_line, winner_line, count_line, loose_line, row_line, inner_line, leaf_line, part_lines, node_lines, cert_lines, lines_text, cert_text}
+use Rattle.cert_text.specs.Spelled.{header_line, end_line, winner_line, count_line, row_line, inner_line, leaf_line, part_lines, node_lines, cert_lines, cert_text}
 use Rattle.cert_text.specs.Lines.{lines_of, tail_of}
-use Rattle.cert_text.specs.Texts.{found, is_text, kept, fixed_of, winner_of, small_count, count_of, loose_of, square_of, follows, row_of, position_if, inner_of, leaf_of, wanted, begins_reach, rows_after, leaf_after, node_after, nodes_after, ended, cert_of}
-use Rattle.cert_text.specs.Agreeing.{IsWritable, IsWritablePart}
-use Rattle.cert_text.proofs.Numbers.{decimal_read, hex_read}
+use Rattle.cert_text.specs.Texts.{found, fixed_of, follows, wanted, begins_reach, rows_after, leaf_after, node_after, nodes_after, ended, cert_of}
+use Rattle.cert_text.specs.declared.faults.CertFault.{CertFault}
+use Rattle.cert_text.specs.Agreeing.{IsWritable, IsWritablePart, IsCertText}
 use Rattle.cert_text.proofs.Parts.{parts_read}
-use Rattle.cert_text.proofs.Plain.{plain, ArePlain, cert_plain}
+use Rattle.cert_text.proofs.Plain.{cert_plain}
 use Rattle.cert_text.proofs.LinesAgain.{not_zero, less_test, lines_again, no_tail, fixed_again, winner_again, count_again, set_again, loose_again, row_again, inner_again, leaf_again, leaf_no_inner}
 
 -- lines of which the first does not begin as a row
@@ -141,3 +128,17 @@ text_again w nodes text e some few ok =
     (sym tail) body.1
     (rw (fixed_again end_line) refl)
     (ap (λ t. ended (body.0 + 1) [] t (record { winner = w; cert = nodes })) tail)
+
+-- what is said is not two things
+one_saying : {X : Type 0} (x : X) (said : Result X CertFault) (fault : CertFault) → said ≡ Ok x → said ≡ Err fault → ⊥
+one_saying x said fault ok err = cc
+
+-- a text of which a fault is said is that of no certificate
+pub no_text : (bytes : List ℕ) (fault : CertFault) → cert_of bytes ≡ Err fault → (w : Color) (nodes : List Node) → IsCertText w nodes bytes → ⊥
+no_text bytes fault says w nodes text =
+    one_saying (record { winner = w; cert = nodes }) (cert_of bytes) fault (text_again w nodes bytes (sym text.spelled) text.some text.few text.writable) says
+
+pub none_refused : {X : Type 0} (bytes : List ℕ) (r : Result X CertFault) → IfErr r (λ fault. fault.kind ≢ kinds.NoMemory → cert_of bytes ≡ Err fault)
+    → IfErr r (λ fault. fault.kind ≢ kinds.NoMemory → (w : Color) (nodes : List Node) → IsCertText w nodes bytes → ⊥)
+none_refused bytes (Ok x) said = said
+none_refused bytes (Err fault) said = λ kind w nodes text. no_text bytes fault (said kind) w nodes text

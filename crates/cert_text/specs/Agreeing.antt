@@ -1,6 +1,7 @@
 -- What readers answer, beside what is said of the text.
-use Rattle.std.specs.Prelude.{◌≡◌, ◌≢◌, ℕ, ◌<◌, ⊤, List, [], ◌∷◌, ◌++◌, length, drop, Option, Some, None, Result, Ok, Err}
+use Rattle.std.specs.Prelude.{◌≡◌, ◌≢◌, ℕ, ◌<◌, ◌^◌, ⊤, List, [], ◌∷◌, ◌++◌, length, drop, Option, Some, None, Result, Ok, Err}
 use Rattle.std.specs.List.{All}
+use Rattle.cha_board.specs.declared.men.Color.{Color}
 use Rattle.cha_board.specs.Board.{IsValid}
 use Rattle.mob_sets.specs.Rows.{Row}
 use Rattle.mob_sets.specs.Tidy.{AreTidy}
@@ -9,6 +10,7 @@ use Rattle.cha_cert.specs.declared.nodes.Part.{Part}
 use Rattle.cha_cert.specs.declared.nodes.Part.TheVariants.{Inner, Leaf}
 use Rattle.cert_text.specs.declared.faults.CertFault.{CertFault}
 use Rattle.cert_text.specs.declared.rest.Left.{Left}
+use Rattle.cert_text.specs.Spelled.{cert_text}
 use Rattle.cert_text.specs.Lines.{lines_of, tail_of}
 use Rattle.cert_text.specs.Texts.{Found, rows_after}
 use Rattle.cert_text.specs.declared.faults.CertKind.TheVariants as kinds
@@ -30,6 +32,13 @@ IsWritablePart (Leaf sets) = AreTidy sets.rows × All (λ row. row.origin < 64) 
 pub record IsWritable (node : Node) : Type 0 where
   pub position : IsValid node.position
   pub part : IsWritablePart node.part
+
+-- bytes are the text of a certificate, which has nodes, not too many, each of which can be written
+pub record IsCertText (w : Color) (nodes : List Node) (bytes : List ℕ) : Type 0 where
+  pub spelled : cert_text w nodes ≡ bytes
+  pub some : 0 < length nodes
+  pub few : length nodes < 2 ^ 32
+  pub writable : All IsWritable nodes
 
 -- where a further row is read: it goes behind those so far; where none is, these are all
 abbrev pub RowGoesOn : List ℕ → List Row → Left → Option (Row × Left) → Type 0

@@ -1,9 +1,12 @@
 //! A certificate read from its text.
 
-ghost use Rattle.std.specs.Prelude.{◌≤◌, drop, length, ◌≡◌, ◌≢◌, ◌<◌, ◌^◌, Ok, Err, IfOk, IfErr};
+ghost use Rattle.std.specs.Prelude.{◌≤◌, drop, length, ◌≡◌, ◌≢◌, ◌<◌, ◌^◌, List, Ok, Err, IfOk, IfErr};
+ghost use Rattle.cha_board.specs.declared.men.Color.{Color as Side};
+ghost use Rattle.cha_cert.specs.declared.nodes.Node.{Node as CertNode};
 ghost use Rattle.cert_text.specs.declared.faults.CertKind.TheVariants.{NoMemory};
 ghost use Rattle.cert_text.specs.Spelled.{cert_text};
 ghost use Rattle.cert_text.specs.Texts.{cert_of};
+ghost use Rattle.cert_text.specs.Agreeing.{IsCertText};
 
 use crate::bodies::nodes;
 use crate::faults::{CertFault, CertKind};
@@ -35,11 +38,13 @@ pub struct Certificate {
 /// end
 /// ```
 ///
-/// Each line ends with a line feed. Whether the certificate is valid is not asked.
+/// Each line ends with a line feed. Whether the certificate is valid is not asked. One certificate has one text, and a text
+/// that is refused, but for want of memory, is that of no certificate.
 #[tactic(auto, unfolding(crate::specs::Texts::cert_of))]
 pub fn read(alloc: Global, bytes: &[u8]) -> Result<Certificate, CertFault>
     ensures value { IfOk result (λ read. cert_of bytes.now ≡ Ok read) }
     ensures fault { IfErr result (λ fault. fault.kind ≢ NoMemory → cert_of bytes.now ≡ Err fault) }
+    ensures refused { IfErr result (λ fault. fault.kind ≢ NoMemory → (w : Side) (nodes : List CertNode) → IsCertText w nodes bytes.now → ⊥) }
     ensures spelled { IfOk result (λ read. cert_text read.winner read.cert ≡ bytes.now) }
     ensures some { IfOk result (λ read. 0 < length read.cert) }
     ensures few { IfOk result (λ read. length read.cert < 2 ^ 32) }

@@ -14,5 +14,6 @@ pub mod Pawns
 pub mod Castles
 pub mod Keeping
 pub mod Law
+pub mod Widest
 pub mod Guards
 pub mod CastlingFollows

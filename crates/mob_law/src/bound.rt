@@ -1,7 +1,9 @@
 //! The law of mobility sets.
 
+ghost use Rattle.std.specs.Prelude.{◌≡◌, ℕ, false};
 ghost use Rattle.cha_board.specs.declared.men.Color.{Color as Side};
-ghost use Rattle.cha_board.specs.Board.{Board, IsValid};
+ghost use Rattle.cha_board.specs.Men.{is_non_king};
+ghost use Rattle.cha_board.specs.Board.{Board, man_at, IsValid};
 ghost use Rattle.cha_moves.specs.Ends.{IsUnwinnable};
 ghost use Rattle.mob_law.specs.Reach.{Sets};
 ghost use Rattle.mob_law.specs.Closed.{IsClosed};
@@ -13,4 +15,11 @@ ghost use Rattle.mob_law.specs.Static.{IsStaticallyUnwinnable};
 pub fn closed_sets_bound()
     ensures law { (p : Board) (s : Sets) (w : Side) → IsValid p → IsClosed p s → HasNoMate p s w → IsUnwinnable p w }
     ensures static_law { (p : Board) (w : Side) → IsValid p → IsStaticallyUnwinnable p w → IsUnwinnable p w }
+{}
+
+/// What the law is about is there: some sets are closed for every position, as those in which each man reaches every square
+/// as everything, and a side that has only its king is statically unwinnable.
+pub fn closed_sets_exist()
+    ensures closed { (p : Board) → (s : Sets) × IsClosed p s }
+    ensures bare_king { (p : Board) (w : Side) → ((u : ℕ) → is_non_king w (man_at p.men u) ≡ false) → IsStaticallyUnwinnable p w }
 {}

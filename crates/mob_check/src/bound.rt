@@ -12,8 +12,8 @@ use crate::mates::no_mate;
 use cha_board::{Color, Position};
 use mob_sets::Sets;
 
-/// Whether mobility sets are closed for a position and have no mate for a side. Where they do, no series of legal moves
-/// from the position mates for that side.
+/// Whether mobility sets are closed for a position and have no mate for a side (this project). Where that is so, no series of
+/// legal moves from the position mates for that side. It takes no memory.
 pub fn proves_unwinnable(position: &Position, winner: Color, sets: &Sets) -> bool
     ensures value { IsTrue result ↔ (IsClosed position.now (sets_of sets.now) × HasNoMate position.now (sets_of sets.now) winner) }
     ensures law { OnTrue result (IsUnwinnable position.now winner) }

@@ -14,8 +14,8 @@ use cha_board::{Color, Kind, Man, Position, Square};
 use cha_moves::{home, long_right, short_right};
 use mob_sets::Sets;
 
-/// Whether mobility sets are closed for a position: whatever legal moves may come, each man stays in reach. Entries whose
-/// origin has no man are looked at by no rule.
+/// Whether mobility sets are closed for a position (this project): whatever legal moves may come, each man stays in reach.
+/// Entries whose origin has no man are looked at by no rule. It takes no memory.
 pub fn closed(position: &Position, sets: &Sets) -> bool
     ensures { IsTrue result ↔ IsClosed position.now (sets_of sets.now) }
 {

@@ -16,8 +16,8 @@ use Rattle.adjudicate.specs.declared.writing.Reported.TheVariants.{Whole, Refuse
 use Rattle.adjudicate.specs.declared.orders.Order.TheVariants.{AdjudicateGames}
 use Rattle.adjudicate.specs.Outcomes.{Item, game_item, game_items}
 use Rattle.adjudicate.specs.Runs.{Reports, Begins, BeginsWhole}
-use Rattle.adjudicate.specs.Steps.{Judges, WroteUpTo, HasRoom}
-use Rattle.adjudicate.proofs.Progress.{nothing_written, one_more, cut_block, whole_blocks, finished, cut_summary, room_for_one, one_counted}
+use Rattle.adjudicate.specs.Steps.{Judges, HasRoom}
+use Rattle.adjudicate.proofs.Progress.{WroteUpTo, nothing_written, one_more, cut_block, whole_blocks, finished, cut_summary, room_for_one, one_counted}
 
 -- So many games of the bytes taken were judged, and their blocks written: where a source and a sink began and stand, the
 -- bytes taken, the number of games given, and the totals.

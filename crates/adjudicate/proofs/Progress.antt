@@ -9,13 +9,19 @@ use Rattle.cha_outside.specs.Gathering.{Took}
 use Rattle.flag_report.specs.declared.totals.Summary.{Summary}
 use Rattle.adjudicate.specs.declared.judging.Judged.{Judged}
 use Rattle.adjudicate.specs.declared.writing.Reported.{Reported}
-use Rattle.adjudicate.specs.declared.writing.Reported.TheVariants.{Whole, Refused, SourceFailed, TooLong, SinkFailed}
+use Rattle.adjudicate.specs.declared.writing.Reported.TheVariants.{Whole, Refused, SourceFailed, TooLong, SinkFailed, NoMemory}
 use Rattle.adjudicate.specs.declared.orders.Order.{Order}
 use Rattle.adjudicate.specs.declared.orders.Order.TheVariants.{AdjudicateGames, JudgePositions, CheckCert}
 use Rattle.adjudicate.specs.Outcomes.{Item, Outcome, IsSoundOutcome, AllSound, block_of, block, blocks, summary_of, is_bad, is_third, is_open, game_items, position_items}
 use Rattle.adjudicate.specs.Report.{IsReportOn, HasBegunOn, HasWholeBlocksOn, HasWholeBlocks}
-use Rattle.adjudicate.specs.Runs.{Grew, Reports, Refuses, Begins, BeginsWhole}
-use Rattle.adjudicate.specs.Steps.{one_if, Judges, WroteUpTo, HasRoom, counted}
+use Rattle.adjudicate.specs.Runs.{Grew, Reports, Begins, BeginsWhole}
+use Rattle.adjudicate.specs.Steps.{one_if, Judges, HasRoom, counted}
+
+-- of all items, those before these have sound outcomes whose blocks were written and whose totals are these
+abbrev pub WroteUpTo : Bool → List Item → List Item → Option (List ℕ) → Option (List ℕ) → Summary → Type 0
+WroteUpTo certs all later old new s =
+    (done : List Item) × (all ≡ done ++ later)
+    × ((os : List Outcome) × (map (λ o. o.item) os ≡ done) × AllSound os × Appends old new (blocks certs 1 os) × (s ≡ summary_of os))
 
 -- one more outcome
 sound_more : (os : List Outcome) (o : Outcome) → AllSound os → IsSoundOutcome o → AllSound (os ++ o ∷ [])
@@ -144,17 +150,11 @@ nothing_begun order left left' a P took = (took.0, took.1, ([], appends_nothing 
 pub reports_as : (a b : Order) (left left' old now : Option (List ℕ)) → a ≡ b → Reports a left left' old now → Reports b left left' old now
 reports_as a b left left' old now e h = subst (λ o. Reports o left left' old now) e h
 
-pub refuses_as : (a b : Order) (left left' old now : Option (List ℕ)) → a ≡ b → Refuses a left left' old now → Refuses b left left' old now
-refuses_as a b left left' old now e h = subst (λ o. Refuses o left left' old now) e h
-
 pub begins_as : (a b : Order) (left left' old now : Option (List ℕ)) → a ≡ b → Begins a left left' old now → Begins b left left' old now
 begins_as a b left left' old now e h = subst (λ o. Begins o left left' old now) e h
 
 pub begins_whole_as : (a b : Order) (left left' old now : Option (List ℕ)) → a ≡ b → BeginsWhole a left left' old now → BeginsWhole b left left' old now
 begins_whole_as a b left left' old now e h = subst (λ o. BeginsWhole o left left' old now) e h
-
-pub same_order : (r x : Option Order) (a b : Order) → r ≡ x → r ≡ Some a → x ≡ Some b → a ≡ b
-same_order r x a b e f h = cc
 
 -- how a report ended, one way or another
 pub source_failed : (r : Reported) → r ≡ SourceFailed → (r ≡ Whole → ⊥) × (r ≡ Refused → ⊥) × (r ≡ SinkFailed → ⊥)
@@ -162,3 +162,6 @@ source_failed r e = ((λ h. let f = sym e ∙ h in cc), (λ h. let f = sym e ∙
 
 pub was_too_long : (r : Reported) → r ≡ TooLong → (r ≡ Whole → ⊥) × (r ≡ Refused → ⊥) × (r ≡ SinkFailed → ⊥)
 was_too_long r e = ((λ h. let f = sym e ∙ h in cc), (λ h. let f = sym e ∙ h in cc), (λ h. let f = sym e ∙ h in cc))
+
+pub lacked_memory : (r : Reported) → r ≡ NoMemory → (r ≡ Whole → ⊥) × (r ≡ Refused → ⊥) × (r ≡ SinkFailed → ⊥)
+lacked_memory r e = ((λ h. let f = sym e ∙ h in cc), (λ h. let f = sym e ∙ h in cc), (λ h. let f = sym e ∙ h in cc))

@@ -1,10 +1,9 @@
--- What the judging of one item gives, and what was written so far.
-use Rattle.std.specs.Prelude.{◌≡◌, ℕ, ◌+◌, ◌^◌, ◌<◌, Bool, if◌then◌else◌, List, ◌++◌, map, Option}
-use Rattle.std.specs.Io.KnownBytes.{Appends}
+-- What the judging of one item gives.
+use Rattle.std.specs.Prelude.{◌≡◌, ℕ, ◌+◌, ◌^◌, ◌<◌, Bool, if◌then◌else◌, Option}
 use Rattle.flag_report.specs.declared.totals.Summary.{Summary}
 use Rattle.cha_decide.specs.declared.decided.Decision.{Decision}
 use Rattle.adjudicate.specs.declared.judging.Judged.{Judged}
-use Rattle.adjudicate.specs.Outcomes.{Item, Outcome, IsSoundFor, AllSound, block_of, blocks, summary_of, is_bad, is_third, is_open}
+use Rattle.adjudicate.specs.Outcomes.{Item, Outcome, IsSoundFor, block_of, is_bad, is_third, is_open}
 
 abbrev pub one_if : Bool → ℕ
 one_if b = if b then 1 else 0
@@ -33,12 +32,3 @@ pub record HasRoom (s : Summary) : Type 0 where
 abbrev pub Judges : Bool → Item → Summary → Judged → Type 0
 Judges certs item s judged =
     (d : Option Decision) × IsSoundFor item d × (judged.block ≡ block_of certs (s.items + 1) item d) × (judged.totals ≡ counted s (record { item = item; decision = d }))
-
--- these items have sound outcomes whose blocks were written and whose totals are these
-abbrev pub Wrote : Bool → List Item → Option (List ℕ) → Option (List ℕ) → Summary → Type 0
-Wrote certs items old new s =
-    (os : List Outcome) × (map (λ o. o.item) os ≡ items) × AllSound os × Appends old new (blocks certs 1 os) × (s ≡ summary_of os)
-
--- of all items, those before these have sound outcomes whose blocks were written and whose totals are these
-abbrev pub WroteUpTo : Bool → List Item → List Item → Option (List ℕ) → Option (List ℕ) → Summary → Type 0
-WroteUpTo certs all later old new s = (done : List Item) × (all ≡ done ++ later) × Wrote certs done old new s

@@ -7,9 +7,15 @@ ghost use Rattle.adjudicate.specs.Words.{order, order_of_word, order_with_certs}
 #[derive(Clone, Copy, Debug, PartialEq, Eq)]
 pub enum Order {
     /// `adjudicate`: judge each game of the input, which is in PGN.
-    AdjudicateGames { certs: bool },
+    AdjudicateGames {
+        /// Whether the certificates of sides that cannot mate are printed.
+        certs: bool,
+    },
     /// `position`: judge each line of the input as a position in FEN.
-    JudgePositions { certs: bool },
+    JudgePositions {
+        /// Whether the certificates of sides that cannot mate are printed.
+        certs: bool,
+    },
     /// `check`: check the certificate whose text the input is.
     CheckCert,
 }

@@ -1,6 +1,6 @@
 use Rattle.std.proofs.Common.{◌+◌, ◌≤◌, length}
 use Rattle.adjudicate.specs.Outcomes.{position_items}
-use Rattle.adjudicate.specs.Steps.{WroteUpTo}
+use Rattle.adjudicate.proofs.Progress.{WroteUpTo}
 use Rattle.adjudicate.proofs.positions.judge_lines.Given as goal
 
 -- the lines so far were judged, and their blocks written

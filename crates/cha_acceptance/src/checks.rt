@@ -1,12 +1,9 @@
 //! Certificates that `check` reads.
 
-use crate::running::run_over;
-use adjudicate::Status;
-use cha_outside::{Bytes, Pieces};
-use std::test::Fail;
+use crate::tables::Row;
 
 /// The queen on b7 can only be taken, and then both kings are bare.
-const FORCED: &str = "\
+pub const FORCED: &str = "\
 cha-cert 1
 winner w
 nodes 2
@@ -19,7 +16,7 @@ end
 ";
 
 /// Certificates that are accepted, with the winner.
-const ACCEPTED: [(&str, &str); 9] = [
+pub const ACCEPTED: [Row; 9] = [
     (FORCED, "accepted w\n"),
     // Two bare kings, for either side.
     (
@@ -62,7 +59,7 @@ const ACCEPTED: [(&str, &str); 9] = [
 ];
 
 /// Certificates that are refused, with the node or the line.
-const REFUSED: [(&str, &str); 26] = [
+pub const REFUSED: [Row; 26] = [
     // The capture leads to no node.
     (
         "cha-cert 1\nwinner w\nnodes 1\ninner k7/1Q6/8/8/8/8/8/4K3 b - -\nend\n",
@@ -157,41 +154,3 @@ const REFUSED: [(&str, &str); 26] = [
         "refused: line 6 end\n",
     ),
 ];
-
-#[test]
-fn certificates_are_accepted_or_refused(rt: HostRuntime) -> Result<(), Fail> {
-    let alloc = rt.alloc();
-    for (text, want) in ACCEPTED {
-        let mut source = Bytes::new(text.as_bytes().to_vec(alloc)?);
-        let found = run_over(&rt, alloc, "check", &mut source, 4096, Vec::new(alloc))?;
-        assert_eq!(rt; str::from_utf8(&found.written), Ok(want), "{text}");
-        assert_eq!(rt; found.status, Status::Done, "{text}");
-    }
-    for (text, want) in REFUSED {
-        let mut source = Bytes::new(text.as_bytes().to_vec(alloc)?);
-        let found = run_over(&rt, alloc, "check", &mut source, 4096, Vec::new(alloc))?;
-        assert_eq!(rt; str::from_utf8(&found.written), Ok(want), "{text}");
-        assert_eq!(rt; found.status, Status::NotAccepted, "{text}");
-    }
-    Ok(())
-}
-
-#[test]
-fn a_certificate_comes_in_pieces_or_not_at_all(rt: HostRuntime) -> Result<(), Fail> {
-    let alloc = rt.alloc();
-    for (fails, room, want, text) in [
-        ([0], 4096, Status::Done, "accepted w\n"),
-        ([3], 4096, Status::ReadFault, ""),
-        ([0], 8, Status::WriteFault, "accepted"),
-    ] {
-        let mut source = Pieces::new(
-            FORCED.as_bytes().to_vec(alloc)?,
-            [7, 80].to_vec(alloc)?,
-            fails.to_vec(alloc)?,
-        );
-        let found = run_over(&rt, alloc, "check", &mut source, room, Vec::new(alloc))?;
-        assert_eq!(rt; found.status, want);
-        assert_eq!(rt; str::from_utf8(&found.written), Ok(text));
-    }
-    Ok(())
-}

@@ -1,93 +1,132 @@
-//! Sources and sinks that fail.
+//! Sources and sinks that fail, and words that are not in the language.
 
-use crate::running::run_over;
+use crate::checks::FORCED;
+use crate::running::{run_on, run_over};
 use adjudicate::Status;
 use cha_outside::{Bytes, Pieces};
 use std::test::Fail;
 
-const INPUT: &[u8] = b"4k3/8/8/8/8/8/8/4K3 w - -\r\nhello\r\n";
+const LINES: &str = "4k3/8/8/8/8/8/8/4K3 w - -\r\nhello\r\n";
 
-const OUTPUT: &[u8] =
-    b"position 1\nfen: 4k3/8/8/8/8/8/8/4K3 w - -\nwhite: unwinnable\nblack: unwinnable\nstatus: dead\nposition 2\nrefused: shape\npositions: 2, refused: 1, dead: 1, undecided: 0\n";
+const REPORT: &str =
+    "position 1\nfen: 4k3/8/8/8/8/8/8/4K3 w - -\nwhite: unwinnable\nblack: unwinnable\nstatus: dead\nposition 2\nrefused: shape\npositions: 2, refused: 1, dead: 1, undecided: 0\n";
+
+const GAME: &str = "1. f3 e5 2. g4 Qh4# 0-1\n";
+
+const BLOCK: &str =
+    "game 1\nfen: rnb1kbnr/pppp1ppp/8/4p3/6Pq/5P2/PPPPP2P/RNBQKBNR w KQkq -\nwhite: skipped\nblack: winnable in 0\nstatus: checkmate\nresult: 0-1 -> 0-1 by 5.1.1\n";
+
+/// Words and input, with the sizes of the pieces in which it is read, and the output.
+const PIECES: [(&str, &str, [u32; 2], &str); 5] = [
+    ("position", LINES, [1, 1], REPORT),
+    ("position", LINES, [26, 1], REPORT),
+    ("position", LINES, [12, 30], REPORT),
+    ("position", LINES, [27, 4], REPORT),
+    ("check", FORCED, [7, 80], "accepted w\n"),
+];
 
 #[test]
 fn pieces_of_any_size_are_read_alike(rt: HostRuntime) -> Result<(), Fail> {
-    let alloc = rt.alloc();
-    for sizes in [[1, 1], [26, 1], [12, 30], [27, 4]] {
-        let mut source = Pieces::new(INPUT.to_vec(alloc)?, sizes.to_vec(alloc)?, Vec::new(alloc));
-        let found = run_over(&rt, alloc, "position", &mut source, 4096, Vec::new(alloc))?;
+    for (words, input, sizes, output) in PIECES {
+        let alloc = rt.alloc();
+        let mut source = Pieces::new(
+            input.as_bytes().to_vec(alloc)?,
+            sizes.to_vec(alloc)?,
+            Vec::new(alloc),
+        );
+        let found = run_over(&rt, alloc, words, &mut source, 4096, Vec::new(alloc))?;
         assert_eq!(rt; found.status, Status::Done);
-        assert_eq!(rt; found.written.as_slice(), OUTPUT);
+        assert_eq!(rt; found.text(), output);
+    }
+    Ok(())
+}
+
+/// Words and input, of which pieces of 64 bytes are read, the numbers of the read and of the write that fail, the room of the
+/// sink, and what is left: a status, and what was written. No call has the number 0.
+const FAULTS: [(&str, &str, u32, u32, u32, Status, &str); 5] = [
+    ("check", FORCED, 3, 0, 4096, Status::ReadFault, ""),
+    ("check", FORCED, 0, 0, 8, Status::WriteFault, "accepted"),
+    ("adjudicate", GAME, 2, 0, 4096, Status::ReadFault, ""),
+    // The block and the summary go out in one write each.
+    ("adjudicate", GAME, 0, 1, 4096, Status::WriteFault, ""),
+    ("adjudicate", GAME, 0, 2, 4096, Status::WriteFault, BLOCK),
+];
+
+#[test]
+fn a_fault_ends_the_run(rt: HostRuntime) -> Result<(), Fail> {
+    for (words, input, read, write, room, status, written) in FAULTS {
+        let alloc = rt.alloc();
+        let reads = [read].to_vec(alloc)?;
+        let mut source = Pieces::new(input.as_bytes().to_vec(alloc)?, [64].to_vec(alloc)?, reads);
+        let writes = [write].to_vec(alloc)?;
+        let found = run_over(&rt, alloc, words, &mut source, room, writes)?;
+        assert_eq!(rt; found.text(), written, "{words}");
+        assert_eq!(rt; found.status, status, "{words}");
     }
     Ok(())
 }
 
 #[test]
-fn a_failing_read_ends_the_run(rt: HostRuntime) -> Result<(), Fail> {
-    let alloc = rt.alloc();
+fn any_failing_read_ends_the_run(rt: HostRuntime) -> Result<(), Fail> {
     for call in 1..36 {
-        let mut source = Pieces::new(INPUT.to_vec(alloc)?, Vec::new(alloc), [call].to_vec(alloc)?);
+        let alloc = rt.alloc();
+        let mut source = Pieces::new(
+            LINES.as_bytes().to_vec(alloc)?,
+            Vec::new(alloc),
+            [call].to_vec(alloc)?,
+        );
         let found = run_over(&rt, alloc, "position", &mut source, 4096, Vec::new(alloc))?;
-        assert_eq!(rt; found.status, Status::ReadFault, "call {call}");
         assert_eq!(rt; found.written.len(), 0);
+        assert_eq!(rt; found.status, Status::ReadFault, "call {call}");
     }
     Ok(())
 }
 
 #[test]
 fn a_full_sink_ends_the_run(rt: HostRuntime) -> Result<(), Fail> {
-    let alloc = rt.alloc();
-    for room in 0..=OUTPUT.len() {
-        let mut source = Bytes::new(INPUT.to_vec(alloc)?);
-        let found = run_over(
-            &rt,
-            alloc,
-            "position",
-            &mut source,
-            room as u32,
-            Vec::new(alloc),
-        )?;
-        let want = if room < OUTPUT.len() {
-            Status::WriteFault
-        } else {
-            Status::Done
-        };
-        assert_eq!(rt; found.status, want);
-        assert_eq!(rt; found.written.as_slice(), &OUTPUT[..room]);
+    for room in 0..=REPORT.len() {
+        let alloc = rt.alloc();
+        let mut source = Bytes::new(LINES.as_bytes().to_vec(alloc)?);
+        let none = Vec::new(alloc);
+        let found = run_over(&rt, alloc, "position", &mut source, room as u32, none)?;
+        assert_eq!(rt; found.written.as_slice(), &REPORT.as_bytes()[..room]);
+        assert_eq!(rt; found.status == Status::Done, room == REPORT.len());
+        assert_eq!(rt; found.status == Status::WriteFault, room < REPORT.len());
     }
     Ok(())
 }
 
+/// Words that are not in the language.
+const OTHER_WORDS: [&str; 21] = [
+    "",
+    " ",
+    "solve",
+    "Position",
+    "--help",
+    "--certs",
+    "position -",
+    "position --",
+    "position ",
+    "position --certs=yes",
+    "position --certs --certs",
+    "position --cert",
+    "--certs position",
+    "position adjudicate",
+    "adjudicate --certs=yes",
+    "adjudicate --certs ",
+    "adjudicate --workers 17",
+    "check --certs",
+    "check check",
+    "gen 1",
+    "gen 1 0",
+];
+
 #[test]
 fn other_words_are_refused(rt: HostRuntime) -> Result<(), Fail> {
-    let alloc = rt.alloc();
-    for line in [
-        "",
-        " ",
-        "solve",
-        "Position",
-        "--help",
-        "--certs",
-        "position -",
-        "position --",
-        "position ",
-        "position --certs=yes",
-        "position --certs --certs",
-        "position --cert",
-        "--certs position",
-        "position adjudicate",
-        "adjudicate --certs=yes",
-        "adjudicate --certs ",
-        "adjudicate --workers 17",
-        "check --certs",
-        "check check",
-        "gen 1",
-        "gen 1 0",
-    ] {
-        let mut source = Bytes::new(INPUT.to_vec(alloc)?);
-        let found = run_over(&rt, alloc, line, &mut source, 4096, Vec::new(alloc))?;
-        assert_eq!(rt; found.status, Status::Usage);
-        assert_eq!(rt; found.written.len(), 0);
+    for words in OTHER_WORDS {
+        let found = run_on(&rt, rt.alloc(), words, LINES)?;
+        assert_eq!(rt; found.written.len(), 0, "{words}");
+        assert_eq!(rt; found.status, Status::Usage, "{words}");
     }
     Ok(())
 }

@@ -1,160 +1,119 @@
 //! Games in PGN.
 
-use crate::running::run_over;
-use adjudicate::Status;
-use cha_outside::Bytes;
-use std::test::Fail;
+use crate::tables::Row;
 
 /// A game as a server writes it, with clocks, annotations and variations.
-const SERVER_GAME: &[u8] =
-    b"[Event \"Rated Blitz game\"]\n[Site \"https://example.org/abcd1234\"]\n[White \"anna\"]\n[Black \"ben\"]\n[Result \"1-0\"]\n[Variant \"Standard\"]\n[TimeControl \"180+0\"]\n[Termination \"Time forfeit\"]\n\n1. e4 { [%clk 0:03:00] } 1... e5 { [%clk 0:03:00] } 2. Qh5!? $5 Nc6\n(2... g6 3. Qxe5+ (3. Qd1)) 3. Bc4 1-0\n";
+const SERVER_GAME: &str =
+    "[Event \"Rated Blitz game\"]\n[Site \"https://example.org/abcd1234\"]\n[White \"anna\"]\n[Black \"ben\"]\n[Result \"1-0\"]\n[Variant \"Standard\"]\n[TimeControl \"180+0\"]\n[Termination \"Time forfeit\"]\n\n1. e4 { [%clk 0:03:00] } 1... e5 { [%clk 0:03:00] } 2. Qh5!? $5 Nc6\n(2... g6 3. Qxe5+ (3. Qd1)) 3. Bc4 1-0\n";
 
 /// Inputs of `adjudicate` with the whole output.
-const ROWS: [(&[u8], &[u8]); 19] = [
-    (b"", b"games: 0, unreadable: 0, changed: 0, undecided: 0\n"),
+pub const ROWS: [Row; 26] = [
+    ("", "games: 0, unreadable: 0, changed: 0, undecided: 0\n"),
     (
-        b"[FEN \"4k3/8/8/8/8/8/8/4K3 w - -\"]\n*",
-        b"game 1\nfen: 4k3/8/8/8/8/8/8/4K3 w - -\nwhite: unwinnable\nblack: unwinnable\nstatus: dead\nresult: * -> 1/2-1/2 by 5.2.2\ngames: 1, unreadable: 0, changed: 1, undecided: 0\n",
+        "[FEN \"4k3/8/8/8/8/8/8/4K3 w - -\"]\n*",
+        "game 1\nfen: 4k3/8/8/8/8/8/8/4K3 w - -\nwhite: unwinnable\nblack: unwinnable\nstatus: dead\nresult: * -> 1/2-1/2 by 5.2.2\ngames: 1, unreadable: 0, changed: 1, undecided: 0\n",
     ),
     (
-        b"1. f3 e5 2. g4 Qh4# 0-1",
-        b"game 1\nfen: rnb1kbnr/pppp1ppp/8/4p3/6Pq/5P2/PPPPP2P/RNBQKBNR w KQkq -\nwhite: skipped\nblack: winnable in 0\nstatus: checkmate\nresult: 0-1 -> 0-1 by 5.1.1\ngames: 1, unreadable: 0, changed: 0, undecided: 0\n",
+        "1. f3 e5 2. g4 Qh4# 0-1",
+        "game 1\nfen: rnb1kbnr/pppp1ppp/8/4p3/6Pq/5P2/PPPPP2P/RNBQKBNR w KQkq -\nwhite: skipped\nblack: winnable in 0\nstatus: checkmate\nresult: 0-1 -> 0-1 by 5.1.1\ngames: 1, unreadable: 0, changed: 0, undecided: 0\n",
     ),
     (
-        b"[FEN \"7k/5Q2/6K1/8/8/8/8/8 b - -\"]\n1-0",
-        b"game 1\nfen: 7k/5Q2/6K1/8/8/8/8/8 b - -\nwhite: undecided, depth 2\nblack: unwinnable\nstatus: stalemate\nresult: 1-0 -> 1/2-1/2 by 5.2.1\ngames: 1, unreadable: 0, changed: 1, undecided: 1\n",
+        "[FEN \"7k/5Q2/6K1/8/8/8/8/8 b - -\"]\n1-0",
+        "game 1\nfen: 7k/5Q2/6K1/8/8/8/8/8 b - -\nwhite: undecided, depth 2\nblack: unwinnable\nstatus: stalemate\nresult: 1-0 -> 1/2-1/2 by 5.2.1\ngames: 1, unreadable: 0, changed: 1, undecided: 1\n",
     ),
     (
-        b"[FEN \"6k1/5ppp/8/8/8/8/5PPP/3R2K1 b - -\"]\n[Termination \"time forfeit\"]\n\n1-0",
-        b"game 1\nfen: 6k1/5ppp/8/8/8/8/5PPP/3R2K1 b - -\nwhite: winnable in 2: g8h8 d1d8\nblack: skipped\nstatus: live\nresult: 1-0 -> 1-0 as recorded\ngames: 1, unreadable: 0, changed: 0, undecided: 0\n",
+        "[FEN \"6k1/5ppp/8/8/8/8/5PPP/3R2K1 b - -\"]\n[Termination \"time forfeit\"]\n\n1-0",
+        "game 1\nfen: 6k1/5ppp/8/8/8/8/5PPP/3R2K1 b - -\nwhite: winnable in 2: g8h8 d1d8\nblack: skipped\nstatus: live\nresult: 1-0 -> 1-0 as recorded\ngames: 1, unreadable: 0, changed: 0, undecided: 0\n",
+    ),
+    // The same twice.
+    (
+        "[FEN \"6k1/5ppp/8/8/8/8/5PPP/3R2K1 b - -\"]\n[Termination \"time forfeit\"]\n\n1-0\n[FEN \"6k1/5ppp/8/8/8/8/5PPP/3R2K1 b - -\"]\n[Termination \"time forfeit\"]\n\n1-0",
+        "game 1\nfen: 6k1/5ppp/8/8/8/8/5PPP/3R2K1 b - -\nwhite: winnable in 2: g8h8 d1d8\nblack: skipped\nstatus: live\nresult: 1-0 -> 1-0 as recorded\ngame 2\nfen: 6k1/5ppp/8/8/8/8/5PPP/3R2K1 b - -\nwhite: winnable in 2: g8h8 d1d8\nblack: skipped\nstatus: live\nresult: 1-0 -> 1-0 as recorded\ngames: 2, unreadable: 0, changed: 0, undecided: 0\n",
     ),
     (
-        b"[FEN \"7k/8/6K1/8/8/8/8/R7 w - -\"]\n[Termination \"ben won on time\"]\n\n0-1",
-        b"game 1\nfen: 7k/8/6K1/8/8/8/8/R7 w - -\nwhite: winnable in 1: a1a8\nblack: unwinnable\nstatus: live\nresult: 0-1 -> 1/2-1/2 by 6.9\ngames: 1, unreadable: 0, changed: 1, undecided: 0\n",
+        "[FEN \"7k/8/6K1/8/8/8/8/R7 w - -\"]\n[Termination \"ben won on time\"]\n\n0-1",
+        "game 1\nfen: 7k/8/6K1/8/8/8/8/R7 w - -\nwhite: winnable in 1: a1a8\nblack: unwinnable\nstatus: live\nresult: 0-1 -> 1/2-1/2 by 6.9\ngames: 1, unreadable: 0, changed: 1, undecided: 0\n",
     ),
     // A knight alone never mates a bare king, whoever lost on time.
     (
-        b"[FEN \"8/8/8/4k3/8/8/8/4KN2 w - -\"]\n[Termination \"time forfeit\"]\n\n1-0",
-        b"game 1\nfen: 8/8/8/4k3/8/8/8/4KN2 w - -\nwhite: unwinnable\nblack: unwinnable\nstatus: dead\nresult: 1-0 -> 1/2-1/2 by 5.2.2\ngames: 1, unreadable: 0, changed: 1, undecided: 0\n",
+        "[FEN \"8/8/8/4k3/8/8/8/4KN2 w - -\"]\n[Termination \"time forfeit\"]\n\n1-0",
+        "game 1\nfen: 8/8/8/4k3/8/8/8/4KN2 w - -\nwhite: unwinnable\nblack: unwinnable\nstatus: dead\nresult: 1-0 -> 1/2-1/2 by 5.2.2\ngames: 1, unreadable: 0, changed: 1, undecided: 0\n",
     ),
     // The last capture leaves two bare kings.
     (
-        b"[FEN \"k7/1Q6/8/8/8/8/8/4K3 b - -\"]\n\n1... Kxb7 1/2-1/2",
-        b"game 1\nfen: 8/1k6/8/8/8/8/8/4K3 w - -\nwhite: unwinnable\nblack: unwinnable\nstatus: dead\nresult: 1/2-1/2 -> 1/2-1/2 by 5.2.2\ngames: 1, unreadable: 0, changed: 0, undecided: 0\n",
+        "[FEN \"k7/1Q6/8/8/8/8/8/4K3 b - -\"]\n\n1... Kxb7 1/2-1/2",
+        "game 1\nfen: 8/1k6/8/8/8/8/8/4K3 w - -\nwhite: unwinnable\nblack: unwinnable\nstatus: dead\nresult: 1/2-1/2 -> 1/2-1/2 by 5.2.2\ngames: 1, unreadable: 0, changed: 0, undecided: 0\n",
     ),
     // Behind this wall Black never mates, and White is not shown to.
     (
-        b"[FEN \"4kb2/7B/8/p1p1p1p1/P1P1P1P1/8/8/4K3 w - -\"]\n[Termination \"time forfeit\"]\n\n0-1",
-        b"game 1\nfen: 4kb2/7B/8/p1p1p1p1/P1P1P1P1/8/8/4K3 w - -\nwhite: undecided, depth 2\nblack: unwinnable\nstatus: unclear\nresult: 0-1 -> 1/2-1/2 by 6.9\ngames: 1, unreadable: 0, changed: 1, undecided: 1\n",
+        "[FEN \"4kb2/7B/8/p1p1p1p1/P1P1P1P1/8/8/4K3 w - -\"]\n[Termination \"time forfeit\"]\n\n0-1",
+        "game 1\nfen: 4kb2/7B/8/p1p1p1p1/P1P1P1P1/8/8/4K3 w - -\nwhite: undecided, depth 2\nblack: unwinnable\nstatus: unclear\nresult: 0-1 -> 1/2-1/2 by 6.9\ngames: 1, unreadable: 0, changed: 1, undecided: 1\n",
     ),
     (
-        b"[FEN \"4kb2/7B/8/p1p1p1p1/P1P1P1P1/8/8/4K3 w - -\"]\n[Termination \"normal\"]\n\n0-1",
-        b"game 1\nfen: 4kb2/7B/8/p1p1p1p1/P1P1P1P1/8/8/4K3 w - -\nwhite: undecided, depth 2\nblack: unwinnable\nstatus: unclear\nresult: 0-1 -> 0-1 as recorded\ngames: 1, unreadable: 0, changed: 0, undecided: 1\n",
+        "[FEN \"4kb2/7B/8/p1p1p1p1/P1P1P1P1/8/8/4K3 w - -\"]\n[Termination \"normal\"]\n\n0-1",
+        "game 1\nfen: 4kb2/7B/8/p1p1p1p1/P1P1P1P1/8/8/4K3 w - -\nwhite: undecided, depth 2\nblack: unwinnable\nstatus: unclear\nresult: 0-1 -> 0-1 as recorded\ngames: 1, unreadable: 0, changed: 0, undecided: 1\n",
     ),
     (
-        b"[FEN \"4kb2/7B/8/p1p1p1p1/P1P1P1P1/8/8/4K3 w - -\"]\n[Termination \"time forfeit\"]\n\n1-0",
-        b"game 1\nfen: 4kb2/7B/8/p1p1p1p1/P1P1P1P1/8/8/4K3 w - -\nwhite: undecided, depth 2\nblack: unwinnable\nstatus: unclear\nresult: 1-0 -> 1-0 as recorded, winner undecided\ngames: 1, unreadable: 0, changed: 0, undecided: 1\n",
+        "[FEN \"4kb2/7B/8/p1p1p1p1/P1P1P1P1/8/8/4K3 w - -\"]\n[Termination \"time forfeit\"]\n\n1-0",
+        "game 1\nfen: 4kb2/7B/8/p1p1p1p1/P1P1P1P1/8/8/4K3 w - -\nwhite: undecided, depth 2\nblack: unwinnable\nstatus: unclear\nresult: 1-0 -> 1-0 as recorded, winner undecided\ngames: 1, unreadable: 0, changed: 0, undecided: 1\n",
     ),
     // f5 closes the last gap of a wall.
     (
-        b"[FEN \"4k3/8/5p2/p1p1p1p1/P1P1PPP1/8/8/4K3 w - -\"]\n\n1. f5 Kd7 *",
-        b"game 1\nfen: 8/3k4/5p2/p1p1pPp1/P1P1P1P1/8/8/4K3 w - -\nwhite: unwinnable\nblack: unwinnable\nstatus: dead\nresult: * -> 1/2-1/2 by 5.2.2\ngames: 1, unreadable: 0, changed: 1, undecided: 0\n",
+        "[FEN \"4k3/8/5p2/p1p1p1p1/P1P1PPP1/8/8/4K3 w - -\"]\n\n1. f5 Kd7 *",
+        "game 1\nfen: 8/3k4/5p2/p1p1pPp1/P1P1P1P1/8/8/4K3 w - -\nwhite: unwinnable\nblack: unwinnable\nstatus: dead\nresult: * -> 1/2-1/2 by 5.2.2\ngames: 1, unreadable: 0, changed: 1, undecided: 0\n",
     ),
     // The capture in passing is open for one move, and then never.
     (
-        b"[FEN \"4k3/6p1/5p2/p1p1pP2/P1P1P1P1/8/8/4K3 b - -\"]\n\n1... g5 *",
-        b"game 1\nfen: 4k3/8/5p2/p1p1pPp1/P1P1P1P1/8/8/4K3 w - g6\nwhite: undecided, depth 2\nblack: undecided, depth 2\nstatus: unclear\nresult: * -> * as recorded\ngames: 1, unreadable: 0, changed: 0, undecided: 1\n",
+        "[FEN \"4k3/6p1/5p2/p1p1pP2/P1P1P1P1/8/8/4K3 b - -\"]\n\n1... g5 *",
+        "game 1\nfen: 4k3/8/5p2/p1p1pPp1/P1P1P1P1/8/8/4K3 w - g6\nwhite: undecided, depth 2\nblack: undecided, depth 2\nstatus: unclear\nresult: * -> * as recorded\ngames: 1, unreadable: 0, changed: 0, undecided: 1\n",
     ),
     (
-        b"[FEN \"4k3/6p1/5p2/p1p1pP2/P1P1P1P1/8/8/4K3 b - -\"]\n\n1... g5 2. Kd1 *",
-        b"game 1\nfen: 4k3/8/5p2/p1p1pPp1/P1P1P1P1/8/8/3K4 b - -\nwhite: unwinnable\nblack: unwinnable\nstatus: dead\nresult: * -> 1/2-1/2 by 5.2.2\ngames: 1, unreadable: 0, changed: 1, undecided: 0\n",
+        "[FEN \"4k3/6p1/5p2/p1p1pP2/P1P1P1P1/8/8/4K3 b - -\"]\n\n1... g5 2. Kd1 *",
+        "game 1\nfen: 4k3/8/5p2/p1p1pPp1/P1P1P1P1/8/8/3K4 b - -\nwhite: unwinnable\nblack: unwinnable\nstatus: dead\nresult: * -> 1/2-1/2 by 5.2.2\ngames: 1, unreadable: 0, changed: 1, undecided: 0\n",
     ),
     (
         SERVER_GAME,
-        b"game 1\nfen: r1bqkbnr/pppp1ppp/2n5/4p2Q/2B1P3/8/PPPP1PPP/RNB1K1NR b KQkq -\nwhite: winnable in 2: c6b4 h5f7\nblack: skipped\nstatus: live\nresult: 1-0 -> 1-0 as recorded\ngames: 1, unreadable: 0, changed: 0, undecided: 0\n",
+        "game 1\nfen: r1bqkbnr/pppp1ppp/2n5/4p2Q/2B1P3/8/PPPP1PPP/RNB1K1NR b KQkq -\nwhite: winnable in 2: c6b4 h5f7\nblack: skipped\nstatus: live\nresult: 1-0 -> 1-0 as recorded\ngames: 1, unreadable: 0, changed: 0, undecided: 0\n",
     ),
     (
-        b"1. e4 e5 2. Ke3 1-0\n[FEN \"4k3/8/8/8/8/8/8/4K3 w - -\"]\n*",
-        b"game 1\nunreadable: move 3 Ke3: no such move\ngame 2\nfen: 4k3/8/8/8/8/8/8/4K3 w - -\nwhite: unwinnable\nblack: unwinnable\nstatus: dead\nresult: * -> 1/2-1/2 by 5.2.2\ngames: 2, unreadable: 1, changed: 1, undecided: 0\n",
+        "1. e4 e5 2. Ke3 1-0\n[FEN \"4k3/8/8/8/8/8/8/4K3 w - -\"]\n*",
+        "game 1\nunreadable: move 3 Ke3: no such move\ngame 2\nfen: 4k3/8/8/8/8/8/8/4K3 w - -\nwhite: unwinnable\nblack: unwinnable\nstatus: dead\nresult: * -> 1/2-1/2 by 5.2.2\ngames: 2, unreadable: 1, changed: 1, undecided: 0\n",
     ),
     (
-        b"1. e4 {no end",
-        b"game 1\nunreadable: unclosed comment or variation\ngames: 1, unreadable: 1, changed: 0, undecided: 0\n",
+        "1. e4 {no end",
+        "game 1\nunreadable: unclosed comment or variation\ngames: 1, unreadable: 1, changed: 0, undecided: 0\n",
     ),
     (
-        b"[FEN \"4k3/8/8/8/8/8/8/4RK2 w - -\"]\n*",
-        b"game 1\nunreadable: bad FEN: opponent in check\ngames: 1, unreadable: 1, changed: 0, undecided: 0\n",
+        "[FEN \"4k3/8/8/8/8/8/8/4RK2 w - -\"]\n*",
+        "game 1\nunreadable: bad FEN: opponent in check\ngames: 1, unreadable: 1, changed: 0, undecided: 0\n",
     ),
     (
-        b"1. e4 ] *",
-        b"game 1\nunreadable: bad token at byte 6\ngames: 1, unreadable: 1, changed: 0, undecided: 0\n",
+        "1. e4 ] *",
+        "game 1\nunreadable: bad token at byte 6\ngames: 1, unreadable: 1, changed: 0, undecided: 0\n",
+    ),
+    // The other faults of games and of words.
+    (
+        "[Variant \"Chess960\"]\n*",
+        "game 1\nunreadable: variant not standard\ngames: 1, unreadable: 1, changed: 0, undecided: 0\n",
+    ),
+    (
+        "[FEN \"hello\"]\n*",
+        "game 1\nunreadable: bad FEN: shape\ngames: 1, unreadable: 1, changed: 0, undecided: 0\n",
+    ),
+    (
+        "[FEN \"8/8/8/8/8/8/8/4K3 w - -\"]\n*",
+        "game 1\nunreadable: bad FEN: kings\ngames: 1, unreadable: 1, changed: 0, undecided: 0\n",
+    ),
+    (
+        "[FEN \"4k3/8/8/8/8/8/8/4K2P w - -\"]\n*",
+        "game 1\nunreadable: bad FEN: pawn rank\ngames: 1, unreadable: 1, changed: 0, undecided: 0\n",
+    ),
+    (
+        "1. e2-e4! *",
+        "game 1\nunreadable: move 1 e2-e4!: not SAN\ngames: 1, unreadable: 1, changed: 0, undecided: 0\n",
+    ),
+    (
+        "[FEN \"7k/4P3/6K1/8/8/8/8/8 w - -\"]\n\n1. e8 *",
+        "game 1\nunreadable: move 1 e8: ambiguous\ngames: 1, unreadable: 1, changed: 0, undecided: 0\n",
     ),
 ];
-
-#[test]
-fn games_have_their_blocks(rt: HostRuntime) -> Result<(), Fail> {
-    let alloc = rt.alloc();
-    for (input, want) in ROWS {
-        let mut source = Bytes::new(input.to_vec(alloc)?);
-        let found = run_over(&rt, alloc, "adjudicate", &mut source, 4096, Vec::new(alloc))?;
-        assert_eq!(rt; found.status, Status::Done);
-        assert_eq!(rt; found.written.as_slice(), want);
-    }
-    Ok(())
-}
-
-#[test]
-fn castling_with_zeros_after_a_byte_order_mark(rt: HostRuntime) -> Result<(), Fail> {
-    let alloc = rt.alloc();
-    let input = b"\xef\xbb\xbf%x\r\n1. e4 ; note [\r\ne5 2. Nf3 Nc6 3. Bc4 Bc5 4. 0-0!? Nf6 *";
-    let mut source = Bytes::new(input.to_vec(alloc)?);
-    let found = run_over(&rt, alloc, "adjudicate", &mut source, 4096, Vec::new(alloc))?;
-    assert_eq!(rt; found.status, Status::Done);
-    let start = b"game 1\nfen: r1bqk2r/pppp1ppp/2n2n2/2b1p3/2B1P3/5N2/PPPP1PPP/RNBQ1RK1 w kq -\n";
-    assert!(rt; found.written.as_slice().starts_with(start));
-    Ok(())
-}
-
-#[test]
-fn many_words_and_long_values_are_refused(rt: HostRuntime) -> Result<(), Fail> {
-    let alloc = rt.alloc();
-    for (rounds, want) in [
-        (
-            3000,
-            b"games: 1, unreadable: 0, changed: 0, undecided: 1\n".as_slice(),
-        ),
-        (
-            3001,
-            b"game 1\nunreadable: more than 12000 moves\ngames: 1, unreadable: 1, changed: 0, undecided: 0\n".as_slice(),
-        ),
-    ] {
-        let mut text = Vec::new(alloc);
-        for _ in 0..rounds {
-            text.extend_from_slice(b"Nf3 Nf6 Ng1 Ng8 ")?;
-        }
-        text.push(b'*')?;
-        let mut source = Bytes::new(text);
-        let found = run_over(&rt, alloc, "adjudicate", &mut source, 4096, Vec::new(alloc))?;
-        assert_eq!(rt; found.status, Status::Done);
-        assert!(rt; found.written.as_slice().ends_with(want), "{rounds} rounds");
-    }
-    for (size, want) in [
-        (
-            4096,
-            b"result: * -> * as recorded\ngames: 1, unreadable: 0, changed: 0, undecided: 1\n".as_slice(),
-        ),
-        (
-            4097,
-            b"game 1\nunreadable: tag value over 4096 bytes\ngames: 1, unreadable: 1, changed: 0, undecided: 0\n".as_slice(),
-        ),
-    ] {
-        let mut text = b"[Event \"".to_vec(alloc)?;
-        text.resize(8 + size, b'x')?;
-        text.extend_from_slice(b"\"]\n*")?;
-        let mut source = Bytes::new(text);
-        let found = run_over(&rt, alloc, "adjudicate", &mut source, 4096, Vec::new(alloc))?;
-        assert_eq!(rt; found.status, Status::Done);
-        assert!(rt; found.written.as_slice().ends_with(want), "{size} bytes");
-    }
-    Ok(())
-}

@@ -24,12 +24,13 @@ pub const LONE: [Row; 11] = [
 ];
 
 /// Enough men against a bare king.
-pub const BARE: [Row; 11] = [
+pub const BARE: [Row; 12] = [
     ("4k3/8/8/8/8/8/8/4K3 w - -", Dead),
     // Two knights force no mate, but there is one.
     ("8/8/8/4k3/8/8/8/4KNN1 w - -", OnlyWhite),
     ("8/8/8/4k3/8/8/8/4KNB1 w - -", OnlyWhite),
     ("8/8/8/4k3/8/8/8/4K2R w - -", OnlyWhite),
+    ("8/8/8/4k3/8/8/8/4KR2 w - -", OnlyWhite),
     ("8/8/8/4k3/8/8/8/3QK3 w - -", OnlyWhite),
     ("3rk3/8/8/8/8/4K3/8/8 w - -", OnlyBlack),
     ("3qk3/8/8/8/8/4K3/8/8 w - -", OnlyBlack),

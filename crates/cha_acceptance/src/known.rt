@@ -4,10 +4,9 @@
 //! let each man go wherever it could go alone, past all men that may ever move; so they know nothing of tempo, pins and captures
 //! that would answer a check, and a few sides that never mate are left undecided.
 
-use crate::running::run_over;
+use crate::running::run_on;
 use crate::{bishops, ends, knights, pawns, walls, walls_men};
 use adjudicate::Status;
-use cha_outside::Bytes;
 use std::alloc::Global;
 use std::test::Fail;
 
@@ -57,11 +56,11 @@ pub const TABLES: [(&str, &[Row]); 15] = [
 ];
 
 /// The positions of a table, one on each line.
-pub fn lines_of(alloc: Global, rows: &[Row]) -> Result<Vec<u8>, Fail> {
-    let mut lines = Vec::new(alloc);
+pub fn lines_of(alloc: Global, rows: &[Row]) -> Result<String, Fail> {
+    let mut lines = String::new(alloc);
     for (fen, _) in rows {
-        lines.extend_from_slice(fen.as_bytes())?;
-        lines.push(b'\n')?;
+        lines.push_str(fen)?;
+        lines.push('\n')?;
     }
     Ok(lines)
 }
@@ -122,15 +121,10 @@ fn report_of(alloc: Global, rows: &[Row]) -> Result<String, Fail> {
 fn positions_have_their_known_verdicts(rt: HostRuntime) -> Result<(), Fail> {
     let alloc = rt.alloc();
     for (theme, rows) in TABLES {
-        let mut source = Bytes::new(lines_of(alloc, rows)?);
-        let found = run_over(&rt, alloc, "position", &mut source, 65536, Vec::new(alloc))?;
+        let found = run_on(&rt, alloc, "position", &lines_of(alloc, rows)?)?;
         let want = report_of(alloc, rows)?;
         assert_eq!(rt; found.status, Status::Done, "{theme}");
-        assert_eq!(rt;
-            str::from_utf8(&found.written),
-            Ok(want.as_str()),
-            "{theme}"
-        );
+        assert_eq!(rt; found.text(), want.as_str(), "{theme}");
     }
     Ok(())
 }

@@ -1,7 +1,8 @@
 //! Whole runs over sources and sinks in memory, compared with known outputs.
 //!
-//! `running` makes one run. `positions`, `games`, `faults`, `printed` and `checks` have tables of whole outputs; `known` goes
-//! through the tables of positions with known verdicts: `walls`, `walls_men`, `bishops`, `knights`, `pawns` and `ends`.
+//! `running` makes one run. `tables` goes through tables of whole outputs: `positions`, `games`, `printed` and `checks`.
+//! `faults` has sources and sinks that fail. `known` goes through the tables of positions with known verdicts: `walls`,
+//! `walls_men`, `bishops`, `knights`, `pawns` and `ends`; `printed` checks what is printed of them.
 #![tactic(auto)]
 
 #[cfg(test)]
@@ -26,6 +27,8 @@ mod positions;
 mod printed;
 #[cfg(test)]
 mod running;
+#[cfg(test)]
+mod tables;
 #[cfg(test)]
 mod walls;
 #[cfg(test)]

@@ -1,9 +1,9 @@
 //! Certificates as `--certs` prints them.
 
 use crate::known::{TABLES, lines_of};
-use crate::running::run_over;
+use crate::running::run_on;
+use crate::tables::Row;
 use adjudicate::Status;
-use cha_outside::Bytes;
 use std::alloc::Global;
 use std::test::Fail;
 
@@ -97,52 +97,26 @@ status: unclear
 positions: 1, refused: 0, dead: 0, undecided: 1
 ";
 
-/// Words and input with the whole output.
-const ROWS: [(&str, &str, &str); 7] = [
+/// Games with the certificates of sides that cannot mate.
+pub const GAMES: [Row; 2] = [
+    ("[FEN \"4k3/8/8/8/8/8/8/4K3 w - -\"]\n*", BARE_KINGS),
+    ("", "games: 0, unreadable: 0, changed: 0, undecided: 0\n"),
+];
+
+/// Positions with the certificates of sides that cannot mate.
+pub const POSITIONS: [Row; 5] = [
+    ("4k3/7B/8/p1p1p1p1/P1P1P1P1/8/8/4K3 w - -", BISHOP_BEYOND),
+    ("8/8/8/4k3/8/8/8/3QK3 w - -", BARE_BLACK),
     (
-        "adjudicate --certs",
-        "[FEN \"4k3/8/8/8/8/8/8/4K3 w - -\"]\n*",
-        BARE_KINGS,
-    ),
-    (
-        "position --certs",
-        "4k3/7B/8/p1p1p1p1/P1P1P1P1/8/8/4K3 w - -",
-        BISHOP_BEYOND,
-    ),
-    ("position --certs", "8/8/8/4k3/8/8/8/3QK3 w - -", BARE_BLACK),
-    (
-        "position --certs",
         "6rk/8/7K/4N3/8/8/8/8 w - -",
         "position 1\nfen: 6rk/8/7K/4N3/8/8/8/8 w - -\nwhite: winnable in 1: e5f7\nblack: skipped\nstatus: live\npositions: 1, refused: 0, dead: 0, undecided: 0\n",
     ),
     (
-        "position --certs",
         "hello",
         "position 1\nrefused: shape\npositions: 1, refused: 1, dead: 0, undecided: 0\n",
     ),
-    (
-        "position --certs",
-        "",
-        "positions: 0, refused: 0, dead: 0, undecided: 0\n",
-    ),
-    (
-        "adjudicate --certs",
-        "",
-        "games: 0, unreadable: 0, changed: 0, undecided: 0\n",
-    ),
+    ("", "positions: 0, refused: 0, dead: 0, undecided: 0\n"),
 ];
-
-#[test]
-fn certificates_follow_the_lines_of_unwinnable_sides(rt: HostRuntime) -> Result<(), Fail> {
-    let alloc = rt.alloc();
-    for (words, input, want) in ROWS {
-        let mut source = Bytes::new(input.as_bytes().to_vec(alloc)?);
-        let found = run_over(&rt, alloc, words, &mut source, 4096, Vec::new(alloc))?;
-        assert_eq!(rt; found.status, Status::Done, "{words} {input}");
-        assert_eq!(rt; str::from_utf8(&found.written), Ok(want));
-    }
-    Ok(())
-}
 
 /// The certificates in a report, in order.
 fn certificates_in(alloc: Global, report: &str) -> Result<Vec<String>, Fail> {
@@ -164,41 +138,29 @@ fn certificates_in(alloc: Global, report: &str) -> Result<Vec<String>, Fail> {
     Ok(certificates)
 }
 
+/// The line on a certificate that is accepted, by its winner.
+fn line_on(certificate: &str) -> &'static str {
+    if certificate.contains("\nwinner w\n") {
+        "accepted w\n"
+    } else {
+        "accepted b\n"
+    }
+}
+
 #[test]
 fn printed_certificates_are_accepted(rt: HostRuntime) -> Result<(), Fail> {
     let alloc = rt.alloc();
     for (theme, rows) in TABLES {
-        let mut source = Bytes::new(lines_of(alloc, rows)?);
-        let printed = run_over(
-            &rt,
-            alloc,
-            "position --certs",
-            &mut source,
-            1_000_000,
-            Vec::new(alloc),
-        )?;
-        let report = str::from_utf8(&printed.written).unwrap_or("");
+        let lines = lines_of(alloc, rows)?;
+        let printed = run_on(&rt, alloc, "position --certs", &lines)?;
+        let report = printed.text();
         let certificates = certificates_in(alloc, report)?;
-        assert_eq!(rt;
-            certificates.len(),
-            report.matches(": unwinnable\n").count(),
-            "{theme}"
-        );
+        let sides = report.matches(": unwinnable\n").count();
+        assert_eq!(rt; certificates.len(), sides, "{theme}");
         for certificate in &certificates {
-            let winner = if certificate.contains("\nwinner w\n") {
-                "w"
-            } else {
-                "b"
-            };
-            let want = format!(in alloc; "accepted {winner}\n")?;
-            let mut source = Bytes::new(certificate.as_bytes().to_vec(alloc)?);
-            let found = run_over(&rt, alloc, "check", &mut source, 4096, Vec::new(alloc))?;
+            let found = run_on(&rt, alloc, "check", certificate)?;
             assert_eq!(rt; found.status, Status::Done, "{certificate}");
-            assert_eq!(rt;
-                str::from_utf8(&found.written),
-                Ok(want.as_str()),
-                "{certificate}"
-            );
+            assert_eq!(rt; found.text(), line_on(certificate), "{certificate}");
         }
     }
     Ok(())

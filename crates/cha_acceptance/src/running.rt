@@ -1,7 +1,7 @@
 //! One run over bytes in memory.
 
 use adjudicate::{OpenGate, Status, run};
-use cha_outside::{Kept, Sink, Source};
+use cha_outside::{Bytes, Kept, Source};
 use std::alloc::Global;
 use std::sync::Wait;
 use std::test::Fail;
@@ -12,6 +12,13 @@ use std::thread::Threads;
 pub struct Ran {
     pub status: Status,
     pub written: Vec<u8>,
+}
+
+impl Ran {
+    /// What the sink took, which is ASCII.
+    pub fn text(&self) -> &str {
+        str::from_utf8(&self.written).unwrap_or("")
+    }
 }
 
 /// The words of a line, between single spaces; none of an empty one.
@@ -26,7 +33,7 @@ pub fn words_of(alloc: Global, line: &str) -> Result<Vec<String>, Fail> {
     Ok(words)
 }
 
-/// A run over a source and a sink with this room, which fails at the numbered writes.
+/// A run over a source, and a sink with this room that fails at the numbered writes.
 pub fn run_over<R: Threads + Wait + Sync, S: Source>(
     rt: &R,
     alloc: Global,
@@ -40,4 +47,15 @@ pub fn run_over<R: Threads + Wait + Sync, S: Source>(
     let status = run(rt, alloc, words.as_slice(), source, &mut sink, &OpenGate);
     let written = sink.bytes().to_vec(alloc)?;
     Ok(Ran { status, written })
+}
+
+/// A run over this text, where nothing fails and there is room.
+pub fn run_on<R: Threads + Wait + Sync>(
+    rt: &R,
+    alloc: Global,
+    line: &str,
+    input: &str,
+) -> Result<Ran, Fail> {
+    let mut source = Bytes::new(input.as_bytes().to_vec(alloc)?);
+    run_over(rt, alloc, line, &mut source, 1_000_000, Vec::new(alloc))
 }

@@ -22,7 +22,7 @@ use std::alloc::Global;
 /// moves ends in a mate by the side (Laws of Chess, Article 5.2.2). The verdict carries a certificate of this, which the
 /// check of certificates has accepted.
 ///
-/// In all other positions it is `Undecided` with depth 2 (this project).
+/// In all other positions it is `Undecided` with depth 2 (this project). The only error is want of memory.
 pub fn decide(alloc: Global, position: &Position, first: Color) -> Result<Decision, NoMemory>
     ensures { IfOk result (λ decision. IsSound position.now first decision) }
 {

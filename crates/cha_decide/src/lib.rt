@@ -8,8 +8,6 @@ mod decided;
 mod deciding;
 mod searching;
 mod sides;
-#[cfg(test)]
-mod tests;
 
 pub use decided::Decision;
 pub use deciding::decide;

@@ -1,15 +1,17 @@
--- The table of rulings, row by row.
-use Rattle.std.proofs.Common.{◌≡◌, ℕ, Bool, true, false, List, refl}
+-- The table of rulings, and the other tables of rulings, row by row.
+use Rattle.std.proofs.Common.{◌≡◌, ℕ, Bool, true, false, List, [], ◌∷◌, map, refl}
 use Rattle.cha_board.specs.declared.men.Color.{Color}
+use Rattle.cha_board.specs.declared.men.Color.TheVariants.{White, Black}
 use Rattle.cha_moves.specs.Step.{Move}
 use Rattle.cha_cert.specs.declared.nodes.Node.{Node}
 use Rattle.cha_moves.specs.declared.ends.Standing.TheVariants.{Mate, Stalemate, Running}
 use Rattle.pgn_games.specs.declared.marks.ResultMark.{ResultMark}
 use Rattle.pgn_games.specs.declared.marks.ResultMark.TheVariants.{WhiteWins, BlackWins, Draw, Unknown}
 use Rattle.flag_report.specs.declared.found.Verdict.{Verdict}
-use Rattle.flag_report.specs.declared.found.Verdict.TheVariants.{Winnable, Unwinnable, Undecided}
+use Rattle.flag_report.specs.declared.found.Verdict.TheVariants.{Winnable, Unwinnable, Undecided, Skipped}
 use Rattle.flag_report.specs.declared.rulings.Cause.TheVariants.{Mate511, Stalemate521, Dead522, Flag69, Recorded, RecordedUndecided}
-use Rattle.flag_report.specs.Rulings.{win_of, judged, winner_ruling_of, running_ruling_of, ruling_of, is_changed}
+use Rattle.flag_report.specs.declared.rulings.Judgment.{Judgment}
+use Rattle.flag_report.specs.Rulings.{win_of, judged, winner_ruling_of, running_ruling_of, ruling_of, first_of, is_changed}
 
 -- a mate, whatever was recorded and found
 mated : (winner : Color) (recorded : ResultMark) (forfeit : Bool) (white black : Verdict) → ruling_of (Mate winner) recorded forfeit white black ≡ judged (win_of winner) Mate511
@@ -21,50 +23,78 @@ stalemated : (recorded : ResultMark) (forfeit : Bool) (white black : Verdict) �
 unfolding ruling_of
 stalemated recorded forfeit white black = refl
 
--- a dead position, whatever was recorded
-dead : (recorded : ResultMark) (forfeit : Bool) (white black : List Node) → ruling_of Running recorded forfeit (Unwinnable white) (Unwinnable black) ≡ judged Draw Dead522
-unfolding ruling_of running_ruling_of
-dead recorded forfeit white black = refl
+-- each kind of verdict: can mate, cannot mate, not shown, not examined
+abbrev each_verdict : List Move → List Node → ℕ → List Verdict
+each_verdict moves cert depth = Winnable moves ∷ Unwinnable cert ∷ Undecided depth ∷ Skipped ∷ []
 
--- Black's flag fell, and White cannot mate
-black_flag : (moves : List Move) (cert : List Node) → ruling_of Running WhiteWins true (Unwinnable cert) (Winnable moves) ≡ judged Draw Flag69
+-- the rulings where the game goes on: a row for each verdict on White, and in it one for each verdict on Black
+abbrev rulings : ResultMark → Bool → List Verdict → List (List Judgment)
+rulings recorded forfeit verdicts = map (λ white. map (λ black. ruling_of Running recorded forfeit white black) verdicts) verdicts
+
+-- a dead position, a draw by the flag, a recorded result, and a recorded winner of whom nothing was shown
+abbrev d : Judgment
+d = judged Draw Dead522
+
+abbrev f : Judgment
+f = judged Draw Flag69
+
+abbrev r : ResultMark → Judgment
+r recorded = judged recorded Recorded
+
+abbrev u : ResultMark → Judgment
+u recorded = judged recorded RecordedUndecided
+
+-- White won, as where Black resigned
+white_won : (moves : List Move) (cert : List Node) (depth : ℕ) → let w = WhiteWins in
+    rulings w false (each_verdict moves cert depth)
+    ≡ ((r w ∷ r w ∷ r w ∷ r w ∷ []) ∷ (r w ∷ d ∷ r w ∷ r w ∷ []) ∷ (u w ∷ u w ∷ u w ∷ u w ∷ []) ∷ (r w ∷ r w ∷ r w ∷ r w ∷ []) ∷ [])
 unfolding ruling_of running_ruling_of winner_ruling_of
-black_flag moves cert = refl
+white_won moves cert depth = refl
 
--- White's flag fell, and Black cannot mate
-white_flag : (moves : List Move) (cert : List Node) → ruling_of Running BlackWins true (Winnable moves) (Unwinnable cert) ≡ judged Draw Flag69
+-- White won, and Black's flag fell
+white_won_on_time : (moves : List Move) (cert : List Node) (depth : ℕ) → let w = WhiteWins in
+    rulings w true (each_verdict moves cert depth)
+    ≡ ((r w ∷ r w ∷ r w ∷ r w ∷ []) ∷ (f ∷ d ∷ f ∷ f ∷ []) ∷ (u w ∷ u w ∷ u w ∷ u w ∷ []) ∷ (r w ∷ r w ∷ r w ∷ r w ∷ []) ∷ [])
 unfolding ruling_of running_ruling_of winner_ruling_of
-white_flag moves cert = refl
+white_won_on_time moves cert depth = refl
 
--- the same where no flag fell, as where a player resigned
-resigned : (moves : List Move) (cert : List Node) → ruling_of Running BlackWins false (Winnable moves) (Unwinnable cert) ≡ judged BlackWins Recorded
+-- Black won
+black_won : (moves : List Move) (cert : List Node) (depth : ℕ) → let b = BlackWins in
+    rulings b false (each_verdict moves cert depth)
+    ≡ ((r b ∷ r b ∷ u b ∷ r b ∷ []) ∷ (r b ∷ d ∷ u b ∷ r b ∷ []) ∷ (r b ∷ r b ∷ u b ∷ r b ∷ []) ∷ (r b ∷ r b ∷ u b ∷ r b ∷ []) ∷ [])
 unfolding ruling_of running_ruling_of winner_ruling_of
-resigned moves cert = refl
+black_won moves cert depth = refl
 
--- White's flag fell, and White alone cannot mate
-loser : (moves : List Move) (cert : List Node) → ruling_of Running BlackWins true (Unwinnable cert) (Winnable moves) ≡ judged BlackWins Recorded
+-- Black won, and White's flag fell
+black_won_on_time : (moves : List Move) (cert : List Node) (depth : ℕ) → let b = BlackWins in
+    rulings b true (each_verdict moves cert depth)
+    ≡ ((r b ∷ f ∷ u b ∷ r b ∷ []) ∷ (r b ∷ d ∷ u b ∷ r b ∷ []) ∷ (r b ∷ f ∷ u b ∷ r b ∷ []) ∷ (r b ∷ f ∷ u b ∷ r b ∷ []) ∷ [])
 unfolding ruling_of running_ruling_of winner_ruling_of
-loser moves cert = refl
+black_won_on_time moves cert depth = refl
 
--- nothing was shown about the recorded winner, and about the other side it does not matter
-open_winner : (depth : ℕ) (forfeit : Bool) (cert : List Node) → ruling_of Running BlackWins forfeit (Unwinnable cert) (Undecided depth) ≡ judged BlackWins RecordedUndecided
+-- a draw, as where a site rules so by itself; and no result: a dead position alone changes them, flag or not
+drawn : (forfeit : Bool) (moves : List Move) (cert : List Node) (depth : ℕ) → let x = Draw in
+    rulings x forfeit (each_verdict moves cert depth)
+    ≡ ((r x ∷ r x ∷ r x ∷ r x ∷ []) ∷ (r x ∷ d ∷ r x ∷ r x ∷ []) ∷ (r x ∷ r x ∷ r x ∷ r x ∷ []) ∷ (r x ∷ r x ∷ r x ∷ r x ∷ []) ∷ [])
 unfolding ruling_of running_ruling_of winner_ruling_of
-open_winner depth true cert = refl
-open_winner depth false cert = refl
+drawn forfeit moves cert depth = refl
 
-open_loser : (depth : ℕ) (cert : List Node) → ruling_of Running WhiteWins true (Unwinnable cert) (Undecided depth) ≡ judged Draw Flag69
+without_result : (forfeit : Bool) (moves : List Move) (cert : List Node) (depth : ℕ) → let x = Unknown in
+    rulings x forfeit (each_verdict moves cert depth)
+    ≡ ((r x ∷ r x ∷ r x ∷ r x ∷ []) ∷ (r x ∷ d ∷ r x ∷ r x ∷ []) ∷ (r x ∷ r x ∷ r x ∷ r x ∷ []) ∷ (r x ∷ r x ∷ r x ∷ r x ∷ []) ∷ [])
 unfolding ruling_of running_ruling_of winner_ruling_of
-open_loser depth cert = refl
+without_result forfeit moves cert depth = refl
 
--- a recorded draw on time, as where a site rules so by itself
-drawn : (moves : List Move) (cert : List Node) → ruling_of Running Draw true (Unwinnable cert) (Winnable moves) ≡ judged Draw Recorded
-unfolding ruling_of running_ruling_of
-drawn moves cert = refl
+abbrev each_mark : List ResultMark
+each_mark = WhiteWins ∷ BlackWins ∷ Draw ∷ Unknown ∷ []
 
--- the same result is no change
-unchanged : (mark : ResultMark) → is_changed mark mark ≡ false
+-- a recorded winner is examined first
+firsts : map first_of each_mark ≡ White ∷ Black ∷ White ∷ White ∷ []
+unfolding first_of
+firsts = refl
+
+-- a row for each recorded result: whether each result is another
+changes : map (λ recorded. map (λ mark. is_changed recorded mark) each_mark) each_mark
+    ≡ ((false ∷ true ∷ true ∷ true ∷ []) ∷ (true ∷ false ∷ true ∷ true ∷ []) ∷ (true ∷ true ∷ false ∷ true ∷ []) ∷ (true ∷ true ∷ true ∷ false ∷ []) ∷ [])
 unfolding is_changed
-unchanged WhiteWins = refl
-unchanged BlackWins = refl
-unchanged Draw = refl
-unchanged Unknown = refl
+changes = refl

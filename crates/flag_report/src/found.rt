@@ -13,8 +13,11 @@ pub enum Verdict {
     Winnable(Moves),
     /// No series of legal moves ends in a mate by the side, which this certificate shows.
     Unwinnable(Cert),
-    /// Neither was shown. No list of at most this many legal moves mates.
-    Undecided { depth: u8 },
+    /// Neither was shown.
+    Undecided {
+        /// No list of at most this many legal moves, of both sides together, ends in a mate by the side.
+        depth: u8,
+    },
     /// The side was not examined, since the other side can mate.
     Skipped,
 }

@@ -2,7 +2,8 @@
 //!
 //! `found` has the verdicts on a side, `rulings` the result of a game, `status` the state of a position, `reasons` why an
 //! item cannot be read, `pieces` what all blocks share, `games` and `positions` the blocks, `totals` the last line, and
-//! `checks` the lines on certificates that were checked.
+//! `checks` the lines on certificates that were checked. Each call that gives a text takes memory for it, and its only error
+//! is want of memory.
 #![tactic(auto)]
 
 mod checks;
@@ -13,8 +14,6 @@ mod positions;
 mod reasons;
 mod rulings;
 mod status;
-#[cfg(test)]
-mod tests;
 mod totals;
 
 pub use checks::{accepted_line, failing_line, misfit_line};

@@ -1,0 +1,161 @@
+//! Inputs with their whole outputs, or with a part of it.
+
+use crate::running::{run_on, run_over};
+use crate::{checks, games, positions, printed};
+use adjudicate::Status;
+use cha_outside::Repeat;
+use std::alloc::Global;
+use std::test::Fail;
+
+/// An input and the whole output.
+pub type Row = (&'static str, &'static str);
+
+/// The tables, each with its theme, the command words and the status of its runs.
+const TABLES: [(&str, &str, Status, &[Row]); 6] = [
+    ("positions", "position", Status::Done, &positions::ROWS),
+    ("games", "adjudicate", Status::Done, &games::ROWS),
+    (
+        "positions with certificates",
+        "position --certs",
+        Status::Done,
+        &printed::POSITIONS,
+    ),
+    (
+        "games with certificates",
+        "adjudicate --certs",
+        Status::Done,
+        &printed::GAMES,
+    ),
+    (
+        "certificates that are accepted",
+        "check",
+        Status::Done,
+        &checks::ACCEPTED,
+    ),
+    (
+        "certificates that are refused",
+        "check",
+        Status::NotAccepted,
+        &checks::REFUSED,
+    ),
+];
+
+#[test]
+fn inputs_have_their_outputs(rt: HostRuntime) -> Result<(), Fail> {
+    for (theme, words, status, rows) in TABLES {
+        for (input, output) in rows {
+            let found = run_on(&rt, rt.alloc(), words, input)?;
+            assert_eq!(rt; found.text(), *output, "{theme}");
+            assert_eq!(rt; found.status, status, "{theme}");
+        }
+    }
+    Ok(())
+}
+
+/// An input that is made of a piece, repeated between two texts, and a part of its output.
+struct Long {
+    words: &'static str,
+    before: &'static str,
+    piece: &'static str,
+    times: u32,
+    after: &'static str,
+    part: &'static str,
+}
+
+/// Lines of a position may have 4,096 bytes, games 12,000 moves, and tag values 4,096 bytes. The last input begins with a byte
+/// order mark and castles with zeros.
+const LONG: [Long; 7] = [
+    Long {
+        words: "position",
+        before: "4k3/8/8/8/8/8/8/4K3 w - -",
+        piece: " ",
+        times: 4071,
+        after: "",
+        part: "positions: 1, refused: 0, dead: 1, undecided: 0\n",
+    },
+    Long {
+        words: "position",
+        before: "4k3/8/8/8/8/8/8/4K3 w - -",
+        piece: " ",
+        times: 4072,
+        after: "",
+        part: "position 1\nrefused: shape\npositions: 1, refused: 1, dead: 0, undecided: 0\n",
+    },
+    Long {
+        words: "adjudicate",
+        before: "",
+        piece: "Nf3 Nf6 Ng1 Ng8 ",
+        times: 3000,
+        after: "*",
+        part: "games: 1, unreadable: 0, changed: 0, undecided: 1\n",
+    },
+    Long {
+        words: "adjudicate",
+        before: "",
+        piece: "Nf3 Nf6 Ng1 Ng8 ",
+        times: 3000,
+        after: "Nf3 *",
+        part: "game 1\nunreadable: more than 12000 moves\ngames: 1, unreadable: 1, changed: 0, undecided: 0\n",
+    },
+    Long {
+        words: "adjudicate",
+        before: "[Event \"",
+        piece: "x",
+        times: 4096,
+        after: "\"]\n*",
+        part: "result: * -> * as recorded\ngames: 1, unreadable: 0, changed: 0, undecided: 1\n",
+    },
+    Long {
+        words: "adjudicate",
+        before: "[Event \"",
+        piece: "x",
+        times: 4097,
+        after: "\"]\n*",
+        part: "game 1\nunreadable: tag value over 4096 bytes\ngames: 1, unreadable: 1, changed: 0, undecided: 0\n",
+    },
+    Long {
+        words: "adjudicate",
+        before: "\u{feff}%x\r\n1. e4 ; note [\r\ne5 2. Nf3 Nc6 3. Bc4 Bc5 4. 0-0!? Nf6 *",
+        piece: "",
+        times: 0,
+        after: "",
+        part: "game 1\nfen: r1bqk2r/pppp1ppp/2n2n2/2b1p3/2B1P3/5N2/PPPP1PPP/RNBQ1RK1 w kq -\n",
+    },
+];
+
+/// A long input.
+fn input_of(alloc: Global, long: &Long) -> Result<String, Fail> {
+    let mut text = String::from_str(alloc, long.before)?;
+    for _ in 0..long.times {
+        text.push_str(long.piece)?;
+    }
+    text.push_str(long.after)?;
+    Ok(text)
+}
+
+#[test]
+fn limits_are_kept(rt: HostRuntime) -> Result<(), Fail> {
+    for long in &LONG {
+        let input = input_of(rt.alloc(), long)?;
+        let found = run_on(&rt, rt.alloc(), long.words, &input)?;
+        assert!(rt; found.text().contains(long.part), "{}", long.part);
+        assert_eq!(rt; found.status, Status::Done);
+    }
+    Ok(())
+}
+
+#[test]
+fn inputs_have_at_most_256_mebibytes(rt: HostRuntime) -> Result<(), Fail> {
+    let none = "positions: 0, refused: 0, dead: 0, undecided: 0\n";
+    for (size, status, output) in [
+        (268_435_456, Status::Done, none),
+        (268_435_457, Status::TooLong, ""),
+    ] {
+        let alloc = rt.alloc();
+        let mut source = Repeat::new(b' ', size);
+        let found = run_over(&rt, alloc, "position", &mut source, 4096, Vec::new(alloc))?;
+        assert_eq!(rt; found.status, status);
+        assert_eq!(rt; found.text(), output);
+    }
+    Ok(())
+}

@@ -6,7 +6,7 @@ ghost use Rattle.cha_outside.specs.Gathering.{Took};
 ghost use Rattle.cert_text.specs.Texts.{cert_of};
 ghost use Rattle.adjudicate.specs.declared.orders.Order.TheVariants.{CheckCert};
 ghost use Rattle.adjudicate.specs.Checks.{IsAnswerTo, IsTextOf, IsValidAtFirst, IsUnwinnableAtFirst, Passes};
-ghost use Rattle.adjudicate.specs.Report.{IsReport, HasBegun, HasWholeBlocks};
+ghost use Rattle.adjudicate.specs.Report.{IsReport, HasBegun};
 ghost use Rattle.adjudicate.specs.Runs.{Grew, Reports, Refuses, Begins, BeginsWhole};
 
 use crate::writing::{Reported, put};

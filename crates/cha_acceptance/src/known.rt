@@ -36,6 +36,10 @@ pub type Row = (&'static str, Known);
 
 const OPEN: &str = "undecided, depth 2";
 
+const NEVER: &str = "unwinnable";
+
+const MATES: &str = "winnable in ";
+
 /// The tables, each with its theme.
 pub const TABLES: [(&str, &[Row]); 15] = [
     ("walls of pawns", &walls::PAWNS),
@@ -65,31 +69,21 @@ pub fn lines_of(alloc: Global, rows: &[Row]) -> Result<String, Fail> {
     Ok(lines)
 }
 
-/// The last three lines of a position's block.
-fn findings_of(alloc: Global, known: Known) -> Result<String, Fail> {
-    let text = match known {
-        Known::Dead => format!(in alloc; "white: unwinnable\nblack: unwinnable\nstatus: dead\n")?,
-        Known::Open => format!(in alloc; "white: {OPEN}\nblack: {OPEN}\nstatus: unclear\n")?,
-        Known::OnlyWhite => format!(in alloc;
-            "white: {OPEN}\nblack: unwinnable\nstatus: unclear\n"
-        )?,
-        Known::OnlyBlack => format!(in alloc;
-            "white: unwinnable\nblack: {OPEN}\nstatus: unclear\n"
-        )?,
-        Known::White(line) => format!(in alloc;
-            "white: winnable in {line}\nblack: skipped\nstatus: live\n"
-        )?,
-        Known::Black(line) => format!(in alloc;
-            "white: {OPEN}\nblack: winnable in {line}\nstatus: live\n"
-        )?,
-        Known::BareWhite(line) => format!(in alloc;
-            "white: unwinnable\nblack: winnable in {line}\nstatus: live\n"
-        )?,
-        Known::Ended(white, black, status) => format!(in alloc;
-            "white: {white}\nblack: {black}\nstatus: {status}\n"
-        )?,
-    };
-    Ok(text)
+/// What a block says of a side: a verdict, and the moves behind it.
+type Said = (&'static str, &'static str);
+
+/// What a block says of White, of Black, and of the status.
+fn findings_of(known: Known) -> (Said, Said, &'static str) {
+    match known {
+        Known::Dead => ((NEVER, ""), (NEVER, ""), "dead"),
+        Known::Open => ((OPEN, ""), (OPEN, ""), "unclear"),
+        Known::OnlyWhite => ((OPEN, ""), (NEVER, ""), "unclear"),
+        Known::OnlyBlack => ((NEVER, ""), (OPEN, ""), "unclear"),
+        Known::White(line) => ((MATES, line), ("skipped", ""), "live"),
+        Known::Black(line) => ((OPEN, ""), (MATES, line), "live"),
+        Known::BareWhite(line) => ((NEVER, ""), (MATES, line), "live"),
+        Known::Ended(white, black, status) => ((white, ""), (black, ""), status),
+    }
 }
 
 /// The report that a table asks for.
@@ -99,16 +93,14 @@ fn report_of(alloc: Global, rows: &[Row]) -> Result<String, Fail> {
     let mut dead = 0u64;
     let mut undecided = 0u64;
     for (fen, known) in rows {
+        let ((white, white_moves), (black, black_moves), status) = findings_of(*known);
         number = number.wrapping_add(1);
-        let findings = findings_of(alloc, *known)?;
-        let block = format!(in alloc; "position {number}\nfen: {fen}\n{findings}")?;
+        dead = dead.wrapping_add(u64::from(status == "dead"));
+        undecided = undecided.wrapping_add(u64::from(white == OPEN || black == OPEN));
+        let block = format!(in alloc;
+            "position {number}\nfen: {fen}\nwhite: {white}{white_moves}\nblack: {black}{black_moves}\nstatus: {status}\n"
+        )?;
         report.push_str(&block)?;
-        if findings.contains("status: dead") {
-            dead = dead.wrapping_add(1);
-        }
-        if findings.contains(OPEN) {
-            undecided = undecided.wrapping_add(1);
-        }
     }
     let summary = format!(in alloc;
         "positions: {number}, refused: 0, dead: {dead}, undecided: {undecided}\n"

@@ -1,6 +1,6 @@
 //! The lines on a certificate that was read and checked.
 
-ghost use Rattle.std.specs.Prelude.{◌≡◌, ◌≢◌, ◌++◌, OnOk, IfOk, codes};
+ghost use Rattle.std.specs.Prelude.{◌≡◌, ◌≢◌, ◌++◌, OnOk, IfOk};
 ghost use Rattle.cert_text.specs.declared.faults.CertKind.TheVariants as kinds;
 ghost use Rattle.flag_report.specs.Checks.{accepted_text, kind_text, misfit_text, failing_text};
 

@@ -144,18 +144,32 @@ fn limits_are_kept(rt: HostRuntime) -> Result<(), Fail> {
     Ok(())
 }
 
+/// Words, so many spaces, the status, and the output.
+const SPACES: [(&str, u64, Status, &str); 4] = [
+    (
+        "adjudicate",
+        268_435_456,
+        Status::Done,
+        "games: 0, unreadable: 0, changed: 0, undecided: 0\n",
+    ),
+    ("adjudicate", 268_435_457, Status::TooLong, ""),
+    (
+        "position",
+        268_435_456,
+        Status::Done,
+        "positions: 0, refused: 0, dead: 0, undecided: 0\n",
+    ),
+    ("position", 268_435_457, Status::TooLong, ""),
+];
+
 #[test]
 fn inputs_have_at_most_256_mebibytes(rt: HostRuntime) -> Result<(), Fail> {
-    let none = "positions: 0, refused: 0, dead: 0, undecided: 0\n";
-    for (size, status, output) in [
-        (268_435_456, Status::Done, none),
-        (268_435_457, Status::TooLong, ""),
-    ] {
+    for (words, size, status, output) in SPACES {
         let alloc = rt.alloc();
         let mut source = Repeat::new(b' ', size);
-        let found = run_over(&rt, alloc, "position", &mut source, 4096, Vec::new(alloc))?;
-        assert_eq!(rt; found.status, status);
-        assert_eq!(rt; found.text(), output);
+        let found = run_over(&rt, alloc, words, &mut source, 4096, Vec::new(alloc))?;
+        assert_eq!(rt; found.status, status, "{words}");
+        assert_eq!(rt; found.text(), output, "{words}");
     }
     Ok(())
 }

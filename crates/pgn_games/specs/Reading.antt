@@ -1,5 +1,5 @@
 -- What a reader of games has taken and given.
-use Rattle.std.specs.Prelude.{◌≡◌, ℕ, ◌≤◌, Bool, true, false, List, [], ◌++◌, drop, length, Option, Some, None, Result, Ok, Err}
+use Rattle.std.specs.Prelude.{◌≡◌, ℕ, ◌≤◌, Bool, true, false, List, [], drop, length, Option, Some, None, Result, Ok, Err}
 use Rattle.cha_outside.specs.declared.gathering.TheConstants.{MOST_BYTES}
 use Rattle.cha_outside.specs.declared.gathering.ReadEnd.{ReadEnd}
 use Rattle.cha_outside.specs.Gathering.{Gathers}

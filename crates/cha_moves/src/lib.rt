@@ -1,9 +1,9 @@
 //! The moves of chess: which are legal, the position after each, and how a position stands (Laws of Chess, Articles 3 and 5).
 //!
 //! `step` has the move, `sides` what is a side's on the board, `goes` how men go, `ways` where they may go, `makes` what
-//! a move changes, `safety` which moves leave the king unattacked, `list` the legal moves and the position after one,
-//! `some` whether there is one, `ends` how a position stands, `lines` the lines that end in mate, and `text`
-//! the move's text.
+//! a move changes, `safety` which moves leave the king unattacked, `shields` what checks it and which men shield it,
+//! `legally` which ways are legal, `list` the legal moves and the position after one, `some` whether there is one, `ends`
+//! how a position stands, `lines` the lines that end in mate, and `text` the move's text.
 #![tactic(auto)]
 
 mod ends;

@@ -1,6 +1,6 @@
 //! A whole input of games.
 
-ghost use Rattle.std.specs.Prelude.{◌≡◌, ◌≢◌, ◌≤◌, ◌<◌, ℕ, List, length, take, Some};
+ghost use Rattle.std.specs.Prelude.{◌≡◌, ◌≢◌, ◌≤◌, ◌<◌, ◌+◌, ℕ, List, length, take, Some};
 ghost use Rattle.std.specs.Io.KnownBytes.{Appends};
 ghost use Rattle.cha_outside.specs.Faults.{Rose};
 ghost use Rattle.cha_outside.specs.Gathering.{Took};
@@ -29,8 +29,8 @@ pub fn adjudicate_games<S: Source, K: Sink>(
     ensures never_refused { result ≢ Reported.Refused }
     ensures read_fault { result ≡ Reported.SourceFailed → Rose (S.faults source.old) (S.faults source.new) }
     ensures write_fault { result ≡ Reported.SinkFailed → Rose (K.faults sink.old) (K.faults sink.new) }
-    ensures too_long { result ≡ Reported.TooLong → Took (S.left source.old) (S.left source.new) (λ taken. MOST_BYTES < length taken) }
-    ensures not_too_long { result ≢ Reported.TooLong → result ≢ Reported.NoMemory → Took (S.left source.old) (S.left source.new) (λ taken. length taken ≤ MOST_BYTES) }
+    ensures too_long { result ≡ Reported.TooLong → Took (S.left source.old) (S.left source.new) (λ taken. (MOST_BYTES < length taken) × (length taken ≤ MOST_BYTES + 4096)) }
+    ensures not_too_long { result ≢ Reported.TooLong → Took (S.left source.old) (S.left source.new) (λ taken. length taken ≤ MOST_BYTES) }
     ensures never_too_long { (bytes : List ℕ) → S.left source.old ≡ Some bytes → length bytes ≤ MOST_BYTES → result ≢ Reported.TooLong }
     ensures source_later { S.faults source.old ≤ S.faults source.new }
     ensures sink_later { K.faults sink.old ≤ K.faults sink.new }

@@ -1,6 +1,6 @@
 //! The one call that the program makes.
 
-ghost use Rattle.std.specs.Prelude.{◌≡◌, ◌≢◌, ◌≤◌, ◌<◌, ◌↔◌, ◌⊎◌, ℕ, List, length, IsNone, IsSome, IfSome, Some};
+ghost use Rattle.std.specs.Prelude.{◌≡◌, ◌≢◌, ◌≤◌, ◌<◌, ◌+◌, ◌↔◌, ◌⊎◌, ℕ, List, length, IsNone, IsSome, IfSome, Some};
 ghost use Rattle.cha_outside.specs.Faults.{Rose};
 ghost use Rattle.cha_outside.specs.Gathering.{Took};
 ghost use Rattle.adjudicate.specs.Words.{order};
@@ -45,9 +45,9 @@ pub fn run<R: Threads + Wait + Sync, S: Source, K: Sink, G: Gate + Sync>(
     ensures read_fault { result ≡ Status.ReadFault → Rose (S.faults source.old) (S.faults source.new) }
     ensures write_fault { result ≡ Status.WriteFault → Rose (K.faults sink.old) (K.faults sink.new) }
 
-    // More bytes were taken than an input may have; and otherwise no more, unless memory was refused.
-    ensures too_long { result ≡ Status.TooLong → Took (S.left source.old) (S.left source.new) (λ taken. MOST_BYTES < length taken) }
-    ensures not_too_long { result ≢ Status.TooLong → result ≢ Status.NoMemory → Took (S.left source.old) (S.left source.new) (λ taken. length taken ≤ MOST_BYTES) }
+    // More bytes were taken than an input may have, by at most 4,096; and otherwise no more than it may have.
+    ensures too_long { result ≡ Status.TooLong → Took (S.left source.old) (S.left source.new) (λ taken. (MOST_BYTES < length taken) × (length taken ≤ MOST_BYTES + 4096)) }
+    ensures not_too_long { result ≢ Status.TooLong → Took (S.left source.old) (S.left source.new) (λ taken. length taken ≤ MOST_BYTES) }
 
     // With words of the language, an input that is not too long and nothing that fails, the report is written or memory
     // was refused.

@@ -68,7 +68,7 @@ impl Reader {
     ///
     /// The first call reads the whole source, and the others read nothing. The games given are the first games of the
     /// bytes taken, in order. `ReadFault` comes only where the source failed in this call, `TooLong` where it gave more
-    /// than 268,435,456 bytes, and `NoMemory` where the allocator refused memory. The time of all calls together grows
+    /// than 268,435,456 bytes (at most 4,096 more are taken), and `NoMemory` where the allocator refused memory. The time of all calls together grows
     /// as the number of bytes.
     pub fn next<S: Source>(&mut self, source: &mut S) -> Result<Option<Game>, ReadEnd>
         requires { self.old.failed ≡ false }
@@ -82,6 +82,7 @@ impl Reader {
         ensures end { self.old.ended ≡ false → self.new.ended ≡ true → IsAtEnd (S.left source.new) }
         ensures read_fault { result ≡ Err ReadEnd.ReadFault → Rose (S.faults source.old) (S.faults source.new) }
         ensures too_long { (result ≡ Err ReadEnd.TooLong) ↔ (MOST_BYTES < length self.new.taken) }
+        ensures few { length self.new.taken ≤ MOST_BYTES + 4096 }
         ensures failed { self.new.failed ≡ is_err result }
         ensures later { S.faults source.old ≤ S.faults source.new }
     {
@@ -104,6 +105,7 @@ impl Reader {
         ensures end { self.new.ended ≡ true → IsAtEnd (S.left source.new) }
         ensures read_fault { result ≡ Err ReadEnd.ReadFault → Rose (S.faults source.old) (S.faults source.new) }
         ensures too_long { (result ≡ Err ReadEnd.TooLong) ↔ (MOST_BYTES < length self.new.taken) }
+        ensures few { length self.new.taken ≤ MOST_BYTES + 4096 }
         ensures failed { self.new.failed ≡ is_err result }
         ensures later { S.faults source.old ≤ S.faults source.new }
     {

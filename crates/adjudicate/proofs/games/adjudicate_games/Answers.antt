@@ -71,7 +71,7 @@ returns-in-Failed-clause-cut g c _ =
     cut_game _ _ _ _ _ _ _ _ _ c.in-Some.game c.in-Ok-judge_game.judged c.in-Failed.field-0 at found c.in-Ok-judge_game.ensures (rw c.items.ensures at c.in-Failed.ensures.bytes)
 
 pub returns-in-Failed-clause-not_too_long : goal.returns-in-Failed-clause-not_too_long
-returns-in-Failed-clause-not_too_long g c _ _ =
+returns-in-Failed-clause-not_too_long g c _ =
     let at = retook _ _ _ _ _ _ _ _ _ _ c.loop-found.invariant.at c.next.ensures.bytes c.next.ensures.first in
     let few = not_more _ 268435456 (λ long. let e = sym c.in-Ok-next.is ∙ c.next.ensures.too_long.1 long in cc) in
     (c.next.new.self.taken, at.consumed, few)

@@ -1,15 +1,15 @@
 -- Where the one king of a side stands.
-use Rattle.std.proofs.Common.{◌≡◌, ℕ, ◌+◌, ◌<◌, ◌≤◌, true, cond, inl, inr, List, length, take, Option, None, arith}
-use Rattle.std.specs.List.{count_by, position_or_len}
-use Rattle.std.proofs.lemmas.Bool.{eqb-true, false_from_ne_true, cases_lt}
+use Rattle.std.proofs.Common.{◌≡◌, ℕ, ◌+◌, ◌<◌, ◌≤◌, true, cond, List, length, take, Option, None, arith}
+use Rattle.std.specs.List.{count_by}
+use Rattle.std.proofs.lemmas.Bool.{eqb-true, false_from_ne_true}
 use Rattle.std.proofs.lemmas.List.{take-take}
-use Rattle.std.proofs.lemmas.List.Sums.{sum_by-take-le, count_by_more_yes, fails_before_first, passes_at_first}
+use Rattle.std.proofs.lemmas.List.Sums.{sum_by-take-le, count_by_more_yes}
 use Rattle.cha_board.specs.declared.men.Color.{Color}
 use Rattle.cha_board.specs.declared.men.Kind.TheVariants.{King}
 use Rattle.cha_board.specs.declared.men.Man.{Man}
 use Rattle.cha_board.specs.Men.{is_man}
 use Rattle.cha_board.specs.Board.{king_of, has_one_king, man_at}
-use Rattle.cha_board.proofs.Kings.{king_is, some_king}
+use Rattle.cha_board.proofs.Kings.{king_is}
 
 -- how many kings of c stand on the first n squares
 abbrev kings_below : List (Option Man) → Color → ℕ → ℕ
@@ -35,12 +35,3 @@ one_square men c k s one less inside first second =
 pub king_is_one : (men : List (Option Man)) (c : Color) (s : ℕ) → has_one_king men c ≡ true → s < length men → is_man c King (man_at men s) ≡ true → king_of men c ≡ s
 king_is_one men c s one inside here =
     king_is men c s inside (λ k less. false_from_ne_true (is_man c King (man_at men k)) (λ first. one_square men c k s one less inside first here)) here
-
--- the king of a side that has one stands there
-pub king_stands : (men : List (Option Man)) (c : Color) → has_one_king men c ≡ true → is_man c King (man_at men (king_of men c)) ≡ true
-unfolding king_of
-king_stands men c one =
-    elim (cases_lt (position_or_len (is_man c King) men) (length men)) [
-      | inl inside ↦ passes_at_first (is_man c King) men None inside
-      | inr past ↦ absurd (some_king men c one (λ k inside. fails_before_first (is_man c King) men k None (omega arith)))
-    ]

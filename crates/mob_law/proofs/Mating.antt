@@ -15,6 +15,7 @@ use Rattle.cha_moves.proofs.Identity.{other_other, same_color_self, same_color_e
 use Rattle.cha_moves.proofs.Kept.{kings_kept}
 use Rattle.cha_moves.proofs.Made.{may_gives, length-moved, moved_to, moved_from, moved_other}
 use Rattle.cha_moves.proofs.Listed.{listed}
+use Rattle.cha_moves.proofs.KingSquare.{king_stands}
 use Rattle.mob_law.specs.Reach.{Sets, is_fixed, is_open_through}
 use Rattle.mob_law.specs.Threats.{Checks, Covered, Blocked, NextToKing, Attacked, Threat}
 use Rattle.mob_law.proofs.Facts.{Facts, FactsHold}
@@ -23,7 +24,7 @@ use Rattle.mob_law.proofs.Geometry.{near, king_aims, king_aims_from}
 use Rattle.mob_law.proofs.Standing.{all_weaker, empty_not_fixed, open_from, king_on, non_king_on, origin_is_non_king}
 use Rattle.mob_law.proofs.KingSteps.{king_may, step_plain}
 use Rattle.mob_law.proofs.Attackers.{some_attacker, attacks_by, clear_near}
-use Rattle.mob_law.proofs.Kings.{king_is_one, king_stands}
+use Rattle.mob_law.proofs.Kings.{king_is_one}
 
 -- where the two kings stand
 abbrev loser_on : Board → Color → ℕ

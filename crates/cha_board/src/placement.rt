@@ -97,6 +97,8 @@ impl Men {
     }
 
     /// The men once this stands on a square, in place of what stood there.
+    // To copy the sets costs more than to change them.
+    #[inline(always)]
     pub fn put(self, at: Square, found: Option<Man>) -> Men
         ensures { result ≡ slice_set self at found }
     {
@@ -113,6 +115,8 @@ impl Men {
     }
 
     /// The men once nothing stands on a square.
+    // To copy the sets costs more than to change them.
+    #[inline(always)]
     pub fn lifted(&self, at: Square) -> Men
         ensures { result ≡ slice_set self.now at None }
     {

@@ -8,6 +8,7 @@ pub mod Near
 pub mod Filling
 pub mod KingSquare
 pub mod Sureness
+mod Touched
 pub mod WayLaws
 pub mod Arriving
 pub mod Goings

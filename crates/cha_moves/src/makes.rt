@@ -1,13 +1,15 @@
 //! What a move changes: the men, the rights to castle, and the square that a pawn has passed over.
 
-ghost use Rattle.std.specs.Prelude.{◌≡◌, ◌<◌, IsTrue};
+ghost use Rattle.std.specs.Prelude.{◌≡◌, ◌<◌, not, ◌&&◌, IsTrue};
+ghost use Rattle.cha_board.specs.Men.{is_man};
 ghost use Rattle.cha_board.specs.Board.{man_at};
+ghost use Rattle.cha_board.specs.SquareSets.{set_of};
 ghost use Rattle.cha_moves.specs.Moves.{arriving, victim_of, moved, is_en_passant, touches, men_after, rights_after, target_after};
 
 use crate::goes::{castles_long, castles_short, double_steps, goes_en_passant};
 use crate::sides::home;
 use crate::step::Move;
-use cha_board::{Color, Kind, Man, Men, Position, Rights, Square, is_man_of};
+use cha_board::{Color, Kind, Man, Men, Position, Rights, Square, SquareSet, is_man_of};
 
 /// What arrives where this man goes and becomes that.
 fn arrives(man: Option<Man>, promotion: Option<Kind>) -> Option<Man>
@@ -40,42 +42,62 @@ fn victim(position: &Position, s: Square, t: Square) -> u8
 }
 
 /// The men once what stands on one square has gone to another, where it shows as this.
-fn shift(men: Men, from: Square, to: Square, man: Option<Man>) -> Men
-    ensures { result ≡ moved men from to man }
+// To copy the men costs more than to move one.
+#[inline(always)]
+fn shift(men: &Men, from: Square, to: Square, man: Option<Man>) -> Men
+    ensures { result ≡ moved men.now from to man }
 {
-    men.put(from, None).put(to, man)
+    men.lifted(from).put(to, man)
 }
 
 /// The men after a move.
+// To copy the men costs more than to move one.
+#[inline(always)]
 #[tactic(auto, unfolding(crate::specs::Moves::men_after))]
 pub fn men_made(position: &Position, m: Move) -> Men
     ensures { result ≡ men_after position.now m }
 {
     let side = position.side();
     let man = position.man(m.from);
+    let men = position.placement();
     let arrived = arrives(man, m.promotion);
-    let men = shift(*position.placement(), m.from, m.to, arrived);
+    if is_man_of(man, side, Kind::Pawn) && goes_en_passant(position, m.from, m.to) {
+        let passed = Square::at(victim(position, m.from, m.to));
+        return shift(men, m.from, m.to, arrived).put(passed, None);
+    }
     let h = home(side);
     let rook = Some(Man {
         color: side,
         kind: Kind::Rook,
     });
-    if is_man_of(man, side, Kind::Pawn) && goes_en_passant(position, m.from, m.to) {
-        men.put(Square::at(victim(position, m.from, m.to)), None)
-    } else if is_man_of(man, side, Kind::King) && castles_short(position, m.from, m.to) {
-        shift(men, Square::at(h + 3), Square::at(h + 1), rook)
-    } else if is_man_of(man, side, Kind::King) && castles_long(position, m.from, m.to) {
-        shift(men, Square::at(h - 4), Square::at(h - 1), rook)
-    } else {
-        men
+    if is_man_of(man, side, Kind::King) && castles_short(position, m.from, m.to) {
+        let king_gone = shift(men, m.from, m.to, arrived);
+        return shift(&king_gone, Square::at(h + 3), Square::at(h + 1), rook);
     }
+    if is_man_of(man, side, Kind::King) && castles_long(position, m.from, m.to) {
+        let king_gone = shift(men, m.from, m.to, arrived);
+        return shift(&king_gone, Square::at(h - 4), Square::at(h - 1), rook);
+    }
+    shift(men, m.from, m.to, arrived)
 }
 
-/// Whether a move leaves or enters the square of a number.
-fn touches_at(m: Move, at: u8) -> bool
-    ensures { result ≡ touches m at }
+/// The squares that a move leaves and enters.
+#[tactic(auto, using(crate::proofs::Touched::touched_set))]
+fn touched(m: Move) -> SquareSet
+    ensures { result ≡ set_of (touches m) }
 {
-    m.from.index() == at || m.to.index() == at
+    SquareSet::empty().with(m.from).with(m.to)
+}
+
+/// Whether neither of two squares is among those that a move leaves and enters.
+#[tactic(auto, using(crate::proofs::Touched::touched_at))]
+fn keeps(m: Move, king: u8, rook: u8) -> bool
+    requires king { king < 64 }
+    requires rook { rook < 64 }
+    ensures { result ≡ (not (touches m king) && not (touches m rook)) }
+{
+    let touched = touched(m);
+    !touched.has(Square::at(king)) && !touched.has(Square::at(rook))
 }
 
 /// The rights to castle after a move.
@@ -84,11 +106,19 @@ pub fn rights_made(rights: Rights, m: Move) -> Rights
     ensures { result ≡ rights_after rights m }
 {
     Rights {
-        white_king: rights.white_king && !touches_at(m, 4) && !touches_at(m, 7),
-        white_queen: rights.white_queen && !touches_at(m, 4) && !touches_at(m, 0),
-        black_king: rights.black_king && !touches_at(m, 60) && !touches_at(m, 63),
-        black_queen: rights.black_queen && !touches_at(m, 60) && !touches_at(m, 56),
+        white_king: rights.white_king && keeps(m, 4, 7),
+        white_queen: rights.white_queen && keeps(m, 4, 0),
+        black_king: rights.black_king && keeps(m, 60, 63),
+        black_queen: rights.black_queen && keeps(m, 60, 56),
     }
+}
+
+/// Whether a pawn of the side to move stands on a square.
+fn is_own_pawn(position: &Position, at: Square) -> bool
+    ensures { result ≡ is_man position.now.side Kind.Pawn (man_at position.now.men at) }
+{
+    let _at = at.index();
+    position.men(position.side(), Kind::Pawn).has(at)
 }
 
 /// The square that the move has passed over, if it is a double step.
@@ -96,8 +126,7 @@ pub fn rights_made(rights: Rights, m: Move) -> Rights
 pub fn target_made(position: &Position, m: Move) -> Option<Square>
     ensures { result ≡ target_after position.now m }
 {
-    let is_pawn = is_man_of(position.man(m.from), position.side(), Kind::Pawn);
-    if is_pawn && double_steps(position, m.from, m.to) {
+    if is_own_pawn(position, m.from) && double_steps(position, m.from, m.to) {
         Some(Square::at((m.from.index() + m.to.index()) / 2))
     } else {
         None

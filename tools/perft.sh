@@ -9,7 +9,7 @@
 #
 #   depth, lines   the depth, and its lines of that many moves
 #   list-s, list/s the processor seconds of `cha_perft`, and the lines that it counted in lists a second
-#   made-s, made/s the processor seconds of `cha_perft made`, one move less deep, and the moves that it made a second
+#   made-s, made/s the processor seconds of `cha_perft made`, and the moves that it made a second
 #   sf-s, sf/s     the processor seconds of Stockfish, and the lines that it counted in lists a second
 #   list:sf        the first speed over Stockfish's; made:sf the second one
 #
@@ -49,9 +49,9 @@ while IFS=';' read -r fen depth; do
     depth=$((depth + deeper))
     measure listed "$fen" "$depth"
     counts=$output lines=${output##* } list_seconds=$seconds list_speed=$(speed "$(all "$output")" "$seconds")
-    measure made "$fen" "$((depth - 1))"
+    measure made "$fen" "$depth"
     made_seconds=$seconds made_speed=$(speed "$(all "$output")" "$seconds")
-    [ "$output" = "${counts% *}" ] || { echo "$fen: made one by one the lines are $output, from lists $counts" >&2; exit 1; }
+    [ "$output" = "$counts" ] || { echo "$fen: made one by one the lines are $output, from lists $counts" >&2; exit 1; }
     if [ -z "$other" ]; then
         printf '%5d %12d %8.3f %11d %8.3f %11d\n' "$depth" "$lines" "$list_seconds" "$list_speed" "$made_seconds" "$made_speed"
         continue

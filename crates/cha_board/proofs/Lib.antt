@@ -3,6 +3,7 @@ pub mod Sightings
 pub mod Kings
 pub mod Builds
 pub mod SetBits
+mod Shifted
 pub mod Betweens
 pub mod Firsts
 pub mod Tidiness

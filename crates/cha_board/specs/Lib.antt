@@ -4,6 +4,7 @@ pub mod Board
 pub mod Build
 pub mod SquareSets
 pub mod SetLaws
+pub mod Shifts
 pub mod Aims
 pub mod MenSets
 pub mod Rays

@@ -1,6 +1,6 @@
 //! The chess board: squares, men, what men aim at and attack, and valid positions (Laws of Chess, Articles 2 and 3).
 //!
-//! `men` has colours, kinds and men, `squares` the squares, `sets` sets of squares, and `placement` what stands on the
+//! `men` has colours, kinds and men, `squares` the squares, `sets` sets of squares, `shifts` ranks and sets moved by a square, and `placement` what stands on the
 //! board, kept as sets. `aim` has distances and what a man aims at on an empty board, `over` the same over occupied squares
 //! by the tables of `leaps` and `rays`, `strikes` what men attack by it, and `sight` the same by a plain walk over
 //! a list of men. `position` has the valid positions, `build` how one is made, and `opening` the opening position.
@@ -16,6 +16,7 @@ mod placement;
 mod position;
 mod rays;
 mod sets;
+mod shifts;
 mod sight;
 mod squares;
 mod strikes;

@@ -1,0 +1,59 @@
+//! Ranks, and sets of squares moved by one square; what leaves the board is gone.
+
+ghost use Rattle.std.specs.Prelude.{◌≡◌, ◌<◌, ◌==◌};
+ghost use Rattle.cha_board.specs.Squares.{rank_of};
+ghost use Rattle.cha_board.specs.SquareSets.{set_of};
+ghost use Rattle.cha_board.specs.Shifts.{is_above, is_below, is_right_of, is_left_of, is_ahead};
+
+use crate::men::Color;
+use crate::sets::SquareSet;
+
+impl SquareSet {
+    /// The squares of a rank, from 0 for the first rank to 7 for the eighth.
+    pub fn of_rank(rank: u8) -> SquareSet
+        requires { rank < 8 }
+        ensures { result ≡ set_of (λ t. rank_of t == rank) }
+    {
+        SquareSet::from_bits(0xff << (rank * 8))
+    }
+
+    /// The set moved up the board by one rank.
+    pub fn north(self) -> SquareSet
+        ensures { result ≡ set_of (is_above self) }
+    {
+        SquareSet::from_bits(self.bits() << 8)
+    }
+
+    /// The set moved down by one rank.
+    pub fn south(self) -> SquareSet
+        ensures { result ≡ set_of (is_below self) }
+    {
+        SquareSet::from_bits(self.bits() >> 8)
+    }
+
+    /// The set moved to the right by one file.
+    pub fn east(self) -> SquareSet
+        ensures { result ≡ set_of (is_right_of self) }
+    {
+        let all_but_a = SquareSet::from_bits(0xfefe_fefe_fefe_fefe);
+        SquareSet::from_bits(self.bits() << 1).common(all_but_a)
+    }
+
+    /// The set moved to the left by one file.
+    pub fn west(self) -> SquareSet
+        ensures { result ≡ set_of (is_left_of self) }
+    {
+        let all_but_h = SquareSet::from_bits(0x7f7f_7f7f_7f7f_7f7f);
+        SquareSet::from_bits(self.bits() >> 1).common(all_but_h)
+    }
+
+    /// The set moved ahead by one rank, as a side sees it.
+    pub fn ahead(self, side: Color) -> SquareSet
+        ensures { result ≡ set_of (is_ahead side self) }
+    {
+        match side {
+            Color::White => self.north(),
+            Color::Black => self.south(),
+        }
+    }
+}

@@ -3,11 +3,11 @@ use Rattle.std.proofs.Common.{◌≡◌, List, [], ◌∷◌, Some, None, slice_
 use Rattle.cha_board.specs.declared.men.Color.{Color}
 use Rattle.cha_board.specs.Board.{Board}
 use Rattle.cha_cert.specs.declared.nodes.Node.{Node}
-use Rattle.cha_cert.specs.Certificates.{BeginsAt, NodeHolds, IsValidCert, FirstFailing}
+use Rattle.cha_cert.specs.Certificates.{BeginsAt, AllValid, NodeHolds, IsValidCert, FirstFailing}
 
 -- where each node holds, the certificate is valid
-pub none_fails : (p : Board) (w : Color) (nodes : List Node) → BeginsAt p nodes → FirstFailing (NodeHolds w nodes) nodes None → IsValidCert p w nodes
-none_fails p w nodes begins holds = record { begins = begins; holds = holds }
+pub none_fails : (p : Board) (w : Color) (nodes : List Node) → BeginsAt p nodes → AllValid nodes → FirstFailing (NodeHolds w nodes) nodes None → IsValidCert p w nodes
+none_fails p w nodes begins positions holds = record { begins = begins; positions = positions; holds = holds }
 
 -- a list that begins with a node
 begins_with : (p : Board) (nodes : List Node) (first : Node) → slice_get nodes 0 ≡ Some first → first.position ≡ p → BeginsAt p nodes

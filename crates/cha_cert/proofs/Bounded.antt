@@ -12,8 +12,7 @@ use Rattle.mob_sets.specs.Rows.{sets_of}
 use Rattle.cha_cert.specs.declared.nodes.Node.{Node}
 use Rattle.cha_cert.specs.declared.nodes.Part.{Part}
 use Rattle.cha_cert.specs.declared.nodes.Part.TheVariants.{Inner, Leaf}
-use Rattle.cha_cert.specs.Certificates.{positions_of, PartHolds, NodeHolds, IsValidCert}
-use Rattle.cha_cert.specs.Places.{AllValid}
+use Rattle.cha_cert.specs.Certificates.{positions_of, AllValid, PartHolds, NodeHolds, IsValidCert}
 
 -- what is known of the position of some node
 record Known (w : Color) (nodes : List Node) (q : Board) : Type 0 where
@@ -45,9 +44,8 @@ module _ (w : Color) (nodes : List Node) (valid : AllValid nodes) (holds : All (
   never [] q (Leaf sets) good held line = bounded q (sets_of sets) w good held.closed held.no_mate [] line
   never (m ∷ rest) q (Leaf sets) good held line = bounded q (sets_of sets) w good held.closed held.no_mate (m ∷ rest) line
 
--- the law, where the nodes' positions are valid
-pub cert_bounds : (p : Board) (w : Color) (nodes : List Node) → AllValid nodes → IsValidCert p w nodes → IsUnwinnable p w
-cert_bounds p w [] valid cert ms line = cert.begins
-cert_bounds p w (node ∷ nodes) valid cert ms line =
-    let known_here = known w (node ∷ nodes) valid cert.holds p (0, omega arith, cert.begins) in
-    never w (node ∷ nodes) valid cert.holds ms p known_here.part known_here.valid known_here.holds line
+pub valid_is_unwinnable : (p : Board) (w : Color) (nodes : List Node) → IsValidCert p w nodes → IsUnwinnable p w
+valid_is_unwinnable p w [] cert ms line = cert.begins
+valid_is_unwinnable p w (node ∷ nodes) cert ms line =
+    let here = known w (node ∷ nodes) cert.positions cert.holds p (0, omega arith, cert.begins) in
+    never w (node ∷ nodes) cert.positions cert.holds ms p here.part here.valid here.holds line

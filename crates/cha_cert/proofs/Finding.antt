@@ -15,8 +15,8 @@ use Rattle.cha_pack.specs.declared.words.Packed.{Packed}
 use Rattle.cha_pack.proofs.Packing.{words_tell}
 use Rattle.cha_cert.specs.declared.nodes.Node.{Node}
 use Rattle.cha_cert.specs.declared.nodes.Part.TheVariants.{Inner}
-use Rattle.cha_cert.specs.Certificates.{positions_of}
-use Rattle.cha_cert.specs.Places.{packed_of, AreSorted, AllValid, Shows}
+use Rattle.cha_cert.specs.Certificates.{AllValid, positions_of}
+use Rattle.cha_cert.specs.Places.{packed_of, AreSorted, Shows}
 
 -- packed positions are their words
 packed_same : (a b : Packed) → a.words ≡ b.words → a ≡ b

@@ -3,7 +3,7 @@ use Rattle.std.specs.Prelude.{◌≡◌, ℕ, ◌<◌, List, [], ◌∷◌, map,
 use Rattle.std.specs.List.{All, Contains}
 use Rattle.cha_board.specs.declared.men.Color.{Color}
 use Rattle.cha_board.specs.Men.{other_color}
-use Rattle.cha_board.specs.Board.{Board}
+use Rattle.cha_board.specs.Board.{Board, IsValid}
 use Rattle.cha_moves.specs.Step.{Move}
 use Rattle.cha_moves.specs.Moves.{after, legal}
 use Rattle.cha_moves.specs.Ends.{IsMated}
@@ -43,10 +43,15 @@ abbrev pub BeginsAt : Board → List Node → Type 0
 BeginsAt p [] = ⊥
 BeginsAt p (node ∷ nodes) = node.position ≡ p
 
+-- each node's position is valid
+abbrev pub AllValid : List Node → Type 0
+AllValid nodes = All (λ node. IsValid node.position) nodes
+
 -- A valid certificate that no series of legal moves from p mates for w. Nodes may lead to each other in a circle, and
 -- positions may stand there twice.
 pub record IsValidCert (p : Board) (w : Color) (nodes : List Node) : Type 0 where
   pub begins : BeginsAt p nodes
+  pub positions : AllValid nodes
   pub holds : All (NodeHolds w nodes) nodes
 
 -- the node of number i is there and holds, and the first has the position p

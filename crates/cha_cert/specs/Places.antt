@@ -1,6 +1,6 @@
 -- What an index of positions shows.
 use Rattle.std.specs.Prelude.{◌↔◌, List}
-use Rattle.std.specs.List.{All, Contains}
+use Rattle.std.specs.List.{Contains}
 use Rattle.std.specs.List.Sorted.{IsSorted}
 use Rattle.std.specs.Ordering.{nat_cmp}
 use Rattle.std.specs.Cmp.Lexicographic.{slice_cmp}
@@ -17,10 +17,6 @@ packed_of q = record { words = words_of q }
 -- the words rise, one word after the other
 abbrev pub AreSorted : List Packed → Type 0
 AreSorted places = IsSorted (λ a b. slice_cmp nat_cmp a.words b.words) places
-
--- each node's position is valid
-abbrev pub AllValid : List Node → Type 0
-AllValid nodes = All (λ node. IsValid node.position) nodes
 
 -- a position is that of some node exactly where its words are in the list
 abbrev pub Shows : List Node → List Packed → Type 0

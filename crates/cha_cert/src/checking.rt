@@ -5,7 +5,7 @@ ghost use Rattle.cha_board.specs.Men.{other_color};
 ghost use Rattle.cha_moves.specs.Ends.{IsMated, IsUnwinnable};
 ghost use Rattle.cha_cert.specs.declared.checking.Checked.TheVariants.{Accepted};
 ghost use Rattle.cha_cert.specs.Certificates.{IsValidCert, Answers, InnerHolds, LeafHolds, NodeHolds, FirstFailing};
-ghost use Rattle.cha_cert.specs.Places.{Shows, AllValid};
+ghost use Rattle.cha_cert.specs.Places.{Shows};
 
 use crate::nodes::{Cert, Node, Part};
 use crate::places::Index;

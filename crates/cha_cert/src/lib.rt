@@ -1,13 +1,15 @@
 //! Certificates that no series of legal moves mates for a side, and the check that believes nothing else.
 //!
-//! `nodes` has the certificate, `places` where positions stand in it, and `checking` the check with its law.
+//! `nodes` has the certificate, `places` where positions stand in it, `checking` the check, and `law` what a valid certificate means.
 #![tactic(auto)]
 
 mod checking;
+mod law;
 mod nodes;
 mod places;
 #[cfg(test)]
 mod tests;
 
 pub use checking::{Checked, check};
+pub use law::valid_means_unwinnable;
 pub use nodes::{Cert, Node, Part};

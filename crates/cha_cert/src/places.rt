@@ -3,7 +3,8 @@
 ghost use Rattle.std.specs.Prelude.{◌≡◌, ◌↔◌, IsTrue, IfOk, map, Contains};
 ghost use Rattle.cha_cert.specs.declared.nodes.Node.{Node as CertNode};
 ghost use Rattle.cha_board.specs.Board.{IsValid};
-ghost use Rattle.cha_cert.specs.Places.{packed_of, Shows, AreSorted, AllValid};
+ghost use Rattle.cha_cert.specs.Certificates.{AllValid};
+ghost use Rattle.cha_cert.specs.Places.{packed_of, Shows, AreSorted};
 
 use crate::nodes::Node;
 use cha_board::Position;

@@ -47,6 +47,7 @@ fn certified(
     requires no_mate { HasNoMate position.now (sets_of sets) winner }
     ensures { IfOk result (λ cert. IsShownUnwinnable position.now winner cert) }
 {
+    position.known();
     let cert = leaf(alloc, position, sets)?;
     match check(alloc, position, winner, &cert)? {
         Checked::Accepted => Ok(cert),

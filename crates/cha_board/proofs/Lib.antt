@@ -4,6 +4,7 @@ pub mod Kings
 pub mod Builds
 pub mod SetBits
 mod Shifted
+pub mod Contents
 pub mod Betweens
 pub mod Firsts
 pub mod Tidiness

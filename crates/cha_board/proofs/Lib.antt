@@ -13,3 +13,4 @@ pub mod Sliding
 pub mod Striking
 mod Examples
 pub mod Beginning
+pub mod PackedWords

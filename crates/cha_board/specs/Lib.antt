@@ -8,3 +8,4 @@ pub mod Shifts
 pub mod Aims
 pub mod MenSets
 pub mod Rays
+pub mod Packing

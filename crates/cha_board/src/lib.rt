@@ -4,6 +4,7 @@
 //! board, kept as sets. `aim` has distances and what a man aims at on an empty board, `over` the same over occupied squares
 //! by the tables of `leaps` and `rays`, `strikes` what men attack by it, and `sight` the same by a plain walk over
 //! a list of men. `position` has the valid positions, `build` how one is made, and `opening` the opening position.
+//! `packed` has positions as five words, by which they are compared and found.
 #![tactic(auto)]
 
 mod aim;
@@ -12,6 +13,7 @@ mod leaps;
 mod men;
 mod opening;
 mod over;
+mod packed;
 mod placement;
 mod position;
 mod rays;
@@ -30,6 +32,7 @@ pub use build::BuildFault;
 pub use men::{Color, Kind, Man, is_man_of, is_of_kind, is_of_side};
 pub use opening::OPENING_MEN;
 pub use over::{aims, aims_alone, squares_between};
+pub use packed::{Packed, same_position, words_tell_positions};
 pub use placement::Men;
 pub use position::{Position, Rights, attacks};
 pub use sets::SquareSet;

@@ -10,9 +10,9 @@ use Rattle.std.proofs.lemmas.List.{get_or-map, length-map, take_more, map-append
 use Rattle.std.proofs.lemmas.List.Sorted.{searchable_from_sorted, Contains-permutation, IsPermutation-sym}
 use Rattle.std.proofs.lemmas.Map.Lookups.{exact_bytes}
 use Rattle.cha_board.specs.Board.{Board, IsValid}
-use Rattle.cha_pack.specs.Pack.{words_of}
-use Rattle.cha_pack.specs.declared.words.Packed.{Packed}
-use Rattle.cha_pack.proofs.Packing.{words_tell}
+use Rattle.cha_board.specs.Packing.{words_of}
+use Rattle.cha_board.specs.declared.packed.Packed.{Packed}
+use Rattle.cha_board.proofs.PackedWords.{words_tell}
 use Rattle.cha_cert.specs.declared.nodes.Node.{Node}
 use Rattle.cha_cert.specs.declared.nodes.Part.TheVariants.{Inner}
 use Rattle.cha_cert.specs.Certificates.{AllValid, positions_of}

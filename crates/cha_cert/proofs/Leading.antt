@@ -3,7 +3,7 @@ use Rattle.std.proofs.Common.{◌≡◌, ℕ, ◌+◌, ◌<◌, ◌≤◌, Bool,
 use Rattle.std.specs.List.{Contains}
 use Rattle.std.proofs.lemmas.Bool.{cases_lt}
 use Rattle.cha_board.specs.declared.men.Color.{Color}
-use Rattle.cha_pack.specs.declared.words.Packed.{Packed}
+use Rattle.cha_board.specs.declared.packed.Packed.{Packed}
 use Rattle.cha_board.specs.Men.{other_color}
 use Rattle.cha_board.specs.Board.{Board, IsValid}
 use Rattle.cha_moves.specs.Step.{Move}

@@ -5,8 +5,8 @@ use Rattle.std.specs.List.Sorted.{IsSorted}
 use Rattle.std.specs.Ordering.{nat_cmp}
 use Rattle.std.specs.Cmp.Lexicographic.{slice_cmp}
 use Rattle.cha_board.specs.Board.{Board, IsValid}
-use Rattle.cha_pack.specs.Pack.{words_of}
-use Rattle.cha_pack.specs.declared.words.Packed.{Packed}
+use Rattle.cha_board.specs.Packing.{words_of}
+use Rattle.cha_board.specs.declared.packed.Packed.{Packed}
 use Rattle.cha_cert.specs.declared.nodes.Node.{Node}
 use Rattle.cha_cert.specs.Certificates.{positions_of}
 

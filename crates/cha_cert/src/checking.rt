@@ -9,10 +9,9 @@ ghost use Rattle.cha_cert.specs.Places.{Shows};
 
 use crate::nodes::{Cert, Node, Part};
 use crate::places::Index;
-use cha_board::{Color, Position};
+use cha_board::{Color, Position, same_position};
 use cha_list::NoMemory;
 use cha_moves::{Standing, after, legal, state};
-use cha_pack::same_position;
 use mob_check::proves_unwinnable;
 use mob_sets::Sets;
 use std::alloc::Global;

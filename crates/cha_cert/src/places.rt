@@ -7,9 +7,8 @@ ghost use Rattle.cha_cert.specs.Certificates.{AllValid};
 ghost use Rattle.cha_cert.specs.Places.{packed_of, Shows, AreSorted};
 
 use crate::nodes::Node;
-use cha_board::Position;
+use cha_board::{Packed, Position};
 use cha_list::NoMemory;
-use cha_pack::{Packed, pack};
 use std::alloc::Global;
 use std::marker::Model;
 
@@ -21,7 +20,7 @@ pub struct Index {
 
 impl Model for Index {
     ghost use Rattle.std.specs.Prelude.{List};
-    ghost use Rattle.cha_pack.specs.declared.words.Packed.{Packed};
+    ghost use Rattle.cha_board.specs.declared.packed.Packed.{Packed};
     ghost use Rattle.cha_cert.specs.Places.{AreSorted};
 
     ghost Value = { List Packed };
@@ -48,7 +47,7 @@ impl Index {
         ensures valid { IsValid position.now }
     {
         position.known();
-        found(self.places.as_slice(), &pack(position))
+        found(self.places.as_slice(), &position.pack())
     }
 }
 
@@ -60,7 +59,7 @@ fn packed(alloc: Global, nodes: &[Node]) -> Result<Vec<Packed>, NoMemory>
     let mut places = Vec::with_capacity(alloc, nodes.len())?;
     for node in nodes {
         node.position.known();
-        places.push(pack(&node.position))?;
+        places.push(node.position.pack())?;
     }
     Ok(places)
 }

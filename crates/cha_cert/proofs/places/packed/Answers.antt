@@ -1,7 +1,7 @@
 use Rattle.std.proofs.Common.{◌∙◌, ap, subst}
 use Rattle.std.proofs.lemmas.List.{get_or_read}
 use Rattle.cha_board.specs.Board.{IsValid}
-use Rattle.cha_pack.specs.Pack.{words_of}
+use Rattle.cha_board.specs.Packing.{words_of}
 use Rattle.cha_cert.proofs.Finding.{packed_more, valid_more}
 use Rattle.cha_cert.proofs.places.packed.Goals as goal
 

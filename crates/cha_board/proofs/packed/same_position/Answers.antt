@@ -1,9 +1,9 @@
 use Rattle.std.proofs.Common.{◌∙◌, sym, ap}
 use Rattle.std.proofs.lemmas.Bool.Decides.{Decides-eqb}
 use Rattle.std.proofs.lemmas.Slice.Eq.{slice_eq-Decides}
-use Rattle.cha_pack.specs.Pack.{words_of}
-use Rattle.cha_pack.proofs.Packing.{words_tell}
-use Rattle.cha_pack.proofs.words.same_position.Goals as goal
+use Rattle.cha_board.specs.Packing.{words_of}
+use Rattle.cha_board.proofs.PackedWords.{words_tell}
+use Rattle.cha_board.proofs.packed.same_position.Goals as goal
 
 pub returns : goal.returns
 returns c =

@@ -6,7 +6,7 @@ use Rattle.std.proofs.lemmas.List.{get_or_past}
 use Rattle.std.proofs.lemmas.List.Folds.{Any-from_list_any}
 use Rattle.cha_board.specs.Squares.{squares}
 use Rattle.cha_board.specs.SquareSets.{set_of, empty_set, has_square, set_with, set_joined, is_subset}
-use Rattle.cha_board.specs.SetLaws.{length-set_of, has-set_of}
+use Rattle.cha_board.specs.SetLaws.{length-set_of, has-set_of, same_squares}
 use Rattle.cha_board.proofs.Scans.{length_squares, square_at, any_square_at, all_squares_at, each_square}
 
 -- where some square passes a test, there is one
@@ -75,6 +75,18 @@ implied_from false b h = refl
 pub subset_at : (a b : List Bool) → is_subset a b ≡ true → (u : ℕ) → u < 64 → has_square a u ≡ true → has_square b u ≡ true
 unfolding is_subset
 subset_at a b h u small = implied (has_square a u) (has_square b u) (all_squares_at (λ s. not (has_square a s) || has_square b s) u h small)
+
+pub subset_from : (a b : List Bool) → ((u : ℕ) → u < 64 → has_square a u ≡ true → has_square b u ≡ true) → is_subset a b ≡ true
+unfolding is_subset
+subset_from a b each = each_square (λ s. not (has_square a s) || has_square b s) (λ s small. from_implied (has_square a s) (has_square b s) (each s small))
+  where
+    from_implied : (x y : Bool) → (x ≡ true → y ≡ true) → (not x || y) ≡ true
+    from_implied true y h = h refl
+    from_implied false y h = refl
+
+-- a list of 64 truth values is the set of its squares
+pub set_is : (a : List Bool) → length a ≡ 64 → a ≡ set_of (has_square a)
+set_is a width = same_squares a (set_of (has_square a)) width (length-set_of (has_square a)) (λ s small. sym (has-set_of (has_square a) s small))
 
 -- where a set is not a part of another, it has a square that the other has not
 pub outside : (a b : List Bool) → is_subset a b ≡ false → (u : ℕ) × (u < 64) × (has_square a u ≡ true) × (has_square b u ≡ false)

@@ -23,6 +23,13 @@ impl Model for Square {
     ghost inverse = { λ n. record { index = n } };
 }
 
+/// The square a1.
+impl Default for Square {
+    fn default() -> Square {
+        Square { index: 0 }
+    }
+}
+
 impl Square {
     /// The square of a number, or None where the number is 64 or more.
     pub fn new(index: u8) -> Option<Square>

@@ -7,7 +7,7 @@ use std::marker::Model;
 
 /// A move: where a man goes from and to, and what a pawn becomes on the last rank. Castling is the king's move of two
 /// files.
-#[derive(Clone, Copy, Debug, PartialEq, Eq, PartialOrd, Ord, Hash)]
+#[derive(Clone, Copy, Debug, Default, PartialEq, Eq, PartialOrd, Ord, Hash)]
 pub struct Move {
     pub from: Square,
     pub to: Square,

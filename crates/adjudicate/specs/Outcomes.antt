@@ -19,7 +19,7 @@ use Rattle.flag_report.specs.declared.reasons.Unreadable.TheVariants.{Tokens, Mo
 use Rattle.flag_report.specs.declared.rulings.Judgment.{Judgment}
 use Rattle.flag_report.specs.declared.totals.Summary.{Summary}
 use Rattle.flag_report.specs.Verdicts.{is_undecided}
-use Rattle.flag_report.specs.Ends.{standing_of}
+use Rattle.cha_moves.specs.Standings.{standing_of}
 use Rattle.flag_report.specs.Rulings.{ruling_of, first_of, is_changed}
 use Rattle.flag_report.specs.Blocks.{has_dead_status, position_text, refused_text}
 use Rattle.flag_report.specs.Games.{game_text, unreadable_text}

@@ -12,9 +12,10 @@ use crate::judging::{Judged, some_undecided, with_one};
 use cha_board::Position;
 use cha_decide::decide;
 use cha_list::{NoMemory, Text, text_of};
+use cha_moves::state;
 use cha_san::{PlayFault, SanFault, play};
 use flag_report::{
-    Summary, Unreadable, changes_result, first_examined, game_block, ruling, standing,
+    Summary, Unreadable, changes_result, first_examined, game_block, ruling,
     unreadable_block,
 };
 use pgn_games::{Game, ResultMark};
@@ -80,7 +81,7 @@ fn judge_final(
     let decision = decide(alloc, position, first_examined(recorded))?;
     let white = &decision.white;
     let black = &decision.black;
-    let judgment = ruling(standing(position), recorded, forfeit, white, black);
+    let judgment = ruling(state(position), recorded, forfeit, white, black);
     let number = totals.items + 1;
     let block = game_block(
         alloc, number, position, recorded, white, black, judgment, certs,

@@ -1,8 +1,7 @@
 //! The check of a certificate. It knows nothing of how certificates are found.
 
 ghost use Rattle.std.specs.Prelude.{◌≡◌, ◌<◌, ◌≤◌, ◌^◌, ◌↔◌, length, IsTrue, IfOk};
-ghost use Rattle.cha_board.specs.Men.{other_color};
-ghost use Rattle.cha_moves.specs.Ends.{IsMated, IsUnwinnable};
+ghost use Rattle.cha_moves.specs.Ends.{IsUnwinnable};
 ghost use Rattle.cha_cert.specs.declared.checking.Checked.TheVariants.{Accepted};
 ghost use Rattle.cha_cert.specs.Certificates.{IsValidCert, Answers, InnerHolds, LeafHolds, NodeHolds, FirstFailing};
 ghost use Rattle.cha_cert.specs.Places.{Shows};
@@ -11,7 +10,7 @@ use crate::nodes::{Cert, Node, Part};
 use crate::places::Index;
 use cha_board::{Color, Position, same_position};
 use cha_list::NoMemory;
-use cha_moves::{Standing, after, legal, state};
+use cha_moves::{after, is_mate, legal};
 use mob_check::proves_unwinnable;
 use mob_sets::Sets;
 use std::alloc::Global;
@@ -102,7 +101,7 @@ fn inner_holds(
     requires { Shows nodes.now index.now }
     ensures { IfOk result (λ holds. IsTrue holds ↔ InnerHolds winner nodes.now position.now) }
 {
-    if is_mate_for(winner, position) {
+    if is_mate(position, winner) {
         return Ok(false);
     }
     let moves = legal(alloc, position)?;
@@ -112,17 +111,6 @@ fn inner_holds(
         }
     }
     Ok(true)
-}
-
-/// Whether a position is a mate for a side.
-fn is_mate_for(winner: Color, position: &Position) -> bool
-    ensures { IsTrue result ↔ IsMated position.now (other_color winner) }
-{
-    match state(position) {
-        Standing::Mate(by) => by.is(winner),
-        Standing::Stalemate => false,
-        Standing::Running => false,
-    }
 }
 
 /// Whether mobility sets are closed for a position and have no mate for a side.

@@ -9,7 +9,7 @@ use Rattle.cha_board.specs.Squares.{squares, files_apart, ranks_apart, steps_apa
 use Rattle.cha_board.specs.Board.{Board, is_clear, attacks_as, attacked, king_of, in_check}
 use Rattle.cha_moves.specs.Step.{Move}
 use Rattle.cha_moves.specs.Moves.{is_step, is_double_step, is_pawn_capture, is_en_passant, is_short_castling, is_long_castling, goes, promotes_well, is_pseudo_legal_as, men_after, rights_after, target_after, after, is_legal_in, moves_from, all_moves, legal}
-use Rattle.cha_decide.specs.MateLines.{is_mated, mate_lines}
+use Rattle.cha_moves.specs.MateLines.{is_mated, mate_lines}
 
 -- a man on a square
 record Placed : Type 0 where

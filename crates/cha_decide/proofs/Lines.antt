@@ -9,87 +9,11 @@ use Rattle.cha_board.specs.Men.{other_color, same_color}
 use Rattle.cha_board.specs.Board.{Board, in_check}
 use Rattle.cha_moves.specs.Step.{Move}
 use Rattle.cha_moves.specs.Moves.{after, legal}
-use Rattle.cha_moves.specs.Ends.{IsMated, IsMatingLine, HasNoMateWithin}
-use Rattle.cha_decide.specs.MateLines.{is_nil, is_mated, mate_lines}
+use Rattle.cha_moves.specs.Ends.{IsMatingLine, HasNoMateWithin}
+use Rattle.cha_moves.specs.MateLines.{is_mated, mate_lines}
 use Rattle.cha_decide.specs.Sound.{IsShortestMate, searched_plies}
-use Rattle.cha_decide.proofs.Pieces.{contains_first, contains_first_of, contains_none, first_or_later, contains_image, contained_image, contains_piece, contained_piece, empty_without_first, without_piece, first_in_piece, first_image, no_piece, no_pieces}
-
-same_side : (a b : Color) → same_color a b ≡ true → a ≡ b
-same_side White White h = refl
-same_side White Black h = absurd (cc)
-same_side Black White h = absurd (cc)
-same_side Black Black h = refl
-
-side_itself : (a b : Color) → a ≡ b → same_color a b ≡ true
-side_itself White White h = refl
-side_itself White Black h = absurd (cc)
-side_itself Black White h = absurd (cc)
-side_itself Black Black h = refl
-
-nil_is : (ms : List Move) → is_nil ms ≡ true → ms ≡ []
-nil_is [] h = refl
-nil_is (m ∷ ms) h = absurd (cc)
-
-nil_itself : (ms : List Move) → ms ≡ [] → is_nil ms ≡ true
-nil_itself [] h = refl
-nil_itself (m ∷ ms) h = absurd (cc)
-
-all_three : (a b c : Bool) → a && b && c ≡ true → (a ≡ true) × (b ≡ true) × (c ≡ true)
-all_three true true true h = (refl, refl, refl)
-all_three true true false h = absurd (cc)
-all_three true false c h = absurd (cc)
-all_three false b c h = absurd (cc)
-
-three_all : (a b c : Bool) → a ≡ true → b ≡ true → c ≡ true → a && b && c ≡ true
-three_all a b c e f g = cc
-
--- the test says what the fact says
-pub mated_is : (q : Board) (loser : Color) → is_mated q loser ≡ true → IsMated q loser
-unfolding is_mated
-mated_is q loser h =
-    let parts = all_three (same_color q.side loser) (in_check q.men loser) (is_nil (legal q)) h in
-    record { to_move = same_side q.side loser parts.0; check = parts.1; stuck = nil_is (legal q) parts.2 }
-
-pub mated_itself : (q : Board) (loser : Color) → IsMated q loser → is_mated q loser ≡ true
-unfolding is_mated
-mated_itself q loser h =
-    three_all (same_color q.side loser) (in_check q.men loser) (is_nil (legal q)) (side_itself q.side loser h.to_move) h.check (nil_itself (legal q) h.stuck)
-
--- the lists of no moves
-no_move : (b : Bool) (ms : List Move) → Contains (if b then ([] ∷ []) else []) ms → (b ≡ true) × (ms ≡ [])
-no_move true ms h =
-    elim (first_or_later [] ms [] h) [ inl is ↦ (refl, sym is) | inr later ↦ absurd (contains_none [] ms refl later) ]
-no_move false ms h = absurd (contains_none [] ms refl h)
-
-some_move : (b : Bool) → b ≡ true → Contains {X = List Move} (if b then ([] ∷ []) else []) []
-some_move true e = contains_first [] []
-some_move false e = absurd (cc)
-
--- the lists that begin with a move
-abbrev pub begun : Board → Color → ℕ → Move → List (List Move)
-begun q winner n m = map (λ ms. m ∷ ms) (mate_lines n (after q m) winner)
-
--- the lists are mating lines of so many moves
-pub mating_line : (n : ℕ) (q : Board) (winner : Color) (ms : List Move) → Contains (mate_lines n q winner) ms → IsMatingLine q winner ms × (length ms ≡ n)
-unfolding mate_lines
-mating_line zero q winner ms h =
-    let parts = no_move (is_mated q (other_color winner)) ms h in
-    let P : List Move → Type 0 = λ l. IsMatingLine q winner l × (length l ≡ 0) in
-    subst P (sym parts.1) (mated_is q (other_color winner) parts.0, refl)
-mating_line (suc n) q winner ms h =
-    let piece = contained_piece (begun q winner n) (legal q) ms h in
-    let line = contained_image (λ l. piece.0 ∷ l) (mate_lines n (after q piece.0) winner) ms piece.2 in
-    let rest = mating_line n (after q piece.0) winner line.0 line.1 in
-    let P : List Move → Type 0 = λ l. IsMatingLine q winner l × (length l ≡ suc n) in
-    subst P line.2 ((piece.1, rest.0), ap suc rest.1)
-
--- each mating line is one of the lists
-pub line_of_mate : (q : Board) (winner : Color) (ms : List Move) → IsMatingLine q winner ms → Contains (mate_lines (length ms) q winner) ms
-unfolding mate_lines
-line_of_mate q winner [] h = some_move (is_mated q (other_color winner)) (mated_itself q (other_color winner) h)
-line_of_mate q winner (m ∷ ms) h =
-    contains_piece (begun q winner (length ms)) (legal q) m (m ∷ ms) h.0
-    (contains_image (λ l. m ∷ l) (mate_lines (length ms) (after q m) winner) ms (line_of_mate (after q m) winner ms h.1))
+use Rattle.cha_moves.proofs.MateLines.{begun, mating_line, line_of_mate}
+use Rattle.cha_decide.proofs.Pieces.{contains_first_of, contains_none, empty_without_first, without_piece, first_in_piece, first_image, no_piece, no_pieces}
 
 -- without a list of so many moves no mating line has as many
 pub none_of_length : (n : ℕ) (q : Board) (winner : Color) → mate_lines n q winner ≡ [] → (ms : List Move) → length ms ≡ n → IsMatingLine q winner ms → ⊥

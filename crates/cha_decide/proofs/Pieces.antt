@@ -1,19 +1,7 @@
--- Lists put together from pieces: what they contain, and what they begin with.
+-- Lists put together from pieces: what they begin with.
 use Rattle.std.proofs.Common.{◌≡◌, ℕ, zero, suc, ◌+◌, ◌<◌, ◌≤◌, List, [], ◌∷◌, ◌++◌, ◌⊎◌, length, map, drop, get_or, flat_map, Contains, slice_get, Some, None, sym, ap, ◌∙◌, subst, inl, inr, refl, arith, add-one, drop-cons, drop_of_length-le}
-use Rattle.std.proofs.lemmas.List.Elements.{Contains-append_left, Contains-append_right, Contains-append_cases}
 
 module _ {X : Type 0} where
-  -- a list with an element has the first one, or the element among the others
-  pub first_or_later : (a x : X) (xs : List X) → Contains (a ∷ xs) x → (a ≡ x) ⊎ Contains xs x
-  first_or_later a x xs (zero, small, is) = inl is
-  first_or_later a x xs (suc k, small, is) = inr (k, omega arith, is)
-
-  pub contains_first : (a : X) (xs : List X) → Contains (a ∷ xs) a
-  contains_first a xs = (0, omega arith, refl)
-
-  pub contains_later : (a x : X) (xs : List X) → Contains xs x → Contains (a ∷ xs) x
-  contains_later a x xs (k, small, is) = (suc k, omega arith, is)
-
   -- a list without a first element is empty
   pub empty_without_first : (xs : List X) → slice_get xs 0 ≡ None → xs ≡ []
   empty_without_first [] e = refl
@@ -34,44 +22,12 @@ module _ {X : Type 0} where
   contains_first_of (a ∷ xs) x e = let same : a ≡ x = cc in (0, omega arith, same)
 
 module _ {X Y : Type 0} (f : X → Y) where
-  pub contains_image : (xs : List X) (x : X) → Contains xs x → Contains (map f xs) (f x)
-  contains_image [] x h = absurd (contains_none [] x refl h)
-  contains_image (a ∷ xs) x h =
-      elim (first_or_later a x xs h) [
-        | inl same ↦ (0, omega arith, ap f same)
-        | inr later ↦ contains_later (f a) (f x) (map f xs) (contains_image xs x later)
-      ]
-
-  pub contained_image : (xs : List X) (y : Y) → Contains (map f xs) y → (x : X) × Contains xs x × (f x ≡ y)
-  contained_image [] y h = absurd (contains_none [] y refl h)
-  contained_image (a ∷ xs) y h =
-      elim (first_or_later (f a) y (map f xs) h) [
-        | inl same ↦ (a, contains_first a xs, same)
-        | inr later ↦ (let rest = contained_image xs y later in (rest.0, contains_later a rest.0 xs rest.1, rest.2))
-      ]
-
   -- the first image is the image of the first
   pub first_image : (xs : List X) (x : X) → slice_get xs 0 ≡ Some x → slice_get (map f xs) 0 ≡ Some (f x)
   first_image [] x e = absurd (cc)
   first_image (a ∷ xs) x e = cc
 
 module _ {X Y : Type 0} (f : X → List Y) where
-  pub contains_piece : (xs : List X) (x : X) (y : Y) → Contains xs x → Contains (f x) y → Contains (flat_map f xs) y
-  contains_piece [] x y h g = absurd (contains_none [] x refl h)
-  contains_piece (a ∷ xs) x y h g =
-      elim (first_or_later a x xs h) [
-        | inl same ↦ Contains-append_left (f a) (flat_map f xs) y (let P : X → Type 0 = λ z. Contains (f z) y in subst P (sym same) g)
-        | inr later ↦ Contains-append_right (f a) (flat_map f xs) y (contains_piece xs x y later g)
-      ]
-
-  pub contained_piece : (xs : List X) (y : Y) → Contains (flat_map f xs) y → (x : X) × Contains xs x × Contains (f x) y
-  contained_piece [] y h = absurd (contains_none [] y refl h)
-  contained_piece (a ∷ xs) y h =
-      elim (Contains-append_cases (f a) (flat_map f xs) y h) [
-        | inl here ↦ (a, contains_first a xs, here)
-        | inr later ↦ (let rest = contained_piece xs y later in (rest.0, contains_later a rest.0 xs rest.1, rest.2))
-      ]
-
   -- the pieces from a place on begin with the piece at that place
   pieces_from : (xs : List X) (i : ℕ) (x : X) → i < length xs → x ≡ get_or xs i x → flat_map f (drop i xs) ≡ f x ++ flat_map f (drop (i + 1) xs)
   pieces_from xs i x small is =

@@ -1,2 +1,1 @@
-pub mod MateLines
 pub mod Sound

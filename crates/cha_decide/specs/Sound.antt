@@ -13,7 +13,7 @@ use Rattle.flag_report.specs.declared.found.Verdict.{Verdict}
 use Rattle.flag_report.specs.declared.found.Verdict.TheVariants.{Winnable, Unwinnable, Undecided, Skipped}
 use Rattle.flag_report.specs.Verdicts.{is_winnable, is_skipped}
 use Rattle.cha_decide.specs.declared.decided.Decision.{Decision}
-use Rattle.cha_decide.specs.MateLines.{mate_lines}
+use Rattle.cha_moves.specs.MateLines.{mate_lines}
 
 -- the plies that are searched for a mate
 abbrev pub searched_plies : ℕ

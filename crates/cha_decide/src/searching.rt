@@ -4,24 +4,16 @@ ghost use Rattle.std.specs.Prelude.{◌≡◌, false, ◌∷◌, None, IfOk, Mat
 ghost use Rattle.std.specs.Bool.{OnFalse};
 ghost use Rattle.cha_board.specs.Men.{other_color};
 ghost use Rattle.cha_moves.specs.Ends.{HasNoMateWithin};
-ghost use Rattle.cha_decide.specs.MateLines.{is_mated, mate_lines};
+ghost use Rattle.cha_moves.specs.MateLines.{is_mated, mate_lines};
 ghost use Rattle.cha_decide.specs.Sound.{IsShortestMate, searched_plies};
 
 use cha_board::{Color, Position};
 use cha_list::NoMemory;
-use cha_moves::{Move, Moves, after, any_legal, legal};
+use cha_moves::{Move, Moves, after, is_mate, legal};
 use std::alloc::Global;
 
 /// How many plies are searched for a mate.
 pub const SEARCHED_PLIES: u8 = 2;
-
-/// Whether a side is checkmated (Laws of Chess, Article 5.1.1).
-#[tactic(auto, unfolding(crate::specs::MateLines::is_mated))]
-pub fn mated(position: &Position, loser: Color) -> bool
-    ensures { result ≡ is_mated position.now loser }
-{
-    position.side().is(loser) && position.in_check(loser) && !any_legal(position)
-}
 
 /// A move and the moves behind it.
 fn line_of(first: Move, rest: Moves) -> Result<Moves, NoMemory>
@@ -37,7 +29,7 @@ fn line_of(first: Move, rest: Moves) -> Result<Moves, NoMemory>
 fn mate_on_board(alloc: Global, position: &Position, winner: Color) -> Option<Moves>
     ensures { result ≡ slice_get (mate_lines 0 position.now winner) 0 }
 {
-    if mated(position, winner.other()) {
+    if is_mate(position, winner) {
         Some(Moves::new(alloc))
     } else {
         None

@@ -8,14 +8,14 @@ ghost use Rattle.mob_law.specs.Closed.{IsClosed};
 ghost use Rattle.mob_law.specs.Static.{IsStaticallyUnwinnable};
 ghost use Rattle.mob_law.specs.Threats.{HasNoMate};
 ghost use Rattle.mob_sets.specs.Rows.{sets_of};
-ghost use Rattle.cha_decide.specs.MateLines.{is_mated};
+ghost use Rattle.cha_moves.specs.MateLines.{is_mated};
 ghost use Rattle.cha_decide.specs.Sound.{IsTrueOf, IsShownUnwinnable};
 
-use crate::searching::{SEARCHED_PLIES, mated, shortest_mate};
+use crate::searching::{SEARCHED_PLIES, shortest_mate};
 use cha_board::{Color, Position};
 use cha_cert::{Cert, Checked, Node, Part, check};
 use cha_list::NoMemory;
-use cha_moves::Moves;
+use cha_moves::{Moves, is_mate};
 use flag_report::Verdict;
 use mob_sets::Sets;
 use mob_solve::static_verdict;
@@ -89,7 +89,7 @@ pub fn examine(alloc: Global, position: &Position, winner: Color) -> Result<Verd
     ensures holds { IfOk result (λ verdict. IsTrueOf position.now winner verdict) }
     ensures examined { IfOk result (λ verdict. is_skipped verdict ≡ false) }
 {
-    if mated(position, winner.other()) {
+    if is_mate(position, winner) {
         return Ok(Verdict::Winnable(Moves::new(alloc)));
     }
     match shown_unwinnable(alloc, position, winner)? {

@@ -19,7 +19,7 @@ use Rattle.cha_board.proofs.Tables.{aims_from_there}
 use Rattle.cha_board.proofs.Striking.{clear_turned, one_of_six}
 use Rattle.cha_moves.specs.Shields.{aims_as, stops, checks, men_less, Unstopped, AreShields}
 use Rattle.cha_moves.proofs.Made.{put, put_other}
-use Rattle.cha_moves.proofs.Pieces.{Contains-cons_here, Contains-filter_parts, Contains-filter_from, Contains-squares_from, not_in_nothing}
+use Rattle.cha_moves.proofs.Contained.{Contains-cons_here, Contains-filter_parts, Contains-filter_from, Contains-squares_from, not_in_nothing}
 use Rattle.cha_moves.proofs.Clearing.{clear_at, attack_parts, attack_from}
 
 -- the squares that are occupied

@@ -21,7 +21,7 @@ use Rattle.cha_moves.specs.Shields.{aims_as, men_less, AreShields, IsFree, some_
 use Rattle.cha_moves.proofs.Identity.{some_inj, two_kinds}
 use Rattle.cha_moves.proofs.Made.{Step, may_gives, put, put_other, men_moved, Plainly, Passing, Shortly, Longly, makes}
 use Rattle.cha_moves.proofs.Kept.{kings_kept, king_place, length_after, short_tests, long_tests}
-use Rattle.cha_moves.proofs.Pieces.{Contains-filter_parts, Contains-squares_small}
+use Rattle.cha_moves.proofs.Contained.{Contains-filter_parts, Contains-squares_small}
 use Rattle.cha_moves.proofs.Filling.{still_safe, filled_put}
 use Rattle.cha_moves.proofs.WayLaws.{no_way_between, filter_in_set}
 use Rattle.cha_moves.proofs.Sureness.{Ordinary, legal_if, not_enemy}

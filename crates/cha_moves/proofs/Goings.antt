@@ -15,7 +15,7 @@ use Rattle.cha_board.specs.SetLaws.{has-set_of, same_set}
 use Rattle.cha_board.specs.Aims.{is_open, aims_over, aimed}
 use Rattle.cha_moves.specs.Moves.{is_pawn_capture, is_target, is_en_passant, may_enter}
 use Rattle.cha_moves.proofs.Near.{near_clear, king_aims}
-use Rattle.cha_moves.proofs.Pieces.{Contains-cons_here, Contains-cons_there, Contains-filter_parts, Contains-squares_small}
+use Rattle.cha_moves.proofs.Contained.{Contains-cons_here, Contains-cons_there, Contains-filter_parts, Contains-squares_small}
 
 -- what is done to sets, as what is done to their tests
 pub joined_of : (a b : ℕ → Bool) → set_joined (set_of a) (set_of b) ≡ set_of (λ s. a s || b s)

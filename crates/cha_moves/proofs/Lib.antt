@@ -2,7 +2,7 @@ pub mod Identity
 pub mod Made
 pub mod Kept
 pub mod Validity
-pub mod Pieces
+pub mod Contained
 pub mod Listed
 pub mod Near
 pub mod Filling
@@ -19,3 +19,5 @@ pub mod Shielding
 pub mod Facing
 pub mod GoingLegally
 pub mod SafeCastling
+pub mod Mated
+pub mod MateLines

@@ -11,7 +11,7 @@ use Rattle.cha_moves.specs.Step.{Move}
 use Rattle.cha_moves.specs.Moves.{promotions, is_promotion, is_pseudo_legal, men_after, is_legal_in, moves_between, moves_from, all_moves, legal}
 use Rattle.cha_moves.proofs.Made.{may_gives}
 use Rattle.cha_moves.proofs.Kept.{promoted}
-use Rattle.cha_moves.proofs.Pieces.{Contains-filter_from, Contains-filter_parts, Contains-flat_map_parts, Contains-flat_map_from, Contains-squares_from, Contains-squares_small}
+use Rattle.cha_moves.proofs.Contained.{Contains-filter_from, Contains-filter_parts, Contains-flat_map_parts, Contains-flat_map_from, Contains-squares_from, Contains-squares_small}
 
 -- what the list of legal moves says of a move in it
 pub record IsListed (q : Board) (m : Move) : Type 0 where

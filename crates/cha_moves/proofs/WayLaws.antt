@@ -15,7 +15,7 @@ use Rattle.cha_moves.specs.Step.{Move}
 use Rattle.cha_moves.specs.Moves.{goes, goes_as, may_enter, is_pseudo_legal, men_after, is_legal_in, moves_between, moves_from, all_moves, legal}
 use Rattle.cha_moves.specs.Ways.{is_way, legal_between}
 use Rattle.cha_moves.proofs.Made.{Mover, may_gives}
-use Rattle.cha_moves.proofs.Pieces.{Contains-cons_here, Contains-cons_there, Contains-squares_small}
+use Rattle.cha_moves.proofs.Contained.{Contains-cons_here, Contains-cons_there, Contains-squares_small}
 
 -- what a filter keeps of the pieces of some squares alone, where the others have nothing that it keeps
 filter_skips : {X : Type 0} (p : X → Bool) (f : ℕ → List X) (r : ℕ → Bool) (xs : List ℕ) → ((x : ℕ) → Contains xs x → r x ≡ false → filter p (f x) ≡ []) → filter p (flat_map f (filter r xs)) ≡ filter p (flat_map f xs)

@@ -22,8 +22,8 @@ mod tests;
 mod text;
 mod ways;
 
-pub use ends::{Standing, state};
-pub use lines::replays;
+pub use ends::{Standing, is_mate, state};
+pub use lines::{mate_lines_mate, replays};
 pub use list::{Moves, Positions, after, is_legal, legal};
 pub use sides::{double_step_rank, first_pawn_rank, home, long_right, promotion_rank, short_right};
 pub use some::any_legal;

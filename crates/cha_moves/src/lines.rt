@@ -1,9 +1,13 @@
 //! Lines of moves that end in mate.
 
-ghost use Rattle.std.specs.Prelude.{◌↔◌, IsTrue};
+ghost use Rattle.std.specs.Prelude.{◌≡◌, ◌↔◌, ℕ, List, length, IsTrue, Contains};
+ghost use Rattle.cha_board.specs.declared.men.Color.{Color as Side};
+ghost use Rattle.cha_board.specs.Board.{Board};
+ghost use Rattle.cha_moves.specs.Step.{Move as Step};
 ghost use Rattle.cha_moves.specs.Ends.{IsMatingLine};
+ghost use Rattle.cha_moves.specs.MateLines.{mate_lines};
 
-use crate::ends::{Standing, state};
+use crate::ends::is_mate;
 use crate::list::{after, is_legal};
 use crate::step::Move;
 use cha_board::{Color, Position};
@@ -19,9 +23,11 @@ pub fn replays(position: &Position, winner: Color, moves: &[Move]) -> bool
         }
         now = after(&now, *m);
     }
-    match state(&now) {
-        Standing::Mate(by) => by.is(winner),
-        Standing::Stalemate => false,
-        Standing::Running => false,
-    }
+    is_mate(&now, winner)
 }
+
+/// The law of mate lines: of the lists of exactly n moves, those that `mate_lines` names are the mating lines, and no
+/// others.
+pub fn mate_lines_mate()
+    ensures { (n : ℕ) (q : Board) (winner : Side) (ms : List Step) → Contains (mate_lines n q winner) ms ↔ (IsMatingLine q winner ms × (length ms ≡ n)) }
+{}

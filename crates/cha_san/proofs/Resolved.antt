@@ -4,7 +4,7 @@ use Rattle.std.specs.List.{filter, Contains}
 use Rattle.cha_board.specs.Board.{Board}
 use Rattle.cha_moves.specs.Step.{Move}
 use Rattle.cha_moves.specs.Moves.{legal}
-use Rattle.cha_moves.proofs.Pieces.{Contains-filter_parts, Contains-cons_here}
+use Rattle.cha_moves.proofs.Contained.{Contains-filter_parts, Contains-cons_here}
 use Rattle.cha_san.specs.declared.faults.SanFault.{SanFault}
 use Rattle.cha_san.specs.declared.faults.SanFault.TheVariants.{NotSan, NoSuchMove, Ambiguous}
 use Rattle.cha_san.specs.declared.forms.Form.{Form}

@@ -10,7 +10,7 @@ use Rattle.cha_moves.specs.Texts.{move_bytes}
 use Rattle.cha_moves.specs.declared.ends.Standing.{Standing}
 use Rattle.cha_moves.specs.declared.ends.Standing.TheVariants.{Mate, Stalemate, Running}
 use Rattle.cert_text.specs.Spelled.{cert_text}
-use Rattle.flag_report.specs.Ends.{standing_of}
+use Rattle.cha_moves.specs.Standings.{standing_of}
 use Rattle.flag_report.specs.declared.found.Verdict.{Verdict}
 use Rattle.flag_report.specs.declared.found.Verdict.TheVariants.{Winnable, Unwinnable, Undecided, Skipped}
 use Rattle.flag_report.specs.Verdicts.{is_winnable, are_dead}

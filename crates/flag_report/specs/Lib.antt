@@ -1,4 +1,3 @@
-pub mod Ends
 pub mod Verdicts
 pub mod Rulings
 pub mod Reasons

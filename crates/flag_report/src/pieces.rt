@@ -6,11 +6,11 @@ ghost use Rattle.flag_report.specs.Verdicts.{IsPrintable};
 ghost use Rattle.cha_fen.specs.Written.{fen_text};
 
 use crate::found::Verdict;
-use crate::status::{put_status, standing};
+use crate::status::put_status;
 use cha_board::{Color, Position};
 use cha_fen::write;
 use cha_list::{NoMemory, Text};
-use cha_moves::{Move, move_text};
+use cha_moves::{Move, move_text, state};
 use std::alloc::Global;
 
 /// Appends a number in decimal digits.
@@ -160,7 +160,7 @@ pub fn put_findings(
     put_side(alloc, b"white: ", Color::White, white, certs, text)?;
     put_side(alloc, b"black: ", Color::Black, black, certs, text)?;
     text.append(b"status: ")?;
-    put_status(standing(position), white, black, text)?;
+    put_status(state(position), white, black, text)?;
     text.append(b"\n")?;
     Ok(())
 }

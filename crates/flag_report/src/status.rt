@@ -2,20 +2,12 @@
 
 ghost use Rattle.std.specs.Prelude.{◌≡◌, ◌++◌, OnOk};
 ghost use Rattle.flag_report.specs.Blocks.{open_status_text, has_dead_status, status_text};
-ghost use Rattle.flag_report.specs.Ends.{standing_of};
 ghost use Rattle.flag_report.specs.Verdicts.{are_dead};
 
 use crate::found::{Verdict, is_unwinnable, is_winnable};
 use cha_board::Position;
 use cha_list::{NoMemory, Text};
 use cha_moves::{Standing, state};
-
-/// How a position stands: mate, stalemate, or the game goes on.
-pub fn standing(position: &Position) -> Standing
-    ensures { result ≡ standing_of position.now }
-{
-    state(position)
-}
 
 /// Whether neither side can mate.
 pub fn is_dead(white: &Verdict, black: &Verdict) -> bool
@@ -29,7 +21,7 @@ pub fn is_dead(white: &Verdict, black: &Verdict) -> bool
 pub fn has_dead_state(position: &Position, white: &Verdict, black: &Verdict) -> bool
     ensures { result ≡ has_dead_status position.now white.now black.now }
 {
-    match standing(position) {
+    match state(position) {
         Standing::Mate(_) => false,
         Standing::Stalemate => false,
         Standing::Running => is_dead(white, black),

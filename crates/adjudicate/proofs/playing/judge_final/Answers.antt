@@ -14,6 +14,6 @@ unfolding is_bad is_third is_open block_of
 returns c = (
   Some c.in_ok-decision.decision,
   rw c.first_examined.ensures at c.in_ok-decision.ensures,
-  rw (c.ruling-judgment.ensures, c.standing.ensures) at c.in_ok-block.ensures,
-  rw (c.changes_result-changed.ensures, c.ruling-judgment.ensures, c.standing.ensures, c.some_undecided.ensures) at c.with_one.ensures,
+  rw (c.ruling-judgment.ensures, c.state.ensures.value) at c.in_ok-block.ensures,
+  rw (c.changes_result-changed.ensures, c.ruling-judgment.ensures, c.state.ensures.value, c.some_undecided.ensures) at c.with_one.ensures,
 )

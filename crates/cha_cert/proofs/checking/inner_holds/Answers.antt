@@ -32,4 +32,4 @@ returns-then-not-has c =
 pub returns : goal.returns
 returns c =
     let q = c.args.position.now in
-    ((λ _. leads_all c.args.winner c.args.nodes.now q c.loop-m.m-index (λ mated. both_ways c.is_mate_for.result c.if-is_mate_for.false (c.is_mate_for.ensures.1 mated)) (let few = c.loop-m-test.false in omega (arith, few, ap length c.loop-m.invariant.same)) c.loop-m.invariant.leads), (λ _. refl))
+    ((λ _. leads_all c.args.winner c.args.nodes.now q c.loop-m.m-index (λ mated. both_ways c.is_mate.result c.if-is_mate.false (c.is_mate.ensures.mated.1 mated)) (let few = c.loop-m-test.false in omega (arith, few, ap length c.loop-m.invariant.same)) c.loop-m.invariant.leads), (λ _. refl))

@@ -1,6 +1,6 @@
 use Rattle.std.proofs.Common.{◌≡◌, ◌-◌, Some, slice_get, sym, ap, ◌∙◌}
 use Rattle.cha_moves.specs.Moves.{after}
-use Rattle.cha_decide.specs.MateLines.{mate_lines}
+use Rattle.cha_moves.specs.MateLines.{mate_lines}
 use Rattle.cha_decide.proofs.Lines.{search_finds}
 use Rattle.cha_decide.proofs.searching.+first_mate.Goals as goal
 

@@ -1,6 +1,6 @@
 use Rattle.std.proofs.Common.{◌≡◌, ◌-◌, ◌<◌, drop, flat_map}
-use Rattle.cha_decide.specs.MateLines.{mate_lines}
-use Rattle.cha_decide.proofs.Lines.{begun}
+use Rattle.cha_moves.specs.MateLines.{mate_lines}
+use Rattle.cha_moves.proofs.MateLines.{begun}
 use Rattle.cha_decide.proofs.searching.+first_mate.Given as goal
 
 abbrev pub decreases-first_mate : goal.decreases-first_mate

@@ -1,5 +1,5 @@
 use Rattle.std.proofs.Common.{◌≡◌, ℕ, ◌+◌, ◌<◌, []}
-use Rattle.cha_decide.specs.MateLines.{mate_lines}
+use Rattle.cha_moves.specs.MateLines.{mate_lines}
 use Rattle.cha_decide.proofs.searching.shortest_mate.Given as goal
 
 -- no list of so few moves mates

@@ -4,7 +4,7 @@ use Rattle.cha_board.specs.Men.{is_of}
 use Rattle.cha_board.specs.SquareSets.{squares_in}
 use Rattle.cha_board.specs.SetLaws.{squares_from_first, no_first_square}
 use Rattle.cha_moves.specs.Moves.{is_legal_in, moves_between, moves_from}
-use Rattle.cha_moves.proofs.Pieces.{Contains-cons_here}
+use Rattle.cha_moves.proofs.Contained.{Contains-cons_here}
 use Rattle.cha_moves.proofs.WayLaws.{no_own_move, between_found}
 use Rattle.cha_moves.proofs.GoingLegally.{legal_by_goings, each_goes, some_between}
 use Rattle.cha_moves.proofs.some.any_from.Goals as goal

@@ -1,4 +1,4 @@
--- The lists of legal moves that mate, in the order of moves.
+-- Mate as a test, and the lists of legal moves that mate, in the order of moves.
 use Rattle.std.specs.Prelude.{ℕ, zero, suc, Bool, true, false, ◌&&◌, if◌then◌else◌, List, [], ◌∷◌, map}
 use Rattle.std.specs.List.{flat_map}
 use Rattle.cha_board.specs.declared.men.Color.{Color}
@@ -7,6 +7,7 @@ use Rattle.cha_board.specs.Board.{Board, in_check}
 use Rattle.cha_moves.specs.Step.{Move}
 use Rattle.cha_moves.specs.Moves.{after, legal}
 
+-- there is no move
 abbrev pub is_nil : List Move → Bool
 is_nil [] = true
 is_nil (m ∷ ms) = false

@@ -1,5 +1,5 @@
 -- What a list contains that is filtered, or joined of pieces, and which squares there are.
-use Rattle.std.proofs.Common.{◌≡◌, ℕ, ◌<◌, Bool, true, false, cond, List, [], ◌∷◌, ◌⊎◌, inl, inr, refl, sym, ◌∙◌, ap, subst, arith}
+use Rattle.std.proofs.Common.{◌≡◌, ℕ, ◌<◌, Bool, true, false, cond, List, [], ◌∷◌, map, ◌⊎◌, inl, inr, refl, sym, ◌∙◌, ap, subst, arith}
 use Rattle.std.specs.List.{Contains, filter, flat_map}
 use Rattle.std.proofs.lemmas.List.Elements.{All-contains, All-filter, All-contains_itself, filter_passes, Contains-append_cases, Contains-append_left, Contains-append_right, Contains-push, Contains-push_cases}
 use Rattle.cha_board.specs.Squares.{squares}
@@ -44,6 +44,21 @@ Contains-filter_from p (y ∷ ys) x h e = elim (Contains-cons_cases y ys x h) [
 pub Contains-filter_parts : {X : Type 0} (p : X → Bool) (xs : List X) (x : X) → Contains (filter p xs) x → Contains xs x × (p x ≡ true)
 Contains-filter_parts p xs x h =
     (All-contains (Contains xs) (filter p xs) x (All-filter p (Contains xs) xs (All-contains_itself xs)) h, All-contains (λ y. p y ≡ true) (filter p xs) x (filter_passes p xs) h)
+
+-- the elements of the images
+pub Contains-map_from : {X Y : Type 0} (f : X → Y) (xs : List X) (x : X) → Contains xs x → Contains (map f xs) (f x)
+Contains-map_from f [] x h = absurd (not_in_nothing x h)
+Contains-map_from f (y ∷ ys) x h = elim (Contains-cons_cases y ys x h) [
+  | inl e ↦ Contains-cons_here (f y) (map f ys) (f x) (ap f e)
+  | inr e ↦ Contains-cons_there (f y) (map f ys) (f x) (Contains-map_from f ys x e)
+]
+
+pub Contains-map_parts : {X Y : Type 0} (f : X → Y) (xs : List X) (y : Y) → Contains (map f xs) y → (x : X) × Contains xs x × (f x ≡ y)
+Contains-map_parts f [] y h = absurd (not_in_nothing y h)
+Contains-map_parts f (x ∷ xs) y h = elim (Contains-cons_cases (f x) (map f xs) y h) [
+  | inl e ↦ (x, Contains-cons_here x xs x refl, e)
+  | inr e ↦ (let rest = Contains-map_parts f xs y e in (rest.0, Contains-cons_there x xs rest.0 rest.1, rest.2))
+]
 
 -- the piece that an element of joined pieces is of
 pub Contains-flat_map_parts : {X Y : Type 0} (f : X → List Y) (xs : List X) (y : Y) → Contains (flat_map f xs) y → (x : X) × Contains xs x × Contains (f x) y

@@ -1,0 +1,43 @@
+-- A position that was searched stays so among more entries, and keys tell positions.
+use Rattle.std.proofs.Common.{◌≡◌, ℕ, zero, suc, List, ◌++◌, ap, inl, inr, ◌↔◌}
+use Rattle.std.specs.List.{Contains}
+use Rattle.std.proofs.lemmas.List.Elements.{Contains-append_left, Contains-append_right}
+use Rattle.cha_board.specs.declared.men.Color.{Color}
+use Rattle.cha_board.specs.Board.{Board, IsValid}
+use Rattle.cha_board.proofs.PackedWords.{words_tell}
+use Rattle.cha_moves.specs.Moves.{after}
+use Rattle.cha_fact.specs.Keys.{key_of}
+use Rattle.cha_fact.specs.Entries.{Entry, HasProbe, HasFound, HasStore, IsSearched}
+
+-- each entry of one list is in the other
+abbrev pub Within : List Entry → List Entry → Type 0
+Within some more = (e : Entry) → Contains some e → Contains more e
+
+pub within_both : (before entries behind : List Entry) → Within entries (before ++ entries ++ behind)
+within_both before entries behind e there = Contains-append_left (before ++ entries) behind e (Contains-append_right before entries e there)
+
+probe_stays : (some more : List Entry) → Within some more → (q : Board) (w : Color) → HasProbe some q w → HasProbe more q w
+unfolding HasProbe
+probe_stays some more all q w has = (has.0, all _ has.1)
+
+found_stays : (some more : List Entry) → Within some more → (q : Board) (w : Color) (d : ℕ) → HasFound some q w d → HasFound more q w d
+unfolding HasFound
+found_stays some more all q w d has = (has.0, has.1, has.2, has.3, all _ has.4)
+
+store_stays : (some more : List Entry) → Within some more → (q : Board) (w : Color) (d : ℕ) → HasStore some q w d → HasStore more q w d
+unfolding HasStore
+store_stays some more all q w d has = (has.0, all _ has.1)
+
+pub searched_more : (some more : List Entry) → Within some more → (q : Board) (w : Color) (d : ℕ) → IsSearched some q w d → IsSearched more q w d
+searched_more some more all q w zero done = done
+searched_more some more all q w (suc d) done =
+    elim done [
+      | inl found ↦ inl (found_stays some more all q w (suc d) found)
+      | inr parts ↦ inr (probe_stays some more all q w parts.0, store_stays some more all q w (suc d) parts.1, λ m legal. searched_more some more all (after q m) w d (parts.2 m legal))
+    ]
+
+pub keys_tell : (a b : Board) (v w : Color) → IsValid a → IsValid b → (key_of a v ≡ key_of b w) ↔ ((a ≡ b) × (v ≡ w))
+keys_tell a b v w valid valid' = (
+  (λ e. (words_tell a b valid valid' (ap (λ key. key.packed.words) e), ap (λ key. key.winner) e)),
+  (λ both i. key_of (both.0 i) (both.1 i)),
+)

@@ -1,0 +1,3 @@
+pub mod Truths
+pub mod Keys
+pub mod Entries

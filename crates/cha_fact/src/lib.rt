@@ -1,0 +1,21 @@
+//! What is known of a position and a side, kept so that it is true, and the place that keeps it.
+//!
+//! `line` has lines of at most 64 moves, `fact` what may be known, `key` the name under which it is found, `proved` what is known
+//! and true, `calls` what a place that keeps facts is asked and answers, and `facts` such a place.
+#![tactic(auto)]
+
+mod calls;
+mod fact;
+mod facts;
+mod key;
+mod line;
+mod proved;
+#[cfg(test)]
+mod tests;
+
+pub use calls::{FactCall, FactReply, Probe, Stored};
+pub use fact::Fact;
+pub use facts::{Facts, searched_stays};
+pub use key::{Key, keys_tell_positions};
+pub use line::Line;
+pub use proved::Proved;

@@ -1,0 +1,12 @@
+mod Counting
+mod Prefix
+mod Same
+mod Opened
+mod Drawing
+mod Looking
+mod Serving
+mod Splitting
+mod Joining
+mod Meeting
+mod Closing
+pub mod Sending

@@ -1,0 +1,54 @@
+-- A new cell has the rule.
+use Rattle.std.proofs.Common.{◌≡◌, ◌∙◌, sym, ap, subst, refl, ℕ, ◌+◌, ◌<◌, ◌≤◌, inl, inr, true, false, List, [], ◌∷◌, Some, None, arith, zero, suc}
+use mathlib.Core.Option as maybe
+use lib.ListN.{get_elem?}
+use Rattle.atomic_table.specs.Table.{State, opening}
+use Rattle.turn_cell.specs.Rule.{TakesTurns, Fits}
+use Rattle.turn_cell.specs.Views.{first_view}
+use Rattle.turn_cell.proofs.Looking.{some_is}
+use Rattle.turn_cell.specs.declared.views.View.{View}
+use Rattle.turn_cell.specs.declared.views.Held.{Held}
+use Rattle.std.specs.declared.snapshot.Snapshot.{Snapshot}
+
+one_at : {A : Type 0} (a b : A) (i : ℕ) → get_elem? (a ∷ []) i ≡ maybe.some b → (i ≡ 0) × (a ≡ b)
+one_at a b zero e = (refl, maybe.some-injective a b e)
+one_at a b (suc i) e = absurd (maybe.some-ne-none b (sym e))
+
+module _ {V C R : Type 0} (step : V → C → R → V → Type 0) (key : Snapshot V) (held : Held V C R) (u : V) (has : held.value ≡ Some u) (is : u ≡ key.value) where
+  abbrev begun : View V C R
+  begun = first_view key
+
+  fits : Fits key.value [] 0 begun
+  fits = record {
+    origin = λ o e. let same : key ≡ o = some_is e in ap (λ (x : Snapshot V). x.value) (sym same);
+    before = ([], refl);
+    joined_shorter = ([], refl);
+    own = λ l. refl;
+    own_seen = λ l. refl;
+    joined_number = λ n g. cc;
+    joined_number_seen = λ n g. cc;
+    ticket = λ t e. cc;
+    has_turn = λ e. cc;
+  }
+
+  pub opened : TakesTurns step key.value (opening (0 ∷ 0 ∷ []) (held ∷ []) (first_view key))
+  opened = record {
+    history = [];
+    drawn = 0;
+    made = 0;
+    returned = 0;
+    words = refl;
+    waiting = refl;
+    places = refl;
+    few = omega arith;
+    living = refl;
+    counts = (begun, refl, refl, refl, refl, refl);
+    up_to = λ i v e. (let same : 0 ≡ v.number = ap (λ (x : View V C R). x.number) (one_at begun v i e).1 in omega (arith, same), λ n g. let none : begun.joined_number ≡ Some n = ap (λ (x : View V C R). x.joined_number) (one_at begun v i e).1 ∙ g in cc);
+    above = λ n lt. refl;
+    each = λ i v e. subst (Fits key.value [] 0) (one_at begun v i e).1 fits;
+    numbers = λ i j v w e f lv lw same. (one_at begun v i e).0 ∙ sym (one_at begun w j f).0;
+    away = λ i j n v w e f g lw same. let none : begun.joined_number ≡ Some n = ap (λ (x : View V C R). x.joined_number) (one_at begun v i e).1 ∙ g in cc;
+    tickets = λ i j t v w e f h k. (one_at begun v i e).0 ∙ sym (one_at begun w j f).0;
+    seen_all = (0, begun, refl, refl, refl);
+    slot = inl (held, u, refl, has, is, λ i v e turn. let same : false ≡ v.has_turn = ap (λ (x : View V C R). x.has_turn) (one_at begun v i e).1 in cc);
+  }

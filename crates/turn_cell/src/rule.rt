@@ -1,0 +1,88 @@
+//! The rule of a cell, and the kinds of steps that passes take under it.
+//!
+//! A cell is a ticket lock over a table of two words and one slot. Word 0 is the number served, which is the length of the
+//! history; word 1 is the number of tickets drawn; the slot holds the value. A pass draws a ticket, looks at the number
+//! served until it is that ticket, and then has the turn and the slot. It takes the value out, makes its call, puts the
+//! value back, and adds one to the number served: at that step the call joins the history.
+
+ghost use Rattle.turn_cell.specs.Rule.{TakesTurns};
+ghost use Rattle.turn_cell.specs.Views.{first_view, spent_view, after_split, split_view, after_join};
+ghost use Rattle.turn_cell.specs.Steps.{Draws, Looks, Serves, Meets};
+
+use crate::object::Object;
+use crate::views::{Held, View};
+use atomic_table::{Join, Play, Seat, Shared, Split, Table, TableRule};
+use std::alloc::Global;
+use std::marker::PhantomData;
+use std::snapshot::Snapshot;
+
+/// The rule of a cell whose value is a `V`.
+pub(crate) struct CellRule<V> {
+    object: PhantomData<V>,
+}
+
+impl<V: Object> TableRule<Held<V, V::Call, V::Reply>, View<V, V::Call, V::Reply>, Snapshot<V>>
+    for CellRule<V> {
+    ghost holds = { λ key state. TakesTurns V.step key.value state };
+
+    ghost first = { λ key. first_view key };
+}
+
+/// A ticket is drawn.
+pub(crate) struct Drawing;
+
+impl<V, C, R> Play<Held<V, C, R>, View<V, C, R>> for Drawing {
+    ghost then = { Draws };
+}
+
+/// The number served is looked at.
+pub(crate) struct Looking<V> {
+    object: PhantomData<V>,
+}
+
+impl<V: Object> Play<Held<V, V::Call, V::Reply>, View<V, V::Call, V::Reply>> for Looking<V> {
+    ghost then = { Looks V.step };
+}
+
+/// The next ticket is served, and the call that was made joins the history.
+pub(crate) struct Serving;
+
+impl<V, C, R> Play<Held<V, C, R>, View<V, C, R>> for Serving {
+    ghost then = { Serves };
+}
+
+/// A pass is split off.
+pub(crate) struct Splitting;
+
+impl<V, C, R> Split<View<V, C, R>> for Splitting {
+    ghost left = { after_split };
+
+    ghost right = { split_view };
+}
+
+/// A pass is taken back.
+pub(crate) struct Joining;
+
+impl<V, C, R> Join<View<V, C, R>> for Joining {
+    ghost both = { after_join };
+
+    ghost spent = { spent_view };
+}
+
+/// The number served is looked at after a join, which tells how the two passes fit one history.
+pub(crate) struct Meeting;
+
+impl<V, C, R> Play<Held<V, C, R>, View<V, C, R>> for Meeting {
+    ghost then = { Meets };
+}
+
+/// The words and the slot of a cell, as its owner has them.
+pub(crate) type CellTable<V, C, R> =
+    Table<Held<V, C, R>, View<V, C, R>, Snapshot<V>, CellRule<V>, Global>;
+
+/// The words and the slot of a cell, as its passes see them.
+pub(crate) type CellShared<V, C, R> =
+    Shared<Held<V, C, R>, View<V, C, R>, Snapshot<V>, CellRule<V>>;
+
+/// What a pass steps with.
+pub(crate) type CellSeat<V, C, R> = Seat<Held<V, C, R>, View<V, C, R>>;

@@ -1,10 +1,10 @@
 -- Where one pass alone lives, it has seen all, and the slot is at home.
-use Rattle.std.proofs.Common.{◌≡◌, ◌∙◌, sym, ap, subst, refl, ℕ, ◌+◌, ◌⊎◌, ⊎_elim, Bool, true, false, List, [], ◌∷◌, Some, None, arith}
+use Rattle.std.proofs.Common.{◌≡◌, ◌∙◌, sym, ap, subst, ℕ, ⊎_elim, true, false, List, [], ◌∷◌, Some, arith}
 use mathlib.Core.Option as maybe
 use lib.ListN.{get_elem?}
 use Rattle.atomic_table.specs.Table.{State, Final, Seen}
 use Rattle.turn_cell.proofs.Counting.{only_first}
-use Rattle.turn_cell.proofs.Splitting.{is_first, is_head, splits_known, joins_known}
+use Rattle.turn_cell.proofs.Splitting.{is_first, splits_known, joins_known}
 use Rattle.turn_cell.specs.Histories.{IsLegalHistory}
 use Rattle.turn_cell.specs.Rule.{TakesTurns, lives, count_living}
 use Rattle.turn_cell.specs.declared.views.View.{View}

@@ -1,5 +1,5 @@
 -- How many views wait or live, after a change of one.
-use Rattle.std.proofs.Common.{◌≡◌, ◌∙◌, sym, ap, subst, ℕ, zero, suc, ◌+◌, ◌≤◌, cond, is_some, Some, None, length, List, [], ◌∷◌, ◌++◌, set, arith, Bool, true, false, refl}
+use Rattle.std.proofs.Common.{◌≡◌, sym, ap, subst, ℕ, zero, suc, ◌+◌, ◌≤◌, cond, is_some, Some, None, length, List, [], ◌∷◌, ◌++◌, set, arith, true, refl}
 use Rattle.std.specs.declared.option.Option.{Option}
 use mathlib.Core.Option.{some, some-injective, some-ne-none}
 use lib.ListN.{get_elem?}

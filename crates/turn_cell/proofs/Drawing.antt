@@ -1,12 +1,12 @@
 -- Drawing a ticket keeps the rule.
-use Rattle.std.proofs.Common.{◌≡◌, ◌≢◌, ◌∙◌, sym, ap, subst, refl, ℕ, ◌+◌, ◌%◌, ◌^◌, ◌<◌, ◌≤◌, ◌⊎◌, inl, inr, ⊎_elim, Bool, true, false, List, [], ◌∷◌, length, set, get_or, Some, None, cond, is_some, arith, length-set}
+use Rattle.std.proofs.Common.{◌≡◌, ◌≢◌, ◌∙◌, sym, ap, subst, refl, ℕ, ◌+◌, ◌%◌, ◌^◌, ◌⊎◌, inl, inr, ⊎_elim, true, [], ◌∷◌, length, set, get_or, Some, None, cond, is_some, arith}
 use Rattle.std.proofs.Math.Nat.{mod-add-mod}
 use mathlib.Core.Option as maybe
 use lib.ListN.{get_elem?}
-use Rattle.atomic_table.proofs.Lists.{at_set, set_else, set_here}
+use Rattle.atomic_table.proofs.Lists.{at_set, set_else}
 use Rattle.atomic_table.specs.Table.{State, stepped, keeps}
 use Rattle.turn_cell.proofs.Counting.{waiting_set, one}
-use Rattle.turn_cell.specs.Rule.{TakesTurns, Fits, SlotFits, NoneHasTurn, SomeHasTurn, waits}
+use Rattle.turn_cell.specs.Rule.{TakesTurns, Fits, NoneHasTurn, SomeHasTurn}
 use Rattle.turn_cell.proofs.Same.{head_same, below_same, room_same, numbers_same, departed_same, alive_same, knows_same, Like}
 use Rattle.turn_cell.specs.Views.{with_ticket}
 use Rattle.turn_cell.specs.declared.views.View.{View}

@@ -1,22 +1,20 @@
 -- A pass that is taken returned keeps the rule.
-use Rattle.std.proofs.Common.{◌≡◌, ◌≢◌, ◌∙◌, sym, ap, subst, refl, ℕ, ◌+◌, ◌%◌, ◌^◌, ◌<◌, ◌≤◌, ◌⊎◌, inl, inr, ⊎_elim, Bool, true, false, cond, is_some, List, [], ◌∷◌, ◌++◌, length, filter, set, get_or, Some, None, arith, length-set, length-append, zero, suc}
+use Rattle.std.proofs.Common.{◌≡◌, ◌≢◌, ◌∙◌, sym, ap, subst, refl, ℕ, ◌+◌, ◌≤◌, inl, inr, ⊎_elim, true, false, cond, is_some, List, length, set, Some, None, arith, length-set}
 use mathlib.Core.Option as maybe
 use lib.ListN.{get_elem?}
 use Rattle.atomic_table.proofs.Lists.{set_else}
 use Rattle.atomic_table.specs.Table.{State}
 use mathlib.Core.Logic.{dite}
 use native.Mathlib.Decide.{ℕ_discrete}
-use Rattle.turn_cell.proofs.Counting.{waiting_set, living_set, life_one, life, one}
+use Rattle.turn_cell.proofs.Counting.{waiting_set, living_set, life_one, one}
 use Rattle.turn_cell.proofs.Prefix.{both_in, longer_in, longer_all, longer_all', squeeze}
 use Rattle.turn_cell.proofs.Same.{there, set_there}
-use Rattle.turn_cell.proofs.Splitting.{is_first, is_head, splits_known, joins_known}
-use Rattle.turn_cell.specs.Histories.{IsLegalHistory, IsPrefix, entries_of, entry, longer_of}
-use Rattle.turn_cell.specs.Rule.{NoneAbove}
+use Rattle.turn_cell.proofs.Splitting.{is_first, splits_known, joins_known}
+use Rattle.turn_cell.specs.Histories.{IsPrefix, entries_of, longer_of}
 use Rattle.turn_cell.specs.Views.{shorter_of}
-use Rattle.turn_cell.specs.Rule.{TakesTurns, Fits, SlotFits, NoneHasTurn, SomeHasTurn, OwnNumbers, OwnTickets, FirstCounts, NumbersUpTo, StayAway, SomeHasSeenAll, waits, count_waiting, lives, count_living}
+use Rattle.turn_cell.specs.Rule.{TakesTurns, Fits, SomeHasTurn, OwnNumbers, OwnTickets, SomeHasSeenAll, lives}
 use Rattle.turn_cell.specs.Views.{after_join, spent_view}
 use Rattle.turn_cell.specs.declared.views.View.{View}
-use Rattle.turn_cell.specs.declared.object.Entry.{Entry}
 use Rattle.turn_cell.specs.declared.views.Held.{Held}
 
 module _ {V C R : Type 0} (step : V → C → R → V → Type 0) (start : V) (s : State (Held V C R) (View V C R)) (k : TakesTurns step start s) (id : ℕ) (v : View V C R) (at : get_elem? s.views id ≡ maybe.some v) (live : lives v ≡ true) (first : v.number ≡ 0)
@@ -151,20 +149,26 @@ module _ {V C R : Type 0} (step : V → C → R → V → Type 0) (start : V) (s
   same_at j i u x h e f = maybe.some-injective u x (sym e ∙ (ap (λ n. get_elem? s.views n) h ∙ f))
 
   some_turns : SomeHasTurn s.views → SomeHasTurn views
-  some_turns h = (h.0, h.1, elsewhere h.0 h.1
-      (λ e. let t : v.has_turn ≡ true = ap (λ (x : View V C R). x.has_turn) (sym (same_at h.0 id h.1 v e h.2 at)) ∙ h.3 in let no = no_turn in cc)
-      (λ e. let t : w.has_turn ≡ true = ap (λ (x : View V C R). x.has_turn) (sym (same_at h.0 to h.1 w e h.2 there')) ∙ h.3 in let no = no_turn' in cc) h.2, h.3, h.4)
+  some_turns h = (
+    h.0,
+    h.1,
+    elsewhere h.0 h.1
+        (λ e. let t : v.has_turn ≡ true = ap (λ (x : View V C R). x.has_turn) (sym (same_at h.0 id h.1 v e h.2 at)) ∙ h.3 in let no = no_turn in cc)
+        (λ e. let t : w.has_turn ≡ true = ap (λ (x : View V C R). x.has_turn) (sym (same_at h.0 to h.1 w e h.2 there')) ∙ h.3 in let no = no_turn' in cc) h.2,
+    h.3,
+    h.4,
+  )
 
   seen_all : SomeHasSeenAll k.history views
   seen_all = let h = k.seen_all in dite (ℕ_discrete h.0 id)
       (λ e. let seen : k.history ≡ v.seen = sym h.4 ∙ ap (λ (x : View V C R). x.seen) (same_at h.0 id h.1 v e h.2 at) in
-        let long = ap length seen in
-        (id, one_view, at_one, live, longer_all v.seen w.seen k.history fv.before fw.before (omega (arith, long))))
+      let long = ap length seen in
+      (id, one_view, at_one, live, longer_all v.seen w.seen k.history fv.before fw.before (omega (arith, long))))
       (λ n. dite (ℕ_discrete h.0 to)
-        (λ e. let seen : k.history ≡ w.seen = sym h.4 ∙ ap (λ (x : View V C R). x.seen) (same_at h.0 to h.1 w e h.2 there') in
-          let long = ap length seen in
-          (id, one_view, at_one, live, longer_all' v.seen w.seen k.history fv.before fw.before (omega (arith, long))))
-        (λ n'. (h.0, h.1, elsewhere h.0 h.1 n n' h.2, h.3, h.4)))
+      (λ e. let seen : k.history ≡ w.seen = sym h.4 ∙ ap (λ (x : View V C R). x.seen) (same_at h.0 to h.1 w e h.2 there') in
+      let long = ap length seen in
+      (id, one_view, at_one, live, longer_all' v.seen w.seen k.history fv.before fw.before (omega (arith, long))))
+      (λ n'. (h.0, h.1, elsewhere h.0 h.1 n n' h.2, h.3, h.4)))
 
   pub join_kept : TakesTurns step start (record { words = s.words; homes = s.homes; views = set (set s.views id (after_join v w)) to spent_view })
   join_kept = record {

@@ -1,15 +1,15 @@
 -- Looking at the number that is now_served keeps the rule.
-use Rattle.std.proofs.Common.{◌≡◌, ◌≢◌, ◌∙◌, sym, ap, subst, refl, ℕ, ◌+◌, ◌%◌, ◌^◌, ◌<◌, ◌≤◌, ◌⊎◌, inl, inr, ⊎_elim, Bool, true, false, List, [], ◌∷◌, ◌++◌, length, set, get_or, Some, None, arith, length-set, append-nil, eq-eqb, ne_eqb, nat_eq, MatchBool}
+use Rattle.std.proofs.Common.{◌≡◌, ◌∙◌, sym, ap, subst, refl, ℕ, ◌%◌, ◌^◌, inr, ⊎_elim, true, false, [], ◌∷◌, length, set, get_or, Some, arith, append-nil, eq-eqb, ne_eqb, nat_eq, MatchBool}
 use lib.Seq.{set-get_or}
 use mathlib.Core.Option as maybe
 use lib.ListN.{get_elem?}
-use Rattle.atomic_table.proofs.Lists.{at_set, set_else, set_here, set_again, one_turn}
+use Rattle.atomic_table.proofs.Lists.{set_again, one_turn}
 use Rattle.atomic_table.specs.Table.{State, Me, Step, stepped, keeps, takes}
-use Rattle.turn_cell.proofs.Counting.{waiting_set, waiting_few, one}
-use Rattle.turn_cell.proofs.Same.{there, numbers_same, tickets_same, set_there, head_same, below_same, room_same, departed_same, alive_same, knows_same, knows_this, Like}
-use Rattle.turn_cell.specs.Histories.{IsLegalHistory, IsPrefix, entries_of}
-use Rattle.turn_cell.specs.Rule.{TakesTurns, Fits, SlotFits, NoneHasTurn, SomeHasTurn, waits, count_waiting, lives}
-use Rattle.turn_cell.specs.Steps.{Looks, HasTurn, IsLegalFrom}
+use Rattle.turn_cell.proofs.Counting.{waiting_set, waiting_few}
+use Rattle.turn_cell.proofs.Same.{there, numbers_same, tickets_same, set_there, head_same, below_same, room_same, departed_same, alive_same, knows_this, Like}
+use Rattle.turn_cell.specs.Histories.{IsLegalHistory}
+use Rattle.turn_cell.specs.Rule.{TakesTurns, Fits, SomeHasTurn, lives}
+use Rattle.turn_cell.specs.Steps.{Looks, HasTurn}
 use Rattle.turn_cell.specs.Views.{with_turn}
 use Rattle.turn_cell.specs.declared.views.View.{View}
 use Rattle.turn_cell.specs.declared.views.Held.{Held}
@@ -99,8 +99,8 @@ module _ {V C R : Type 0} (step : V → C → R → V → Type 0) (st : Step (He
   pub tells : Looks step st m found w → MatchBool (nat_eq found ticket) (HasTurn step m.0 w) (w ≡ m)
   tells l = ⊎_elim
       (λ h.
-          let same : t ≡ h.8.0 = some_is (sym has ∙ h.8.1) in
-          let hit : found ≡ ticket = h.8.2 ∙ (ap (λ n. n % 2 ^ 64) (sym same) ∙ sym is) in
-          rw (eq-eqb found ticket hit) (h.0, h.1, h.2, h.3, h.4, h.5, h.6, h.7 ∙ ap (λ xs. (with_turn m.0 h.0, (0, h.1) ∷ xs)) empty))
+      let same : t ≡ h.8.0 = some_is (sym has ∙ h.8.1) in
+      let hit : found ≡ ticket = h.8.2 ∙ (ap (λ n. n % 2 ^ 64) (sym same) ∙ sym is) in
+      rw (eq-eqb found ticket hit) (h.0, h.1, h.2, h.3, h.4, h.5, h.6, h.7 ∙ ap (λ xs. (with_turn m.0 h.0, (0, h.1) ∷ xs)) empty))
       (λ h. rw (ne_eqb found ticket (λ e. h.1 t has (e ∙ is))) h.0)
       l

@@ -1,5 +1,5 @@
 -- Meeting keeps the rule, and tells what a join leaves.
-use Rattle.std.proofs.Common.{◌≡◌, ◌≢◌, ◌∙◌, sym, ap, subst, refl, ℕ, ◌+◌, ◌%◌, ◌^◌, ◌<◌, ◌≤◌, ◌⊎◌, inl, inr, ⊎_elim, Bool, true, false, List, [], ◌∷◌, ◌++◌, length, set, get_or, Some, None, arith, length-set}
+use Rattle.std.proofs.Common.{◌≡◌, ◌∙◌, sym, ap, subst, refl, ℕ, ◌≤◌, inl, inr, ⊎_elim, true, false, List, [], set, get_or, Some, arith}
 use lib.Seq.{set-get_or}
 use mathlib.Core.Option as maybe
 use lib.ListN.{get_elem?}
@@ -10,10 +10,8 @@ use native.Mathlib.Decide.{ℕ_discrete}
 use Rattle.turn_cell.proofs.Counting.{waiting_set, living_set, living_some}
 use Rattle.turn_cell.proofs.Splitting.{splits_known, joins_known}
 use Rattle.turn_cell.proofs.Prefix.{both_in}
-use Rattle.turn_cell.proofs.Same.{there, tickets_same, set_there, alive_same, room_same}
-use Rattle.turn_cell.specs.Histories.{IsPrefix, entries_of, longer_of}
-use Rattle.turn_cell.specs.Views.{shorter_of}
-use Rattle.turn_cell.specs.Rule.{TakesTurns, Fits, SlotFits, NoneHasTurn, SomeHasTurn, OwnNumbers, StayAway, FirstCounts, NumbersUpTo, SomeHasSeenAll, waits, count_waiting, lives}
+use Rattle.turn_cell.proofs.Same.{there, tickets_same, set_there, room_same}
+use Rattle.turn_cell.specs.Rule.{TakesTurns, Fits, NoneHasTurn, SomeHasTurn, FirstCounts, SomeHasSeenAll, lives}
 use Rattle.turn_cell.specs.Passes.{Joined, known_in}
 use Rattle.turn_cell.specs.Steps.{Meets}
 use Rattle.turn_cell.specs.Views.{after_meeting, after_join}
@@ -66,7 +64,7 @@ module _ {V C R : Type 0} (step : V → C → R → V → Type 0) (start : V) (s
   counts : FirstCounts (set s.views id w) k.made k.returned
   counts = let h = k.counts in dite (ℕ_discrete id 0)
       (λ e. let is = sym (same h.0 0 e h.1) in
-        (w, ap (λ i. get_elem? (set s.views id w) i) (sym e) ∙ set_there s.views id v w at, ap (λ (x : View V C R). x.number) is ∙ h.2, ap (λ (x : View V C R). x.splits) is ∙ h.3, ap (λ (x : View V C R). x.joins) is ∙ h.4, ap (λ (x : View V C R). lives x) is ∙ h.5))
+      (w, ap (λ i. get_elem? (set s.views id w) i) (sym e) ∙ set_there s.views id v w at, ap (λ (x : View V C R). x.number) is ∙ h.2, ap (λ (x : View V C R). x.splits) is ∙ h.3, ap (λ (x : View V C R). x.joins) is ∙ h.4, ap (λ (x : View V C R). lives x) is ∙ h.5))
       (λ e. (h.0, set_else s.views id 0 w (λ z. e (sym z)) ∙ h.1, h.2, h.3, h.4, h.5))
 
   seen_all : SomeHasSeenAll k.history (set s.views id w)

@@ -1,8 +1,8 @@
 -- A new cell has the rule.
-use Rattle.std.proofs.Common.{◌≡◌, ◌∙◌, sym, ap, subst, refl, ℕ, ◌+◌, ◌<◌, ◌≤◌, inl, inr, true, false, List, [], ◌∷◌, Some, None, arith, zero, suc}
+use Rattle.std.proofs.Common.{◌≡◌, ◌∙◌, sym, ap, subst, refl, ℕ, inl, false, [], ◌∷◌, Some, arith, zero, suc}
 use mathlib.Core.Option as maybe
 use lib.ListN.{get_elem?}
-use Rattle.atomic_table.specs.Table.{State, opening}
+use Rattle.atomic_table.specs.Table.{opening}
 use Rattle.turn_cell.specs.Rule.{TakesTurns, Fits}
 use Rattle.turn_cell.specs.Views.{first_view}
 use Rattle.turn_cell.proofs.Looking.{some_is}

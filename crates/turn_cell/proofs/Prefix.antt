@@ -1,5 +1,5 @@
 -- Prefixes of one history.
-use Rattle.std.proofs.Common.{◌≡◌, ◌∙◌, sym, ap, subst, refl, ℕ, zero, suc, ◌+◌, ◌≤◌, ◌<◌, Bool, true, false, cond, length, List, [], ◌∷◌, ◌++◌, filter, arith, length-append, append-nil, append_assoc, nat_eq, nat_lt}
+use Rattle.std.proofs.Common.{◌≡◌, ◌∙◌, sym, ap, subst, refl, ℕ, ◌≤◌, ◌<◌, Bool, true, false, cond, length, List, [], ◌∷◌, ◌++◌, arith, length-append, append-nil, append_assoc, nat_eq, nat_lt}
 use Rattle.std.proofs.lemmas.List.Elements.{filter-append}
 use Rattle.std.proofs.lemmas.Bool.{ltb-true, ltb-false}
 use Rattle.turn_cell.specs.Histories.{IsPrefix, entries_of, longer_of}
@@ -64,12 +64,12 @@ module _ {C R : Type 0} (n : ℕ) where
 -- both lists of a join
 module _ {C R : Type 0} (xs ys history : List (Entry C R)) where
   choose : (b : Bool) → nat_lt (length xs) (length ys) ≡ b → (P : List (Entry C R) → List (Entry C R) → Type 0)
-    → (length xs < length ys → P ys xs) → (length ys ≤ length xs → P xs ys) → P (cond b ys xs) (cond b xs ys)
+      → (length xs < length ys → P ys xs) → (length ys ≤ length xs → P xs ys) → P (cond b ys xs) (cond b xs ys)
   choose true e P f g = f (ltb-true (length xs) (length ys) e)
   choose false e P f g = g (ltb-false (length xs) (length ys) e)
 
   pub either_way : (P : List (Entry C R) → List (Entry C R) → Type 0)
-    → (length xs < length ys → P ys xs) → (length ys ≤ length xs → P xs ys) → P (longer_of xs ys) (shorter_of xs ys)
+      → (length xs < length ys → P ys xs) → (length ys ≤ length xs → P xs ys) → P (longer_of xs ys) (shorter_of xs ys)
   either_way P f g = choose (nat_lt (length xs) (length ys)) refl P f g
 
   pub longer_in : IsPrefix xs history → IsPrefix ys history → IsPrefix (longer_of xs ys) history × IsPrefix (shorter_of xs ys) history

@@ -1,5 +1,5 @@
 -- A change of one view that keeps its number, and whether it lives.
-use Rattle.std.proofs.Common.{◌≡◌, ◌≢◌, ◌∙◌, sym, ap, subst, ℕ, ◌⊎◌, ⊎_elim, ◌≤◌, length, length-set, ◌+◌, List, [], ◌∷◌, zero, suc, refl, set, arith, true, cond, Some, is_some}
+use Rattle.std.proofs.Common.{◌≡◌, ◌≢◌, ◌∙◌, sym, ap, subst, ℕ, ◌⊎◌, ⊎_elim, ◌≤◌, length, length-set, ◌+◌, List, [], ◌∷◌, zero, suc, refl, set, arith, true, cond, is_some}
 use mathlib.Core.Option as maybe
 use lib.ListN.{get_elem?}
 use Rattle.atomic_table.proofs.Lists.{at_set, set_else}
@@ -58,12 +58,14 @@ module _ {V C R : Type 0} (views : List (View V C R)) (id : ℕ) (v w : View V C
 
   pub head_same : (made returned : ℕ) → Like v w → v.splits ≡ w.splits → v.joins ≡ w.joins → FirstCounts views made returned → FirstCounts (set views id w) made returned
   head_same made returned l splits joins h = dite (ℕ_discrete id 0)
-      (λ e. let same : h.0 ≡ v = maybe.some-injective h.0 v (sym h.1 ∙ (ap (λ i. get_elem? views i) (sym e) ∙ at)) in
-        (w, ap (λ i. get_elem? (set views id w) i) (sym e) ∙ set_there views id v w at,
-          sym l.number ∙ (ap (λ (x : View V C R). x.number) (sym same) ∙ h.2),
-          sym splits ∙ (ap (λ (x : View V C R). x.splits) (sym same) ∙ h.3),
-          sym joins ∙ (ap (λ (x : View V C R). x.joins) (sym same) ∙ h.4),
-          ap (λ o. is_some o) (sym l.origin) ∙ (ap (λ (x : View V C R). lives x) (sym same) ∙ h.5)))
+      (λ e. let same : h.0 ≡ v = maybe.some-injective h.0 v (sym h.1 ∙ (ap (λ i. get_elem? views i) (sym e) ∙ at)) in (
+        w,
+        ap (λ i. get_elem? (set views id w) i) (sym e) ∙ set_there views id v w at,
+        sym l.number ∙ (ap (λ (x : View V C R). x.number) (sym same) ∙ h.2),
+        sym splits ∙ (ap (λ (x : View V C R). x.splits) (sym same) ∙ h.3),
+        sym joins ∙ (ap (λ (x : View V C R). x.joins) (sym same) ∙ h.4),
+        ap (λ o. is_some o) (sym l.origin) ∙ (ap (λ (x : View V C R). lives x) (sym same) ∙ h.5),
+      ))
       (λ e. (h.0, set_else views id 0 w (λ z. e (sym z)) ∙ h.1, h.2, h.3, h.4, h.5))
 
   pub below_same : (made : ℕ) → Like v w → NumbersUpTo views made → NumbersUpTo (set views id w) made
@@ -83,7 +85,7 @@ module _ {V C R : Type 0} (views : List (View V C R)) (id : ℕ) (v w : View V C
   pub knows_same : (history : List (Entry C R)) → Like v w → (v.seen ≡ history → w.seen ≡ history) → SomeHasSeenAll history views → SomeHasSeenAll history (set views id w)
   knows_same history l keeps h = dite (ℕ_discrete id h.0)
       (λ e. let same : h.1 ≡ v = maybe.some-injective h.1 v (sym h.2 ∙ (ap (λ i. get_elem? views i) (sym e) ∙ at)) in
-        (id, w, set_there views id v w at, ap (λ o. is_some o) (sym l.origin) ∙ (ap (λ (x : View V C R). lives x) (sym same) ∙ h.3), keeps (ap (λ (x : View V C R). x.seen) (sym same) ∙ h.4)))
+      (id, w, set_there views id v w at, ap (λ o. is_some o) (sym l.origin) ∙ (ap (λ (x : View V C R). lives x) (sym same) ∙ h.3), keeps (ap (λ (x : View V C R). x.seen) (sym same) ∙ h.4)))
       (λ e. (h.0, h.1, set_else views id h.0 w (λ z. e (sym z)) ∙ h.2, h.3, h.4))
 
   -- the view that has all of the history

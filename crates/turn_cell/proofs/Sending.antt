@@ -1,6 +1,6 @@
 -- Passes and cells may go to other threads where the value may.
 use denote.RattleType.{RattleType}
-use denote.Param.Send.{IsSend, IsSync, sendable, struct_send, such_send, recorded_send, param_send, AllSend}
+use denote.Param.Send.{IsSend, IsSync, sendable}
 use Rattle.std.proofs.Crossing.{crosses}
 use Rattle.turn_cell.specs.declared.object.Object.{Ghosts}
 use Rattle.turn_cell.specs.contracts.cells.Pass.{the_row}

@@ -1,5 +1,5 @@
 -- Serving keeps the rule.
-use Rattle.std.proofs.Common.{◌≡◌, ◌≢◌, ◌∙◌, sym, ap, subst, refl, ℕ, ◌+◌, ◌%◌, ◌^◌, ◌<◌, ◌≤◌, ◌⊎◌, inl, inr, ⊎_elim, Bool, true, false, cond, is_some, List, [], ◌∷◌, ◌++◌, length, filter, set, get_or, Some, None, arith, length-set, length-append, append-nil, append_assoc, eq-eqb, ne_eqb, nat_eq}
+use Rattle.std.proofs.Common.{◌≡◌, ◌≢◌, ◌∙◌, sym, ap, subst, refl, ℕ, ◌+◌, ◌%◌, ◌^◌, inl, ⊎_elim, true, cond, is_some, List, [], ◌∷◌, ◌++◌, length, set, get_or, Some, arith, length-append, append-nil, append_assoc, eq-eqb, ne_eqb, nat_eq}
 use Rattle.std.proofs.Math.Nat.{mod-add-mod}
 use Rattle.std.proofs.lemmas.List.Elements.{filter-append}
 use mathlib.Core.Option as maybe
@@ -8,7 +8,7 @@ use Rattle.atomic_table.specs.Table.{State, Me, Step, Act, Valid, carried_after,
 use Rattle.turn_cell.proofs.Counting.{waiting_set, one}
 use Rattle.turn_cell.proofs.Same.{there, numbers_same, head_same, below_same, room_same, departed_same, alive_same, knows_this, Like}
 use Rattle.turn_cell.specs.Histories.{IsLegalHistory, IsPrefix, entries_of, entry}
-use Rattle.turn_cell.specs.Rule.{TakesTurns, Fits, SlotFits, NoneHasTurn, SomeHasTurn, OwnTickets, waits, count_waiting, lives}
+use Rattle.turn_cell.specs.Rule.{TakesTurns, Fits, NoneHasTurn, OwnTickets, lives}
 use Rattle.turn_cell.specs.Passes.{Turned, known_in}
 use Rattle.turn_cell.specs.Steps.{Serves}
 use Rattle.turn_cell.specs.Views.{with_ticket, with_turn, after_call}
@@ -133,7 +133,7 @@ pub serves_goes : {V C R : Type 0} (step : V → C → R → V → Type 0) (star
 serves_goes {V} {C} {R} step start s k id found st m v call reply u is at turns live legal =
     let held : Held V C R = record { value = Some u; said = Some (record { call = call; reply = reply }) } in
     let P : Me (Held V C R) (View V C R) → Type 0 = λ x. get_elem? s.views id ≡ maybe.some x.0
-      → (w : View V C R) × (a : Act (Held V C R)) × Valid s.homes x.1 a × TakesTurns step start (stepped s 0 ((get_or s.words 0 0 + 1) % 2 ^ 64) id x.1 w a) × Serves st x found (w, carried_after x.1 a) in
+    → (w : View V C R) × (a : Act (Held V C R)) × Valid s.homes x.1 a × TakesTurns step start (stepped s 0 ((get_or s.words 0 0 + 1) % 2 ^ 64) id x.1 w a) × Serves st x found (w, carried_after x.1 a) in
     let here : P (v, (0, held) ∷ []) = λ at'. (after_call v call.value reply.value, gives, tt, served_kept step start s k id v at' turns live held call.value reply.value u refl legal, refl) in
     let goes : P m = subst P (sym is) here in
     goes at

@@ -1,21 +1,18 @@
 -- A new pass keeps the rule.
-use Rattle.std.proofs.Common.{◌≡◌, ◌≢◌, ◌∙◌, sym, ap, subst, refl, ℕ, ◌+◌, ◌%◌, ◌^◌, ◌<◌, ◌≤◌, ◌⊎◌, inl, inr, ⊎_elim, Bool, true, false, cond, is_some, List, [], ◌∷◌, ◌++◌, length, filter, set, get_or, Some, None, arith, length-set, length-append, nat_eq, zero, suc}
-use Rattle.std.proofs.lemmas.List.Elements.{filter-append}
+use Rattle.std.proofs.Common.{◌≡◌, ◌∙◌, sym, ap, subst, refl, ℕ, ◌+◌, ◌<◌, ◌⊎◌, inl, inr, ⊎_elim, true, List, [], ◌∷◌, ◌++◌, length, set, Some, arith, length-set, length-append, zero, suc}
 use mathlib.Core.Option as maybe
 use lib.ListN.{get_elem?}
-use Rattle.atomic_table.proofs.Lists.{at_longer, at_last, set_else}
+use Rattle.atomic_table.proofs.Lists.{at_longer, set_else}
 use Rattle.atomic_table.specs.Table.{State}
 use mathlib.Core.Logic.{dite}
 use native.Mathlib.Decide.{ℕ_discrete}
-use Rattle.turn_cell.proofs.Counting.{waiting_set, waiting_more, living_set, living_more, life_one, life, one}
+use Rattle.turn_cell.proofs.Counting.{waiting_set, waiting_more, living_more, life_one}
 use Rattle.turn_cell.proofs.Prefix.{none_seen}
 use Rattle.turn_cell.proofs.Same.{there, numbers_same, tickets_same, departed_same, knows_same, below_same, alive_same, set_there, Like}
-use Rattle.turn_cell.specs.Histories.{IsLegalHistory, IsPrefix, entries_of, entry}
-use Rattle.turn_cell.specs.Rule.{NoneAbove}
-use Rattle.turn_cell.specs.Rule.{TakesTurns, Fits, SlotFits, NoneHasTurn, SomeHasTurn, OwnNumbers, OwnTickets, FirstCounts, NumbersUpTo, StayAway, SomeHasSeenAll, waits, count_waiting, lives, count_living}
+use Rattle.turn_cell.specs.Histories.{entries_of}
+use Rattle.turn_cell.specs.Rule.{TakesTurns, Fits, NoneHasTurn, SomeHasTurn, OwnNumbers, OwnTickets, NumbersUpTo, StayAway, SomeHasSeenAll, lives}
 use Rattle.turn_cell.specs.Views.{after_split, split_view}
 use Rattle.turn_cell.specs.declared.views.View.{View}
-use Rattle.turn_cell.specs.declared.object.Entry.{Entry}
 use Rattle.turn_cell.specs.declared.views.Held.{Held}
 
 snoc_at : {A : Type 0} (l : List A) (a b : A) (j : ℕ) → get_elem? (l ++ a ∷ []) j ≡ maybe.some b → (get_elem? l j ≡ maybe.some b) ⊎ ((j ≡ length l) × (a ≡ b))
@@ -105,9 +102,9 @@ module _ {V C R : Type 0} (step : V → C → R → V → Type 0) (start : V) (s
   away : StayAway views
   away i j n a b e f joined_number lb same = ⊎_elim
       (λ x. ⊎_elim
-        (λ y. departed_same s.views id v left at like k.away i j n a b x y joined_number lb same)
-        (λ y. let m = (mid_below i a x).1 n joined_number in let g = known in let r = number_right b y.1 in omega (arith, m, g, r, same))
-        (where_is j b f))
+      (λ y. departed_same s.views id v left at like k.away i j n a b x y joined_number lb same)
+      (λ y. let m = (mid_below i a x).1 n joined_number in let g = known in let r = number_right b y.1 in omega (arith, m, g, r, same))
+      (where_is j b f))
       (λ x. none_gone n a x.1 joined_number)
       (where_is i a e)
 
@@ -129,7 +126,7 @@ module _ {V C R : Type 0} (step : V → C → R → V → Type 0) (start : V) (s
   some_turns : SomeHasTurn s.views → SomeHasTurn views
   some_turns h = dite (ℕ_discrete id h.0)
       (λ e. let same : h.1 ≡ v = maybe.some-injective h.1 v (sym h.2 ∙ (ap (λ i. get_elem? s.views i) (sym e) ∙ at)) in
-        (id, left, at_longer mid (right ∷ []) id left (set_there s.views id v left at), ap (λ (x : View V C R). x.has_turn) (sym same) ∙ h.3, live))
+      (id, left, at_longer mid (right ∷ []) id left (set_there s.views id v left at), ap (λ (x : View V C R). x.has_turn) (sym same) ∙ h.3, live))
       (λ e. (h.0, h.1, at_longer mid (right ∷ []) h.0 h.1 (set_else s.views id h.0 left (λ z. e (sym z)) ∙ h.2), h.3, h.4))
 
   seen_all : SomeHasSeenAll k.history views

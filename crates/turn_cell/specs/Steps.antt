@@ -22,8 +22,8 @@ module _ {V C R : Type 0} where
   abbrev pub Looks : (V → C → R → V → Type 0) → Step (Held V C R) → Me (Held V C R) (View V C R) → ℕ → Me (Held V C R) (View V C R) → Type 0
   Looks step s old found new =
       ((history : List (Entry C R)) × (held : Held V C R) × (value : V) × IsPrefix old.0.seen history × (entries_of old.0.number history ≡ old.0.mine)
-        × (held.value ≡ Some value) × IsLegalFrom step old.0.origin history value × (new ≡ (with_turn old.0 history, (0, held) ∷ old.1))
-        × ((t : ℕ) × (old.0.ticket ≡ Some t) × (found ≡ t % 2 ^ 64)))
+      × (held.value ≡ Some value) × IsLegalFrom step old.0.origin history value × (new ≡ (with_turn old.0 history, (0, held) ∷ old.1))
+      × ((t : ℕ) × (old.0.ticket ≡ Some t) × (found ≡ t % 2 ^ 64)))
       ⊎ ((new ≡ old) × ((t : ℕ) → old.0.ticket ≡ Some t → found ≢ t % 2 ^ 64))
 
   -- a pass that had this view has the turn, and the slot with the value that the whole history leaves

@@ -17,6 +17,5 @@ mod views;
 pub use cells::{Pass, Still, TurnCell};
 pub use object::{Entry, Object};
 
-
 #[cfg(test)]
 mod tests;

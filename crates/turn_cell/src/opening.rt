@@ -25,7 +25,13 @@ pub(crate) fn value_of<V: Object>(held: Held<V, V::Call, V::Reply>) -> V
 pub(crate) fn open<V: Object>(
     alloc: Global,
     value: V,
-) -> Result<(CellTable<V, V::Call, V::Reply>, CellSeat<V, V::Call, V::Reply>), (V, NoMemory)>
+) -> Result<
+    (
+        CellTable<V, V::Call, V::Reply>,
+        CellSeat<V, V::Call, V::Reply>,
+    ),
+    (V, NoMemory),
+>
     ensures table { IfOk result (λ t. (t.1.table_id ≡ t.0.shared.table_id) × (t.0.shared.table_id.words ≡ 2) × (t.0.shared.table_id.slots ≡ 1)) }
     ensures key { IfOk result (λ t. t.0.shared.key.value ≡ value) }
     ensures seat { IfOk result (λ t. t.1.me ≡ (first_view t.0.shared.key, [])) }
@@ -47,7 +53,9 @@ pub(crate) fn open<V: Object>(
         Ok(both) => Ok(both),
         Err(refused) => {
             let Refused { mut slots } = refused;
-            let Some(held) = slots.pop() else { unreachable!() };
+            let Some(held) = slots.pop() else {
+                unreachable!()
+            };
             slots.destroy_empty();
             Err((value_of(held), NoMemory))
         }

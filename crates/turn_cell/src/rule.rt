@@ -77,12 +77,21 @@ impl<V, C, R> Play<Held<V, C, R>, View<V, C, R>> for Meeting {
 }
 
 /// The words and the slot of a cell, as its owner has them.
-pub(crate) type CellTable<V, C, R> =
-    Table<Held<V, C, R>, View<V, C, R>, Snapshot<V>, CellRule<V>, Global>;
+pub(crate) type CellTable<V, C, R> = Table<
+    Held<V, C, R>,
+    View<V, C, R>,
+    Snapshot<V>,
+    CellRule<V>,
+    Global,
+>;
 
 /// The words and the slot of a cell, as its passes see them.
-pub(crate) type CellShared<V, C, R> =
-    Shared<Held<V, C, R>, View<V, C, R>, Snapshot<V>, CellRule<V>>;
+pub(crate) type CellShared<V, C, R> = Shared<
+    Held<V, C, R>,
+    View<V, C, R>,
+    Snapshot<V>,
+    CellRule<V>,
+>;
 
 /// What a pass steps with.
 pub(crate) type CellSeat<V, C, R> = Seat<Held<V, C, R>, View<V, C, R>>;

@@ -4,7 +4,6 @@ ghost use Rattle.std.specs.Prelude.{◌≡◌, ◌+◌, ◌^◌, ◌%◌};
 ghost use Rattle.turn_cell.specs.Passes.{number, splits, IsOf, IsFirst};
 
 use crate::{Object, Pass, Still, TurnCell};
-
 use std::rt::HostRuntime;
 use std::sync::Wait;
 use std::thread;
@@ -44,14 +43,14 @@ fn add_a_thousand<R: Wait>(rt: &R, cell: &TurnCell<Sum>, mut pass: Pass<Sum>) ->
     pass
 }
 
-// Splits a pass off, adds one with it and takes it back, a hundred times.
+// Splits a pass off, adds a number with it and takes it back, for each number from 0 to 99.
 fn split_and_join<R: Wait>(rt: &R, cell: &TurnCell<Sum>, mut first: Pass<Sum>) -> Pass<Sum>
     requires { IsOf cell.now first × IsFirst first × (splits first ≡ 0) }
     ensures { IsOf cell.now result × IsFirst result }
 {
-    for _ in 0..100 {
+    for number in 0..100 {
         let mut other = cell.split(&mut first);
-        cell.turn(rt, &mut other, 1);
+        cell.turn(rt, &mut other, number);
         cell.join(&mut first, other);
     }
     first
@@ -107,7 +106,7 @@ fn a_hundred_passes_come_and_go(rt: HostRuntime) {
     let first = split_and_join(&rt, &cell, first);
     assert_eq!(rt; first.splits(), 100);
     match cell.close(first) {
-        Ok(sum) => assert_eq!(rt; sum.total, 100),
+        Ok(sum) => assert_eq!(rt; sum.total, 4950),
         Err(_) => panic!(rt; "a pass is still out"),
     }
 }

@@ -1,4 +1,4 @@
-use Rattle.std.proofs.Common.{◌≡◌, ◌∙◌, ◌∷◌, ◌++◌, [], ap, sym, subst, refl, Some, None, false}
+use Rattle.std.proofs.Common.{◌≡◌, ◌∙◌, ◌∷◌, ◌++◌, [], ap, sym, subst, refl, Some, None}
 use Rattle.atomic_table.specs.Table.{opening}
 use Rattle.turn_cell.specs.Rule.{TakesTurns}
 use Rattle.turn_cell.specs.Views.{first_view}

@@ -1,4 +1,4 @@
-use Rattle.std.proofs.Common.{◌≡◌, ◌∙◌, arith, ap, is_some}
+use Rattle.std.proofs.Common.{arith, ap, is_some}
 use Rattle.turn_cell.proofs.Splitting.{split_kept}
 use Rattle.turn_cell.proofs.sharing.split_off.Goals as goal
 

@@ -1,4 +1,4 @@
-use Rattle.std.proofs.Common.{◌≡◌, ◌∙◌, sym, ap, refl, arith, get_or}
+use Rattle.std.proofs.Common.{ap, refl, arith, get_or}
 use Rattle.atomic_table.specs.Table.{keeps}
 use Rattle.turn_cell.specs.Views.{with_ticket}
 use Rattle.turn_cell.proofs.Drawing.{drawn_kept}

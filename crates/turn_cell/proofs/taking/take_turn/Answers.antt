@@ -1,4 +1,4 @@
-use Rattle.std.proofs.Common.{◌≡◌, ◌∙◌, sym, ap, subst, refl, Some, None, [], ◌∷◌}
+use Rattle.std.proofs.Common.{◌≡◌, ◌∙◌, ap, subst, refl, None, ◌∷◌}
 use Rattle.turn_cell.specs.Histories.{IsPrefix, entries_of}
 use Rattle.turn_cell.specs.Views.{with_turn}
 use Rattle.turn_cell.proofs.Serving.{turn_told}
@@ -19,6 +19,6 @@ returns-clause-turned g c =
     let v1 = ap (λ m. m.0) d.2 in
     let h = c.wait_turn.ensures.turn in
     turn_told g.V.Object.step c.args.shared.now.key.value c.args.seat.now.me.0 d.0 c.args.call c.serve.result h.0
-      (subst (λ v. IsPrefix v.seen h.0) v1 h.3) (subst (λ v. entries_of v.number h.0 ≡ v.mine) v1 h.4)
-      c.exchange-taken.new.seat.me.0 c.serve.new.seat.me.0
-      (ap (λ m. m.0) c.exchange-taken.ensures.3 ∙ (ap (λ m. m.0) h.7 ∙ ap (λ v. with_turn v h.0) v1)) (ap (λ m. m.0) c.serve.ensures.entry) c.serve.ensures.legal
+    (subst (λ v. IsPrefix v.seen h.0) v1 h.3) (subst (λ v. entries_of v.number h.0 ≡ v.mine) v1 h.4)
+    c.exchange-taken.new.seat.me.0 c.serve.new.seat.me.0
+    (ap (λ m. m.0) c.exchange-taken.ensures.3 ∙ (ap (λ m. m.0) h.7 ∙ ap (λ v. with_turn v h.0) v1)) (ap (λ m. m.0) c.serve.ensures.entry) c.serve.ensures.legal

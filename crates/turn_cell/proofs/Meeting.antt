@@ -104,13 +104,14 @@ module _ {V C R : Type 0} (v w : View V C R) (st : Step (Held V C R)) (found : �
   from_joined : (rest : List (ℕ × Held V C R)) → Meets st (after_join v w, rest) found u → Joined (known_in v) (known_in w) (known_in u.0)
   from_joined rest l =
       let parts = both_in v.seen w.seen l.0 l.1 l.2 in
-      let is : u.0 ≡ after_meeting (after_join v w) = ap (λ x. x.0) l.5 in
+      let is : u.0 ≡ after_meeting (after_join v w) = ap (λ x. x.0) l.6 in
       let whole : Joined (known_in v) (known_in w) (known_in (after_meeting (after_join v w))) = record {
         seen = refl;
         mine = refl;
         known_before = parts.0;
         known_other = parts.1;
         others_own = l.3 w.number refl;
+        own = l.4;
         joins = refl;
         same = (refl, refl);
       } in

@@ -15,7 +15,7 @@ pub record Known (C R : Type 0) : Type 0 where
   pub splits : ℕ
   pub joins : ℕ
 
--- the same, in all that the rule of a cell keeps of a pass
+-- that much of what the rule of a cell keeps of a pass
 abbrev pub known_in : {V C R : Type 0} → View V C R → Known C R
 known_in view = record { number = view.number; seen = view.seen; mine = view.mine; splits = view.splits; joins = view.joins }
 
@@ -77,12 +77,13 @@ module _ {C R : Type 0} where
     pub splits : new.splits ≡ old.splits + 1
     pub same : (new.number ≡ old.number) × (new.seen ≡ old.seen) × (new.mine ≡ old.mine) × (new.joins ≡ old.joins)
 
-  -- another pass was taken back: the pass knows what either knew, and the other's entries there are its own
+  -- another pass was taken back: the pass knows what either knew, and the entries there of each are those that it had made
   pub record Joined (old other new : Known C R) : Type 0 where
     pub seen : new.seen ≡ longer_of old.seen other.seen
     pub known_before : IsPrefix old.seen new.seen
     pub known_other : IsPrefix other.seen new.seen
     pub others_own : entries_of other.number new.seen ≡ other.mine
+    pub own : entries_of old.number new.seen ≡ new.mine
     pub mine : new.mine ≡ old.mine
     pub joins : new.joins ≡ old.joins + 1
     pub same : (new.number ≡ old.number) × (new.splits ≡ old.splits)

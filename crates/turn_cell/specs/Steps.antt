@@ -36,7 +36,7 @@ module _ {V C R : Type 0} where
   Serves s (v, []) found new = Unit {0}
   Serves s (v, (x ∷ xs)) found new = IfSome x.1.said (λ said. new ≡ (after_call v said.call.value said.reply.value, xs))
 
-  -- both lists of a join are prefixes of one history, the joined pass's entries in it are those that it knew, and no more passes came back than were made
+  -- both lists of a join are prefixes of one history, the entries of both passes in it are those that each knew, and no more passes came back than were made
   abbrev pub Meets : Step (Held V C R) → Me (Held V C R) (View V C R) → ℕ → Me (Held V C R) (View V C R) → Type 0
   Meets s old found new = (history : List (Entry C R)) × IsPrefix old.0.seen history × IsPrefix old.0.joined_shorter history
-      × ((n : ℕ) → old.0.joined_number ≡ Some n → entries_of n old.0.seen ≡ old.0.joined_mine) × (old.0.joins ≤ old.0.splits) × (new ≡ (after_meeting old.0, old.1))
+      × ((n : ℕ) → old.0.joined_number ≡ Some n → entries_of n old.0.seen ≡ old.0.joined_mine) × (entries_of old.0.number old.0.seen ≡ old.0.mine) × (old.0.joins ≤ old.0.splits) × (new ≡ (after_meeting old.0, old.1))

@@ -29,7 +29,7 @@ load-requires g c =
       e.0 ∙ r.table.0,
       omega (arith, r.table.2),
       λ s k len at lt.
-          (after_meeting m.0, keeps, tt, met_kept _ _ s k c.join_seat.new.seat.id m.0 at no_turn, (k.history, (k.each _ _ at).before, (k.each _ _ at).joined_shorter, (k.each _ _ at).joined_number_seen, fewer_back _ _ s k c.join_seat.new.seat.id m.0 at live first, refl)),
+          (after_meeting m.0, keeps, tt, met_kept _ _ s k c.join_seat.new.seat.id m.0 at no_turn, (k.history, (k.each _ _ at).before, (k.each _ _ at).joined_shorter, (k.each _ _ at).joined_number_seen, (k.each _ _ at).own_seen live, fewer_back _ _ s k c.join_seat.new.seat.id m.0 at live first, refl)),
     )
 
 pub returns-clause-joined : goal.returns-clause-joined

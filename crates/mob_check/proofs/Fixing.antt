@@ -5,15 +5,13 @@ use Rattle.std.proofs.lemmas.Bool.{cases_eq, cases_lt, eq-eqb, ne_eqb}
 use Rattle.std.proofs.lemmas.List.{ext_get_or, get_or_past, get_or-set_same, get_or-set_other}
 use Rattle.std.proofs.lemmas.List.FromFn.{length-map-range_with_len, get_or-map-range_with_len}
 use Rattle.std.proofs.Common.{zero-add}
-use Rattle.cha_board.specs.declared.men.Color.{Color}
 use Rattle.cha_board.specs.declared.men.Man.{Man}
-use Rattle.cha_board.specs.Men.{other_color, is_vacant, is_non_king}
+use Rattle.cha_board.specs.Men.{is_vacant}
 use Rattle.cha_board.specs.Squares.{squares, between}
 use Rattle.cha_board.specs.Board.{Board, man_at, is_empty, is_clear}
-use Rattle.mob_law.specs.Reach.{Sets, is_fixed, is_open, is_open_through, guards_as, guards_from, is_guarded}
-use Rattle.mob_law.specs.Closed.{has_fixed_enemy}
-use Rattle.mob_check.specs.FixedMen.{fixed_man, fixed_men, has_guard}
-use Rattle.mob_check.proofs.Loops.{any_same}
+use Rattle.mob_law.specs.Reach.{is_fixed, is_open, is_open_through}
+use Rattle.mob_sets.specs.Mobility.{Sets}
+use Rattle.mob_check.specs.FixedMen.{fixed_man, fixed_men}
 
 pub length-fixed_men : (p : Board) (s : Sets) → length (fixed_men p s) ≡ 64
 unfolding fixed_men squares
@@ -45,19 +43,6 @@ vacant_or_loose true (Some man) = refl
 vacant_or_loose false None = refl
 vacant_or_loose false (Some man) = refl
 
-non_king_or_loose : (c : Color) (l : Bool) (o : Option Man) → is_non_king c (if l then None else o) ≡ ((not (is_vacant o) && not l) && is_non_king c o)
-non_king_or_loose c true None = refl
-non_king_or_loose c true (Some man) = refl
-non_king_or_loose c false None = refl
-non_king_or_loose c false (Some man) = refl
-
-guards_or_loose : (c : Color) (f t : ℕ) (l : Bool) (o : Option Man) → guards_as c f t (if l then None else o) ≡ ((not (is_vacant o) && not l) && guards_as c f t o)
-unfolding guards_as
-guards_or_loose c f t true None = refl
-guards_or_loose c f t true (Some man) = refl
-guards_or_loose c f t false None = refl
-guards_or_loose c f t false (Some man) = refl
-
 -- What the board of the fixed men shows, for a position of 64 squares.
 module _ (p : Board) (s : Sets) (size : length p.men ≡ 64) where
   pub fixed_is : (f : ℕ) → not (is_empty (fixed_men p s) f) ≡ is_fixed p s f
@@ -73,16 +58,6 @@ module _ (p : Board) (s : Sets) (size : length p.men ≡ 64) where
 
   pub free_is : (f : ℕ) → is_empty (fixed_men p s) f ≡ not (is_fixed p s f)
   free_is f = twice (is_empty (fixed_men p s) f) ∙ ap not (fixed_is f)
-
-  pub enemy_is : (c : Color) (t : ℕ) → t < 64 → is_non_king (other_color c) (man_at (fixed_men p s) t) ≡ has_fixed_enemy p s c t
-  unfolding has_fixed_enemy is_fixed fixed_man
-  enemy_is c t small = ap (is_non_king (other_color c)) (man_at-fixed_men p s t small) ∙ non_king_or_loose (other_color c) (s.loose t) (man_at p.men t)
-
-  pub guard_is : (c : Color) (t : ℕ) → has_guard (fixed_men p s) c t ≡ is_guarded p s c t
-  unfolding has_guard is_guarded guards_from is_fixed fixed_man
-  guard_is c t =
-      any_same (λ f. guards_as c f t (man_at (fixed_men p s) f)) (guards_from p s c t) (λ f small.
-      ap (guards_as c f t) (man_at-fixed_men p s f small) ∙ guards_or_loose c f t (s.loose f) (man_at p.men f))
 
   pub clear_is : (u t : ℕ) → is_clear (fixed_men p s) u t ≡ is_open p s u t
   unfolding is_clear is_open

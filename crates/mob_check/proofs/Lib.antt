@@ -1,11 +1,9 @@
 pub mod Choices
 pub mod Loops
 pub mod Reaching
-pub mod Settled
 pub mod Fixing
-pub mod ClosedGives
-pub mod ClosedPasses
 pub mod MenInReach
 pub mod Unreached
 pub mod NextTo
 pub mod ThreatsSeen
+pub mod RulesHold

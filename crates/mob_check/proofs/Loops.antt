@@ -6,23 +6,13 @@ use Rattle.cha_board.specs.Squares.{squares}
 use Rattle.cha_board.specs.SquareSets.{set_of, has_square, set_with}
 use Rattle.cha_board.specs.SetLaws.{length-set_of, has-set_of, same_squares}
 use Rattle.cha_board.proofs.Scans.{any_square_at, no_square, all_squares_at, each_square}
-use Rattle.mob_law.proofs.Attackers.{some_square}
+use Rattle.cha_board.proofs.Contents.{some_square}
 
 -- a square that fails settles that not all squares pass
 pub not_all_squares : (p : ℕ → Bool) (s : ℕ) → s < 64 → p s ≡ false → list_all p squares ≡ false
 not_all_squares p s small fails = false_from_ne_true (list_all p squares) (λ all. both_ways (p s) fails (all_squares_at p s all small))
 
--- tests that agree at each square agree on whether some square passes
-pub any_same : (p q : ℕ → Bool) → ((s : ℕ) → s < 64 → p s ≡ q s) → list_any p squares ≡ list_any q squares
-any_same p q same =
-    elim (cases_Bool (list_any p squares)) [
-      | inl some ↦ (
-          let found = some_square p some in
-          some ∙ sym (any_square_at q found.0 found.1 (sym (same found.0 found.1) ∙ found.2)))
-      | inr none ↦ none ∙ sym (no_square q (λ s small. sym (same s small) ∙ false_from_ne_true (p s) (λ h. both_ways (list_any p squares) none (any_square_at p s small h))))
-    ]
-
--- and on whether all do
+-- tests that agree at each square agree on whether all squares pass
 pub all_same : (p q : ℕ → Bool) → ((s : ℕ) → s < 64 → p s ≡ q s) → list_all p squares ≡ list_all q squares
 all_same p q same =
     elim (cases_Bool (list_all p squares)) [

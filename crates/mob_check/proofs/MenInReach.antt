@@ -15,7 +15,7 @@ use Rattle.cha_board.specs.SquareSets.{has_square}
 use Rattle.cha_board.specs.SetLaws.{has-set_of}
 use Rattle.cha_board.proofs.Scans.{any_square_at, no_square}
 use Rattle.mob_law.specs.Threats.{KingOn, NonKingOn, HasAtMostOneMan}
-use Rattle.mob_law.proofs.Attackers.{some_square}
+use Rattle.cha_board.proofs.Contents.{some_square}
 use Rattle.mob_sets.specs.Rows.{Row, SetRows, is_entry, has_entry, sets_of}
 use Rattle.mob_sets.proofs.Order.{same_kind_self, same_kind_tells}
 use Rattle.mob_sets.proofs.Entries.{entry_parts, entry_from}
@@ -109,7 +109,7 @@ unfolding are_two
 not_two men c u none = no_square (are_two men c u) (λ v small. rw none refl)
 
 -- a man stands on the board
-small_of : (men : List (Option Man)) (c : Color) (u : ℕ) → length men ≡ 64 → is_non_king c (man_at men u) ≡ true → u < 64
+pub small_of : (men : List (Option Man)) (c : Color) (u : ℕ) → length men ≡ 64 → is_non_king c (man_at men u) ≡ true → u < 64
 small_of men c u size h =
     elim (cases_lt u 64) [
       | inl small ↦ small

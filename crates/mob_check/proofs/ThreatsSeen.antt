@@ -10,9 +10,9 @@ use Rattle.cha_board.specs.Board.{Board, is_clear}
 use Rattle.cha_board.specs.SquareSets.{has_square, set_joined}
 use Rattle.cha_board.specs.SetLaws.{has-set_of}
 use Rattle.cha_board.proofs.Scans.{any_square_at, all_squares_at, each_square}
-use Rattle.mob_law.specs.Reach.{Sets}
+use Rattle.mob_sets.specs.Mobility.{Sets}
 use Rattle.mob_law.specs.Threats.{KingOn, NonKingOn, HasAtMostOneMan, Checks, Attacks, Covered, Blocked, NextToKing, Attacked, Threat, HasNoMate}
-use Rattle.mob_law.proofs.Attackers.{some_square}
+use Rattle.cha_board.proofs.Contents.{some_square}
 use Rattle.mob_sets.specs.Rows.{SetRows, sets_of}
 use Rattle.mob_sets.proofs.KindTests.{any_kind_at, some_kind}
 use Rattle.mob_check.specs.declared.scene.Scene.{Scene}

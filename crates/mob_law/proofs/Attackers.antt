@@ -8,16 +8,8 @@ use Rattle.cha_board.specs.declared.men.Man.{Man}
 use Rattle.cha_board.specs.Men.{same_color}
 use Rattle.cha_board.specs.Squares.{squares, aims_at, between}
 use Rattle.cha_board.specs.Board.{man_at, is_clear, attacks_as, attacked}
+use Rattle.cha_board.proofs.Contents.{some_square}
 use Rattle.cha_board.proofs.Scans.{length_squares, square_at}
-
--- where some square passes a test, there is one
-pub some_square : (p : ℕ → Bool) → list_any p squares ≡ true → (s : ℕ) × (s < 64) × (p s ≡ true)
-some_square p h =
-    let a = Any-from_list_any p squares h in
-    let n = length_squares in
-    let small : a.0 < 64 = omega (arith, a.2) in
-    let P : ℕ → Type 0 = λ x. p x ≡ true in
-    (a.0, small, subst P (sym a.3 ∙ square_at a.0 a.1 small) a.4)
 
 -- a man of c that attacks t from s
 pub record Attacker (men : List (Option Man)) (c : Color) (t s : ℕ) : Type 0 where

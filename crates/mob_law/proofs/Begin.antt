@@ -1,7 +1,7 @@
 -- The facts hold at the first position, where each man is its own origin.
 use Rattle.std.proofs.Common.{refl, inl}
 use Rattle.cha_board.specs.Board.{Board}
-use Rattle.mob_law.specs.Reach.{Sets}
+use Rattle.mob_sets.specs.Mobility.{Sets}
 use Rattle.mob_law.specs.Closed.{IsClosed}
 use Rattle.mob_law.proofs.Facts.{FactsHold, AtFirst}
 

@@ -9,7 +9,8 @@ use Rattle.cha_board.specs.Men.{is_man}
 use Rattle.cha_board.specs.Squares.{rank_of}
 use Rattle.cha_board.specs.Board.{Board, man_at, home_of, has_short_right, has_long_right}
 use Rattle.cha_moves.specs.Moves.{second_rank, is_target}
-use Rattle.mob_law.specs.Reach.{Sets, is_fixed}
+use Rattle.mob_law.specs.Reach.{is_fixed}
+use Rattle.mob_sets.specs.Mobility.{Sets}
 use Rattle.cha_moves.proofs.Kept.{Becomes}
 use Rattle.mob_law.proofs.Facts.{Passed, Facts}
 

@@ -14,7 +14,8 @@ use Rattle.cha_moves.proofs.Identity.{some_inj, man_of, is_man_from}
 use Rattle.cha_moves.proofs.Made.{Step, moved_other, men_moved}
 use Rattle.cha_moves.proofs.Kept.{Castling, short_castling, long_castling, short_tests, long_tests, stays_man}
 use Rattle.cha_moves.proofs.Validity.{Castled, KingHere, RookHere, Others, castled, short_after, long_after}
-use Rattle.mob_law.specs.Reach.{Sets, is_fixed}
+use Rattle.mob_law.specs.Reach.{is_fixed}
+use Rattle.mob_sets.specs.Mobility.{Sets}
 use Rattle.mob_law.specs.Closed.{Castles, IsClosed}
 use Rattle.mob_law.proofs.Facts.{Facts, FactsHold}
 use Rattle.mob_law.proofs.Standing.{loose_unfixed, empty_not_fixed}

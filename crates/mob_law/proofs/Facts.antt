@@ -8,7 +8,8 @@ use Rattle.cha_board.specs.Squares.{rank_of}
 use Rattle.cha_board.specs.Board.{Board, man_at, home_of, has_short_right, has_long_right}
 use Rattle.cha_moves.specs.Moves.{second_rank, is_target, victim_of}
 use Rattle.cha_moves.proofs.Kept.{Becomes}
-use Rattle.mob_law.specs.Reach.{Sets, is_fixed}
+use Rattle.mob_law.specs.Reach.{is_fixed}
+use Rattle.mob_sets.specs.Mobility.{Sets}
 
 -- the man that stands on u now comes from the square o of the first position: a man of its colour stood there, which may
 -- have become what it is, and the sets have it in reach on u

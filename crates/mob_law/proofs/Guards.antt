@@ -11,14 +11,15 @@ use Rattle.cha_board.specs.Squares.{squares, steps_apart, aims_at}
 use Rattle.cha_board.specs.Board.{Board, man_at, in_check, home_of, IsValid}
 use Rattle.cha_board.proofs.Scans.{all_squares_at}
 use Rattle.cha_moves.proofs.Identity.{same_color_equal, other_other, is_man_from}
-use Rattle.mob_law.specs.Reach.{Sets, is_fixed, is_leaper, guards_as, guards_from, is_guarded}
+use Rattle.mob_law.specs.Reach.{is_fixed, is_leaper, guards_as, guards_from, is_guarded}
+use Rattle.mob_sets.specs.Mobility.{Sets}
 use Rattle.mob_law.specs.Closed.{Entry, EnemyReaches}
 use Rattle.mob_law.specs.Castling.{IsClosedButForCastling}
 use Rattle.mob_law.proofs.Men.{either_color}
 use Rattle.mob_law.proofs.Geometry.{near, king_aims, leap_clear}
 use Rattle.mob_law.proofs.Kings.{king_is_one}
 use Rattle.mob_law.proofs.Standing.{fixed_stands, open_near}
-use Rattle.mob_law.proofs.Attackers.{some_square}
+use Rattle.cha_board.proofs.Contents.{some_square}
 use Rattle.mob_law.proofs.Mating.{kings_far}
 
 -- a fixed man of c on f that attacks t for ever

@@ -7,7 +7,7 @@ use Rattle.cha_moves.specs.Moves.{after}
 use Rattle.cha_moves.specs.Ends.{IsMatingLine, IsUnwinnable}
 use Rattle.cha_moves.proofs.Listed.{is_listed}
 use Rattle.cha_moves.proofs.Validity.{after_is_valid}
-use Rattle.mob_law.specs.Reach.{Sets}
+use Rattle.mob_sets.specs.Mobility.{Sets}
 use Rattle.mob_law.specs.Closed.{IsClosed}
 use Rattle.mob_law.specs.Threats.{HasNoMate}
 use Rattle.mob_law.specs.Static.{IsStaticallyUnwinnable}

@@ -17,3 +17,5 @@ pub mod Law
 pub mod Widest
 pub mod Guards
 pub mod CastlingFollows
+pub mod Growing
+pub mod DoubleSteps

@@ -16,7 +16,8 @@ use Rattle.cha_moves.proofs.Kept.{kings_kept}
 use Rattle.cha_moves.proofs.Made.{may_gives, length-moved, moved_to, moved_from, moved_other}
 use Rattle.cha_moves.proofs.Listed.{listed}
 use Rattle.cha_moves.proofs.KingSquare.{king_stands}
-use Rattle.mob_law.specs.Reach.{Sets, is_fixed, is_open_through}
+use Rattle.mob_law.specs.Reach.{is_fixed, is_open_through}
+use Rattle.mob_sets.specs.Mobility.{Sets}
 use Rattle.mob_law.specs.Threats.{Checks, Covered, Blocked, NextToKing, Attacked, Threat}
 use Rattle.mob_law.proofs.Facts.{Facts, FactsHold}
 use Rattle.mob_law.proofs.Men.{either_color, not_of_other, may_enter_enemy}

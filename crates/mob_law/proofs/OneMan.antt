@@ -14,7 +14,8 @@ use Rattle.cha_moves.proofs.Identity.{other_other, none_some, man_of, is_man_fro
 use Rattle.cha_moves.proofs.Made.{Step, put, put_other, length-moved, moved_other, men_moved, makes, Plainly, Passing, Shortly, Longly}
 use Rattle.cha_moves.proofs.Kept.{arrived_is, victim_of_move}
 use Rattle.cha_moves.proofs.Validity.{one_stands, double_step, no_second, short_after, long_after, over_it}
-use Rattle.mob_law.specs.Reach.{Sets, is_fixed}
+use Rattle.mob_law.specs.Reach.{is_fixed}
+use Rattle.mob_sets.specs.Mobility.{Sets}
 use Rattle.mob_law.specs.Closed.{IsClosed}
 use Rattle.mob_law.proofs.Facts.{Passed, JustNow, Facts}
 use Rattle.mob_law.proofs.Standing.{fixed_stands, empty_not_fixed}

@@ -15,7 +15,8 @@ use Rattle.cha_moves.proofs.Identity.{same_color_self, same_color_equal, some_in
 use Rattle.cha_moves.proofs.Made.{Step}
 use Rattle.cha_moves.proofs.Kept.{Target, target_of, promoted}
 use Rattle.cha_moves.proofs.Validity.{step_tests, double_step, pawn_way, Steps, DoubleSteps, Captures, Passes}
-use Rattle.mob_law.specs.Reach.{Sets, is_fixed}
+use Rattle.mob_law.specs.Reach.{is_fixed}
+use Rattle.mob_sets.specs.Mobility.{Sets}
 use Rattle.mob_law.specs.Closed.{Entry, Enters, PawnCaptures, IsClosed}
 use Rattle.mob_law.proofs.Facts.{Passed, AtFirst, JustNow, Facts}
 use Rattle.mob_law.proofs.Standing.{loose_unfixed, empty_not_fixed, origin_is_non_king, entry_of}

@@ -14,13 +14,15 @@ use Rattle.cha_moves.specs.Moves.{goes, is_short_castling, is_long_castling, may
 use Rattle.cha_moves.proofs.Identity.{other_other, same_color_equal, same_kind_equal, some_inj, man_of, is_man_from}
 use Rattle.cha_moves.proofs.Made.{Step, length-moved, moved_to, moved_other, men_moved}
 use Rattle.cha_moves.proofs.Kept.{stays_man, kings_kept}
-use Rattle.mob_law.specs.Reach.{Sets, is_fixed, is_open, is_leaper, guards_as, guards_from, is_guarded}
+use Rattle.mob_law.specs.Reach.{is_fixed, is_open, is_leaper, guards_as, guards_from, is_guarded}
+use Rattle.mob_sets.specs.Mobility.{Sets}
 use Rattle.mob_law.specs.Closed.{has_fixed_enemy, IsClosed}
 use Rattle.mob_law.proofs.Facts.{Facts}
 use Rattle.mob_law.proofs.Men.{other_color_of, not_of_other, kinds_differ}
 use Rattle.mob_law.proofs.Geometry.{near, king_aims, aims_at_self, leap_clear}
 use Rattle.mob_law.proofs.Kings.{king_is_one}
-use Rattle.mob_law.proofs.Attackers.{some_square, attacks_by, clear_near}
+use Rattle.mob_law.proofs.Attackers.{attacks_by, clear_near}
+use Rattle.cha_board.proofs.Contents.{some_square}
 use Rattle.mob_law.proofs.Standing.{fixed_stands, open_from, open_near, entry_of}
 use Rattle.mob_law.proofs.KingSteps.{step_plain}
 use Rattle.mob_law.proofs.OneMan.{Lands}

@@ -10,7 +10,8 @@ use Rattle.cha_board.specs.Men.{same_color, same_kind, is_man, is_non_king}
 use Rattle.cha_board.specs.Squares.{between}
 use Rattle.cha_board.specs.Board.{Board, man_at, is_empty, is_clear, IsValid}
 use Rattle.cha_moves.specs.Moves.{is_promotion}
-use Rattle.mob_law.specs.Reach.{Sets, is_fixed, is_open}
+use Rattle.mob_law.specs.Reach.{is_fixed, is_open}
+use Rattle.mob_sets.specs.Mobility.{Sets}
 use Rattle.mob_law.specs.Closed.{Entry}
 use Rattle.mob_law.specs.Threats.{KingOn, NonKingOn}
 use Rattle.cha_moves.proofs.Kept.{Becomes}

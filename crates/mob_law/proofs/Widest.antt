@@ -5,7 +5,8 @@ use Rattle.std.proofs.lemmas.Bool.{and_left, both_ways}
 use Rattle.cha_board.specs.declared.men.Color.{Color}
 use Rattle.cha_board.specs.Men.{other_color, is_non_king}
 use Rattle.cha_board.specs.Board.{Board, man_at}
-use Rattle.mob_law.specs.Reach.{Sets, is_fixed}
+use Rattle.mob_law.specs.Reach.{is_fixed}
+use Rattle.mob_sets.specs.Mobility.{Sets}
 use Rattle.mob_law.specs.Closed.{has_fixed_enemy, Enters, Castles, IsClosed}
 use Rattle.mob_law.specs.Threats.{HasNoMate}
 use Rattle.mob_law.specs.Static.{IsStaticallyUnwinnable}

@@ -1,6 +1,6 @@
 -- Sets for which all rules of closed sets hold but perhaps those of castling (this project).
 use Rattle.cha_board.specs.Board.{Board}
-use Rattle.mob_law.specs.Reach.{Sets}
+use Rattle.mob_sets.specs.Mobility.{Sets}
 use Rattle.mob_law.specs.Closed.{Begins, PiecesMove, PawnsStep, PawnsDoubleStep, PawnsCapture}
 
 pub record IsClosedButForCastling (p : Board) (s : Sets) : Type 0 where

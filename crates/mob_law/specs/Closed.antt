@@ -8,7 +8,8 @@ use Rattle.cha_board.specs.Men.{other_color, is_non_king}
 use Rattle.cha_board.specs.Squares.{rank_of, files_apart, is_rank_ahead, aims_at}
 use Rattle.cha_board.specs.Board.{Board, man_at, home_of, has_short_right, has_long_right}
 use Rattle.cha_moves.specs.Moves.{second_rank, fourth_rank, last_rank, middle, is_target, is_promotion, victim_of}
-use Rattle.mob_law.specs.Reach.{Sets, is_fixed, is_open, is_guarded}
+use Rattle.mob_law.specs.Reach.{is_fixed, is_open, is_guarded}
+use Rattle.mob_sets.specs.Mobility.{Sets}
 
 -- a fixed man of c's enemy other than a king stands on t
 unfoldable pub has_fixed_enemy : Board → Sets → Color → ℕ → Bool

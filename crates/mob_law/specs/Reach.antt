@@ -1,4 +1,4 @@
--- Mobility sets, and what they leave fixed, open and guarded, read against a position (this project).
+-- What mobility sets leave fixed, open and guarded, read against a position (this project).
 use Rattle.std.specs.Prelude.{ℕ, ◌==◌, Bool, true, false, not, ◌&&◌, ◌||◌, Option, Some, None}
 use Rattle.std.specs.List.{list_all, list_any}
 use Rattle.cha_board.specs.declared.men.Color.{Color}
@@ -8,13 +8,7 @@ use Rattle.cha_board.specs.declared.men.Man.{Man}
 use Rattle.cha_board.specs.Men.{same_color}
 use Rattle.cha_board.specs.Squares.{squares, aims_at, steps_apart, between}
 use Rattle.cha_board.specs.Board.{Board, man_at, is_empty}
-
--- Sets of squares that each man may ever reach. A man is named by its origin, the square on which it stands in the
--- position: `has o k u` says that the man of o may ever stand on u as a k, and `loose o` that it may ever leave o or be
--- captured there (this project).
-pub record Sets : Type 0 where
-  pub has : ℕ → Kind → ℕ → Bool
-  pub loose : ℕ → Bool
+use Rattle.mob_sets.specs.Mobility.{Sets}
 
 -- a man stands on f, and it is not loose: it stands there for ever
 unfoldable pub is_fixed : Board → Sets → ℕ → Bool

@@ -7,7 +7,8 @@ use Rattle.cha_board.specs.declared.men.Kind.TheVariants.{King}
 use Rattle.cha_board.specs.Men.{other_color, is_man, is_non_king}
 use Rattle.cha_board.specs.Squares.{aims_at, steps_apart}
 use Rattle.cha_board.specs.Board.{Board, man_at}
-use Rattle.mob_law.specs.Reach.{Sets, is_open, is_open_through}
+use Rattle.mob_law.specs.Reach.{is_open, is_open_through}
+use Rattle.mob_sets.specs.Mobility.{Sets}
 
 -- the king of c is in reach on u
 pub record KingOn (p : Board) (s : Sets) (c : Color) (u : ℕ) : Type 0 where

@@ -5,7 +5,7 @@ ghost use Rattle.cha_board.specs.declared.men.Color.{Color as Side};
 ghost use Rattle.cha_board.specs.Men.{is_non_king};
 ghost use Rattle.cha_board.specs.Board.{Board, man_at, IsValid};
 ghost use Rattle.cha_moves.specs.Ends.{IsUnwinnable};
-ghost use Rattle.mob_law.specs.Reach.{Sets};
+ghost use Rattle.mob_sets.specs.Mobility.{Sets};
 ghost use Rattle.mob_law.specs.Closed.{IsClosed};
 ghost use Rattle.mob_law.specs.Threats.{HasNoMate};
 ghost use Rattle.mob_law.specs.Static.{IsStaticallyUnwinnable};

@@ -7,7 +7,8 @@ use Rattle.cha_board.specs.SetLaws.{length-set_of, same_squares}
 use Rattle.mob_sets.specs.Rows.{Row, SetRows, is_entry, has_entry, sets_of, place_of, row_place}
 use Rattle.mob_sets.specs.Tidy.{AreTidy, IsFull}
 use Rattle.mob_sets.proofs.Order.{place_tells}
-use Rattle.mob_sets.proofs.Entries.{entry_parts, has-empty_set, shown_there, shown_nowhere}
+use Rattle.cha_board.proofs.Contents.{in_empty}
+use Rattle.mob_sets.proofs.Entries.{entry_parts, shown_there, shown_nowhere}
 
 none_more : (xs : List Bool) → ((u : ℕ) → has_square xs u ≡ false) → (u : ℕ) → has_square (false ∷ xs) u ≡ false
 none_more xs none zero = refl
@@ -26,7 +27,7 @@ some_square : (row : Row) → IsFull row → (u : ℕ) × (has_square row.square
 some_square row full =
     elim (some_or_none row.squares) [
       | inl found ↦ found
-      | inr none ↦ absurd (full.some (same_squares row.squares empty_set full.width (length-set_of (λ _. false)) (λ s small. none s ∙ sym (has-empty_set s))))
+      | inr none ↦ absurd (full.some (same_squares row.squares empty_set full.width (length-set_of (λ _. false)) (λ s small. none s ∙ sym (in_empty s))))
     ]
 
 tail_tidy : (x : Row) (xs : List Row) → AreTidy (x ∷ xs) → AreTidy xs

@@ -9,7 +9,7 @@ use Rattle.cha_board.specs.declared.men.Kind.{Kind}
 use Rattle.cha_board.specs.Men.{same_kind}
 use Rattle.cha_board.specs.SquareSets.{set_of, empty_set, has_square, set_with}
 use Rattle.cha_board.specs.SetLaws.{length-set_of, has-set_of}
-use Rattle.mob_sets.specs.Rows.{Row, is_entry, has_entry, row_with, place_of, row_place}
+use Rattle.mob_sets.specs.Rows.{Row, is_entry, has_entry, place_of, row_place}
 use Rattle.mob_sets.specs.Tidy.{AreTidy, IsThere, IsMissing}
 use Rattle.mob_sets.proofs.Order.{place_tells, same_kind_tells, same_kind_self}
 
@@ -28,19 +28,6 @@ pub entry_from : (o : ℕ) (k : Kind) (u : ℕ) (row : Row) → row.origin ≡ o
 entry_from o k u row e f g =
     let same : same_kind row.kind k ≡ true = rw f (same_kind_self k) in
     and_from ((row.origin == o) && same_kind row.kind k) (has_square row.squares u) (and_from (row.origin == o) (same_kind row.kind k) (eq-eqb row.origin o e) same) g
-
--- a set with one more square has that and what it had
-pub has-set_with : (set : List Bool) (at s : ℕ) → length set ≡ 64 → at < 64 → has_square (set_with set at) s ≡ ((s == at) || has_square set s)
-unfolding set_with
-has-set_with squares at s width small =
-    let test = λ (s : ℕ). (s == at) || has_square squares s in
-    elim (cases_lt s 64) [
-      | inl inside ↦ has-set_of test s inside
-      | inr past ↦ (
-          let long = length-set_of test in
-          let ne : (s == at) ≡ false = ne_eqb s at (λ e. omega (arith, e, past, small)) in
-          get_or_past (set_of test) s false (omega (arith, long, past)) ∙ sym (rw (ne, get_or_past squares s false (omega (arith, width, past))) refl))
-    ]
 
 -- after a row is replaced
 pub any_replaced : (q : Row → Bool) (e : Bool) (rows : List Row) (i : ℕ) (y d : Row) → i < length rows → q y ≡ (e || q (get_or rows i d)) → list_any q (set rows i y) ≡ (e || list_any q rows)
@@ -71,30 +58,6 @@ pub shared : (a b c d : Bool) → (a && b && (c || d)) ≡ ((a && b && c) || (a 
 shared true true c d = refl
 shared true false c d = refl
 shared false b c d = refl
-
--- what a row with one more square shows
-pub widened_shows : (row : Row) (u p : ℕ) (j : Kind) (v : ℕ) → length row.squares ≡ 64 → u < 64
-    → is_entry p j v (row_with row u) ≡ (((row.origin == p) && same_kind row.kind j && (v == u)) || is_entry p j v row)
-widened_shows row u p j v width small =
-    ap (λ b. (row.origin == p) && same_kind row.kind j && b) (has-set_with row.squares u v width small) ∙ shared (row.origin == p) (same_kind row.kind j) (v == u) (has_square row.squares v)
-
--- the empty set has no square
-pub has-empty_set : (s : ℕ) → has_square empty_set s ≡ false
-has-empty_set s =
-    elim (cases_lt s 64) [
-      | inl inside ↦ has-set_of (λ _. false) s inside
-      | inr past ↦ (let long = length-set_of (λ _. false) in get_or_past empty_set s false (omega (arith, long, past)))
-    ]
-
--- what a row of one square shows
-pub single_shows : (o : ℕ) (k : Kind) (u p : ℕ) (j : Kind) (v : ℕ) → u < 64
-    → is_entry p j v (record { origin = o; kind = k; squares = set_with empty_set u }) ≡ ((o == p) && same_kind k j && (v == u))
-single_shows o k u p j v small =
-    ap (λ b. (o == p) && same_kind k j && b) (has-set_with empty_set u v (length-set_of (λ _. false)) small ∙ ap (λ b. (v == u) || b) (has-empty_set v) ∙ alone (v == u))
-  where
-    alone : (a : Bool) → (a || false) ≡ a
-    alone true = refl
-    alone false = refl
 
 -- the row at its place shows all that rows show of its origin and kind
 pub shown_there : (rows : List Row) (i : ℕ) (o : ℕ) (k : Kind) (u : ℕ) (d : Row) → AreTidy rows → IsThere rows i (place_of o k)

@@ -5,29 +5,19 @@ use Rattle.std.proofs.lemmas.Bool.{cases_lt, or_right, both_ways, false_from_ne_
 use Rattle.std.proofs.lemmas.List.{get_or_past, get_or_default, length-set}
 use Rattle.std.proofs.lemmas.List.Elements.{All-set}
 use Rattle.cha_board.specs.declared.men.Kind.{Kind}
+use Rattle.cha_board.specs.declared.men.Kind.TheVariants.{Pawn}
 use Rattle.cha_board.specs.Men.{same_kind}
 use Rattle.cha_board.specs.Squares.{squares}
-use Rattle.cha_board.specs.SquareSets.{set_of, empty_set, has_square, set_joined, has_no_square}
+use Rattle.cha_board.specs.SquareSets.{set_of, empty_set, has_square, set_with, set_joined, has_no_square}
 use Rattle.cha_board.specs.SetLaws.{length-set_of, has-set_of, same_squares}
 use Rattle.cha_board.proofs.Scans.{any_square_at, no_square}
-use Rattle.mob_sets.specs.Rows.{Row, is_entry, has_entry, entries_joined, row_joined, place_of, row_place}
+use Rattle.mob_sets.specs.Rows.{Row, is_entry, has_entry, entries_joined, sets_with, sets_joined, row_joined, place_of, row_place}
 use Rattle.mob_sets.specs.Tidy.{AreTidy, IsFull, IsThere, IsMissing}
 use Rattle.mob_sets.proofs.Order.{place_tells}
-use Rattle.mob_sets.proofs.Entries.{any_replaced, any_inserted, shared, has-empty_set}
+use Rattle.cha_board.proofs.Contents.{in_empty, has-set_with, has-set_joined}
+use Rattle.mob_sets.specs.Mobility.{Sets}
+use Rattle.mob_sets.proofs.Entries.{any_replaced, any_inserted, shared}
 use Rattle.mob_sets.proofs.Keeping.{inserted_tidy, place_kept}
-
--- two sets joined have what either has
-has-set_joined : (a b : List Bool) (s : ℕ) → length a ≡ 64 → length b ≡ 64 → has_square (set_joined a b) s ≡ (has_square a s || has_square b s)
-unfolding set_joined
-has-set_joined a b s long long' =
-    let test = λ (s : ℕ). has_square a s || has_square b s in
-    elim (cases_lt s 64) [
-      | inl inside ↦ has-set_of test s inside
-      | inr past ↦ (
-          let wide = length-set_of test in
-          get_or_past (set_of test) s false (omega (arith, wide, past))
-          ∙ sym (rw (get_or_past a s false (omega (arith, long, past)), get_or_past b s false (omega (arith, long', past))) refl))
-    ]
 
 joined_row : (row : Row) (o : ℕ) (k : Kind) (more : List Bool) (p : ℕ) (j : Kind) (v : ℕ) → length row.squares ≡ 64 → length more ≡ 64 → row.origin ≡ o → row.kind ≡ k
     → is_entry p j v (row_joined row more) ≡ (((o == p) && same_kind k j && has_square more v) || is_entry p j v row)
@@ -78,7 +68,7 @@ none_entries rows o k more none long =
 pub some_squares : (more : List Bool) → has_no_square more ≡ false → more ≢ empty_set
 unfolding has_no_square
 some_squares more some e =
-    let none : list_any (has_square empty_set) squares ≡ false = no_square (has_square empty_set) (λ s small. has-empty_set s) in
+    let none : list_any (has_square empty_set) squares ≡ false = no_square (has_square empty_set) (λ s small. in_empty s) in
     both_ways (not (list_any (has_square more) squares)) some (ap (λ x. not (list_any (has_square x) squares)) e ∙ ap not none)
 
 full_joined : (row : Row) (more : List Bool) → IsFull row → length more ≡ 64 → IsFull (row_joined row more)
@@ -87,8 +77,8 @@ full_joined row more full long = record {
   width = length-set_of (λ s. has_square more s || has_square row.squares s);
   some = λ e. full.some (same_squares row.squares empty_set full.width (length-set_of (λ _. false)) (λ s small.
       false_from_ne_true (has_square row.squares s) (λ h.
-      both_ways (has_square (set_joined more row.squares) s) (ap (λ x. has_square x s) e ∙ has-empty_set s)
-      (has-set_joined more row.squares s long full.width ∙ or_right (has_square more s) (has_square row.squares s) h)) ∙ sym (has-empty_set s)));
+      both_ways (has_square (set_joined more row.squares) s) (ap (λ x. has_square x s) e ∙ in_empty s)
+      (has-set_joined more row.squares s long full.width ∙ or_right (has_square more s) (has_square row.squares s) h)) ∙ sym (in_empty s)));
 }
 
 pub joined_tidy : (rows : List Row) (i : ℕ) (more : List Bool) (e : Row) → AreTidy rows → i < length rows → length more ≡ 64 → AreTidy (set rows i (row_joined (get_or rows i e) more))
@@ -109,3 +99,18 @@ pub placed_tidy : (rows : List Row) (i o : ℕ) (k : Kind) (more : List Bool) �
     → AreTidy (insert rows i (record { origin = o; kind = k; squares = more }))
 placed_tidy rows i o k more tidy missing long some =
     inserted_tidy rows i (record { origin = o; kind = k; squares = more }) tidy missing (record { width = long; some = some })
+
+-- a row to stand where a list has none
+abbrev pub no_row : Row
+no_row = record { origin = 0; kind = Pawn; squares = empty_set }
+
+-- one square more
+pub joined_one : (s : Sets) (o : ℕ) (k : Kind) (u : ℕ) → u < 64 → sets_joined s o k (set_with empty_set u) ≡ sets_with s o k u
+joined_one s o k u small =
+    let each = λ (p : ℕ) (j : Kind) (v : ℕ).
+    ap (λ b. ((o == p) && same_kind k j && b) || s.has p j v) (has-set_with empty_set u v (length-set_of (λ _. false)) small ∙ ap (λ b. (v == u) || b) (in_empty v) ∙ alone (v == u)) in
+    λ i. record { has = λ p j v. each p j v i; loose = s.loose }
+  where
+    alone : (a : Bool) → (a || false) ≡ a
+    alone true = refl
+    alone false = refl

@@ -7,10 +7,10 @@ use Rattle.std.proofs.lemmas.List.Edits.{length-insert, get_or-insert_below, get
 use Rattle.std.proofs.lemmas.List.Elements.{All-set}
 use Rattle.cha_board.specs.SquareSets.{empty_set, has_square, set_with}
 use Rattle.cha_board.specs.SetLaws.{length-set_of}
-use Rattle.mob_sets.specs.Rows.{Row, has_entry, sets_of, sets_loosened, row_with, row_place}
+use Rattle.mob_sets.specs.Rows.{Row, has_entry, sets_of, sets_loosened, row_place}
 use Rattle.mob_sets.specs.Tidy.{AreTidy, IsFull, IsMissing}
 use Rattle.mob_sets.proofs.Order.{rows_rise}
-use Rattle.mob_sets.proofs.Entries.{has-set_with, has-empty_set}
+use Rattle.cha_board.proofs.Contents.{has-set_with, in_empty}
 
 pub none_tidy : AreTidy []
 none_tidy = record {
@@ -18,40 +18,12 @@ none_tidy = record {
   full = λ k d inside. absurd (omega (arith, inside));
 }
 
--- a set with a square is not empty
-pub with_is_some : (squares : List Bool) (u : ℕ) → length squares ≡ 64 → u < 64 → set_with squares u ≢ empty_set
-with_is_some squares u width small e =
-    let there : has_square (set_with squares u) u ≡ true = has-set_with squares u u width small ∙ ap (λ b. b || has_square squares u) (eq-eqb u u refl) in
-    both_ways (has_square (set_with squares u) u) (ap (λ s. has_square s u) e ∙ has-empty_set u) there
-
-pub length-set_with : (squares : List Bool) (u : ℕ) → length (set_with squares u) ≡ 64
-unfolding set_with
-length-set_with squares u = length-set_of (λ s. (s == u) || has_square squares s)
-
-full_with : (row : Row) (u : ℕ) → length row.squares ≡ 64 → u < 64 → IsFull (row_with row u)
-full_with row u width small = record { width = length-set_with row.squares u; some = with_is_some row.squares u width small }
-
 pub place_kept : (rows : List Row) (i : ℕ) (y : Row) (k : ℕ) (d : Row) → i < length rows → row_place y ≡ row_place (get_or rows i d) → row_place (get_or (set rows i y) k d) ≡ row_place (get_or rows k d)
 place_kept rows i y k d inside same =
     elim (cases_eq k i) [
       | inl e ↦ ap (λ x. row_place (get_or (set rows i y) x d)) e ∙ ap row_place (get_or-set_same rows i y d inside) ∙ same ∙ sym (ap (λ x. row_place (get_or rows x d)) e)
       | inr ne ↦ ap row_place (get_or-set_other rows i k y d ne)
     ]
-
--- a row with one more square is written back
-pub widened_tidy : (rows : List Row) (i u : ℕ) (e : Row) → AreTidy rows → i < length rows → u < 64 → AreTidy (set rows i (row_with (get_or rows i e) u))
-widened_tidy rows i u e tidy inside small =
-    let y = row_with (get_or rows i e) u in
-    let long = length-set rows i y in
-    record {
-      ordered = λ a b d less within. (
-          let up = tidy.ordered a b d less (omega (arith, long, within)) in
-          let same : row_place y ≡ row_place (get_or rows i d) = ap row_place (get_or_default rows i e d inside) in
-          let f = place_kept rows i y a d inside same in
-          let g = place_kept rows i y b d inside same in
-          omega (arith, up, f, g));
-      full = All-set IsFull rows i y (full_with (get_or rows i e) u (tidy.full i e inside).width small) tidy.full;
-    }
 
 -- where a row of the new list comes from
 data Came (rows : List Row) (i : ℕ) (y : Row) (k : ℕ) (d : Row) : Type 0 where

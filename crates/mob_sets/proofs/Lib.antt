@@ -1,7 +1,6 @@
 pub mod Order
 pub mod Entries
 pub mod Keeping
-pub mod Entering
 pub mod Canonical
 pub mod KindTests
 pub mod Joining

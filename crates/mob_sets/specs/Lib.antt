@@ -1,2 +1,3 @@
+pub mod Mobility
 pub mod Rows
 pub mod Tidy

@@ -5,7 +5,7 @@ use Rattle.cha_board.specs.declared.men.Kind.{Kind}
 use Rattle.cha_board.specs.declared.men.Kind.TheVariants.{Pawn, Knight, Bishop, Rook, Queen, King}
 use Rattle.cha_board.specs.Men.{same_kind}
 use Rattle.cha_board.specs.SquareSets.{has_square, empty_set, set_with, set_joined}
-use Rattle.mob_law.specs.Reach.{Sets}
+use Rattle.mob_sets.specs.Mobility.{Sets}
 
 -- the squares on which the man of an origin may ever stand as a kind
 pub record Row : Type 0 where
@@ -53,17 +53,9 @@ sets_loosened s o = record {
   loose = λ p. (p == o) || s.loose p;
 }
 
--- the row with one more square
-abbrev pub row_with : Row → ℕ → Row
-row_with row u = record { origin = row.origin; kind = row.kind; squares = set_with row.squares u }
-
 -- the row with more squares
 abbrev pub row_joined : Row → List Bool → Row
 row_joined row more = record { origin = row.origin; kind = row.kind; squares = set_joined more row.squares }
-
--- the row of one square
-abbrev pub single_row : ℕ → Kind → ℕ → Row
-single_row o k u = record { origin = o; kind = k; squares = set_with empty_set u }
 
 -- the kinds in the order of rows: P, N, B, R, Q, K
 abbrev pub kinds : List Kind

@@ -2,7 +2,7 @@
 
 ghost use Rattle.std.specs.Prelude.{◌≡◌, ◌<◌};
 ghost use Rattle.cha_board.specs.SquareSets.{has_square};
-ghost use Rattle.mob_sets.specs.Rows.{kind_number, place_of, row_place, row_with, row_joined};
+ghost use Rattle.mob_sets.specs.Rows.{kind_number, place_of, row_place, row_joined};
 
 use cha_board::{Kind, Square, SquareSet};
 use std::marker::Model;
@@ -39,17 +39,6 @@ impl SetRow {
         ensures { result ≡ has_square self.squares at }
     {
         self.squares.has(at)
-    }
-
-    /// The row with one more square.
-    pub fn with(self, at: Square) -> SetRow
-        ensures { result ≡ row_with self at }
-    {
-        SetRow {
-            origin: self.origin,
-            kind: self.kind,
-            squares: self.squares.with(at),
-        }
     }
 
     /// The row with more squares.

@@ -1,11 +1,11 @@
 //! Mobility sets.
 
 ghost use Rattle.std.specs.Prelude.{◌≡◌, not, [], length, IfOk, OnOk, OnErr};
-ghost use Rattle.cha_board.specs.SquareSets.{empty_set};
+ghost use Rattle.cha_board.specs.SquareSets.{set_of, empty_set};
 ghost use Rattle.mob_sets.specs.Rows.{sets_of, sets_with, sets_joined, sets_loosened};
 ghost use Rattle.mob_sets.specs.Tidy.{AreTidy};
 
-use crate::places::{enter, join, shows};
+use crate::places::{join, row_of};
 use crate::rows::SetRow;
 use cha_board::{Kind, Square, SquareSet};
 use cha_list::NoMemory;
@@ -60,7 +60,14 @@ impl Sets {
     pub fn has(&self, origin: Square, kind: Kind, at: Square) -> bool
         ensures { result ≡ (sets_of self.now).has origin kind at }
     {
-        shows(self.rows.as_slice(), origin, kind, at)
+        self.row(origin, kind).has(at)
+    }
+
+    /// The squares on which the man of an origin may ever stand as a kind.
+    pub fn row(&self, origin: Square, kind: Kind) -> SquareSet
+        ensures { result ≡ set_of ((sets_of self.now).has origin kind) }
+    {
+        row_of(self.rows.as_slice(), origin, kind)
     }
 
     /// Whether the man of an origin may ever leave it, change or be captured there.
@@ -77,7 +84,9 @@ impl Sets {
         ensures ok { OnOk result (sets_of self.new ≡ sets_with (sets_of self.old) origin kind at) }
         ensures err { OnErr result (self.new ≡ self.old) }
     {
-        enter(&mut self.rows, origin, kind, at)
+        let grew = !self.has(origin, kind, at);
+        self.join(origin, kind, SquareSet::empty().with(at))?;
+        Ok(grew)
     }
 
     /// Adds squares on which the man of an origin may stand as a kind. On a refusal the sets are unchanged.

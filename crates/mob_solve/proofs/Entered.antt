@@ -6,14 +6,14 @@ use Rattle.cha_board.specs.declared.men.Kind.{Kind}
 use Rattle.cha_board.specs.declared.men.Kind.TheVariants.{Pawn, Knight, Bishop, Rook, Queen, King}
 use Rattle.cha_board.specs.Men.{same_kind}
 use Rattle.cha_board.specs.SquareSets.{empty_set, has_square}
-use Rattle.mob_law.specs.Reach.{Sets}
+use Rattle.mob_sets.specs.Mobility.{Sets, IsWithin}
 use Rattle.mob_sets.specs.Rows.{has_entry, sets_of, place_of, sets_joined, sets_loosened}
 use Rattle.mob_sets.proofs.Order.{same_kind_tells, same_kind_self}
 use Rattle.mob_solve.specs.declared.reach.Reach.{Reach}
-use Rattle.mob_solve.specs.Least.{IsWithin, IsLeast}
+use Rattle.mob_solve.specs.Least.{IsLeast}
 use Rattle.mob_solve.specs.Reaching.{sets_in}
 use Rattle.cha_board.specs.Board.{Board}
-use Rattle.mob_solve.proofs.Contents.{in_empty}
+use Rattle.cha_board.proofs.Contents.{in_empty}
 
 pub within_self : (s : Sets) → IsWithin s s
 within_self s = record { has = λ o k u h. h; loose = λ o h. h }

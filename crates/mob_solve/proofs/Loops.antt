@@ -1,45 +1,12 @@
--- Loops over squares: what they collect and gather.
-use Rattle.std.proofs.Common.{◌≡◌, ℕ, ◌+◌, ◌<◌, ◌≤◌, Bool, true, false, ◌||◌, List, length, refl, ap, sym, subst, ◌∙◌, arith, inl, inr}
+-- What the squares give one after another.
+use Rattle.std.proofs.Common.{◌≡◌, ℕ, ◌+◌, ◌<◌, ◌≤◌, Bool, true, false, ◌||◌, List, length, sym, ap, subst, ◌∙◌, arith, inl, inr}
 use Rattle.std.specs.List.{list_any}
-use Rattle.std.proofs.lemmas.Bool.{both_ways, cases_eq, or_cases, or_left, or_right}
+use Rattle.std.proofs.lemmas.Bool.{or_cases, or_left, or_right, both_ways, cases_eq}
 use Rattle.cha_board.specs.Squares.{squares}
-use Rattle.cha_board.specs.SquareSets.{set_of, has_square, empty_set, set_with, set_joined}
+use Rattle.cha_board.specs.SquareSets.{set_of, empty_set, has_square, set_joined}
 use Rattle.cha_board.specs.SetLaws.{length-set_of, has-set_of, same_squares}
 use Rattle.cha_board.proofs.Scans.{any_square_at}
-use Rattle.mob_law.proofs.Attackers.{some_square}
-use Rattle.mob_check.proofs.Loops.{Collects, collects_none, collects_yes, collects_no, collects_all}
-
--- the next turn of a loop that collects the squares that pass
-pub next_yes : (p : ℕ → Bool) (set next new : List Bool) (i a b : ℕ) (r : Bool) → Collects p set i → i < 64 → a ≡ i → r ≡ p a → r ≡ true → b ≡ i → next ≡ set_with set b → new ≡ next
-    → Collects p new (i + 1)
-next_yes p set next new i a b r c inside at test passed at' with_it is =
-    let P : List Bool → Type 0 = λ x. Collects p x (i + 1) in
-    let passes : p i ≡ true = ap p (sym at) ∙ sym test ∙ passed in
-    let same : new ≡ set_with set i = is ∙ with_it ∙ ap (set_with set) at' in
-    subst P (sym same) (collects_yes p set i c inside passes)
-
-pub next_no : (p : ℕ → Bool) (set new : List Bool) (i a : ℕ) (r : Bool) → Collects p set i → a ≡ i → r ≡ p a → r ≡ false → new ≡ set → Collects p new (i + 1)
-next_no p set new i a r c at test none is =
-    let P : List Bool → Type 0 = λ x. Collects p x (i + 1) in
-    subst P (sym is) (collects_no p set i c (ap p (sym at) ∙ sym test ∙ none))
-
-pub first_none : (p : ℕ → Bool) (set : List Bool) → set ≡ empty_set → Collects p set 0
-first_none p set is =
-    let P : List Bool → Type 0 = λ x. Collects p x 0 in
-    subst P (sym is) (collects_none p)
-
-pub at_end : (p : ℕ → Bool) (set : List Bool) (i : ℕ) → Collects p set i → 64 ≤ i → i ≤ 64 → set ≡ set_of p
-at_end p set i c end below =
-    let P : ℕ → Type 0 = λ x. Collects p set x in
-    let e : i ≡ 64 = omega (arith, end, below) in
-    collects_all p set (subst P e c)
-
--- where two tests follow from each other, they agree
-pub same_test : (a b : Bool) → (a ≡ true → b ≡ true) → (b ≡ true → a ≡ true) → a ≡ b
-same_test true true h k = refl
-same_test true false h k = (let e = h refl in cc)
-same_test false true h k = (let e = k refl in cc)
-same_test false false h k = refl
+use Rattle.cha_board.proofs.Contents.{some_square, same_test}
 
 -- the squares that the first i squares give
 pub record Gathers (f : ℕ → ℕ → Bool) (set : List Bool) (i : ℕ) : Type 0 where

@@ -7,13 +7,13 @@ use Rattle.std.proofs.Math.Seq.{take-set-lt}
 use Rattle.std.proofs.lemmas.List.Sums.{sum_by-set, sum_by-le}
 use Rattle.cha_board.specs.declared.men.Kind.{Kind}
 use Rattle.cha_board.specs.SquareSets.{empty_set, has_square, set_with, set_joined, is_subset}
-use Rattle.mob_law.specs.Reach.{Sets}
+use Rattle.mob_sets.specs.Mobility.{Sets, IsWithin}
 use Rattle.mob_sets.specs.Rows.{place_of}
 use Rattle.mob_sets.proofs.Order.{place_tells}
 use Rattle.mob_solve.specs.declared.reach.Reach.{Reach}
-use Rattle.mob_solve.specs.Least.{IsWithin}
 use Rattle.mob_solve.specs.Reaching.{sets_in, size_of, total_of, Grew}
-use Rattle.mob_solve.proofs.Contents.{in_empty, in_joined, in_single, single_has, joined_more, size_small}
+use Rattle.cha_board.proofs.Contents.{in_empty, in_joined, in_single, single_has}
+use Rattle.mob_solve.proofs.Sizes.{joined_more, size_small}
 
 -- rows of no square show nothing
 pub none_in_reach : (n place u : ℕ) → has_square (get_or (replicate n empty_set) place []) u ≡ false

@@ -1,6 +1,3 @@
 pub mod Least
-pub mod Steps
-pub mod Shifts
 pub mod Reaching
-pub mod Grounds
-pub mod Rules
+pub mod Filled

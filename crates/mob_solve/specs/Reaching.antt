@@ -4,7 +4,7 @@ use Rattle.std.specs.List.{sum_by}
 use Rattle.cha_board.specs.declared.men.Kind.{Kind}
 use Rattle.cha_board.specs.Squares.{squares}
 use Rattle.cha_board.specs.SquareSets.{has_square}
-use Rattle.mob_law.specs.Reach.{Sets}
+use Rattle.mob_sets.specs.Mobility.{Sets}
 use Rattle.mob_sets.specs.Rows.{place_of}
 use Rattle.mob_solve.specs.declared.reach.Reach.{Reach}
 

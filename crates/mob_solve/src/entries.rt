@@ -3,9 +3,8 @@
 ghost use Rattle.std.specs.Prelude.{◌≡◌, ◌<◌, ℕ, true, IfOk, OnOk};
 ghost use Rattle.cha_board.specs.declared.men.Kind.{Kind as ManKind};
 ghost use Rattle.cha_board.specs.SquareSets.{has_square};
-ghost use Rattle.mob_law.specs.Reach.{Sets as MobilitySets};
+ghost use Rattle.mob_sets.specs.Mobility.{Sets as MobilitySets, IsWithin};
 ghost use Rattle.mob_sets.specs.Rows.{sets_of};
-ghost use Rattle.mob_solve.specs.Least.{IsWithin};
 ghost use Rattle.mob_solve.specs.Reaching.{sets_in};
 
 use crate::reach::Reach;

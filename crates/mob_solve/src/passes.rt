@@ -4,17 +4,16 @@ ghost use Rattle.std.specs.Prelude.{◌≡◌, ◌<◌, ℕ, false, Some};
 ghost use Rattle.cha_board.specs.declared.men.Color.{Color as Side};
 ghost use Rattle.cha_board.specs.declared.men.Man.{Man as AMan};
 ghost use Rattle.cha_board.specs.Board.{man_at};
-ghost use Rattle.mob_law.specs.Reach.{Sets};
+ghost use Rattle.mob_sets.specs.Mobility.{Sets, IsWithin};
 ghost use Rattle.mob_law.specs.Closed.{IsClosed};
-ghost use Rattle.mob_solve.specs.Least.{IsWithin};
 ghost use Rattle.mob_solve.specs.Reaching.{sets_in, Grew};
-ghost use Rattle.mob_solve.specs.Rules.{ManRules, CastlingRules};
+ghost use Rattle.mob_steps.specs.Rules.{ManRules};
 
-use crate::castling::grow_castlings;
-use crate::ground::Ground;
 use crate::reach::Reach;
+use crate::reached::ground_of;
 use crate::rows::grow_man;
-use cha_board::{Color, Position, Square};
+use cha_board::{Position, Square};
+use mob_steps::Ground;
 
 /// Adds what all the rules ask, as far as what is fixed when the pass begins is concerned, and answers whether something
 /// is new. Where nothing is, the sets are closed.
@@ -24,11 +23,8 @@ pub fn pass(position: &Position, reach: &mut Reach) -> bool
     ensures inside { (r : Sets) → IsClosed position.now r → IsWithin (sets_in reach.old) r → IsWithin (sets_in reach.new) r }
 {
     position.known();
-    let ground = Ground::of(position, reach);
-    let men = grow_men(position, &ground, reach);
-    let white = grow_castlings(position, &ground, reach, Color::White);
-    let black = grow_castlings(position, &ground, reach, Color::Black);
-    men || white || black
+    let ground = ground_of(position, reach);
+    grow_men(position, &ground, reach)
 }
 
 /// Adds what the rules ask for each man, and answers whether something is new.

@@ -3,8 +3,7 @@
 ghost use Rattle.std.specs.Prelude.{◌≡◌, ◌<◌, ℕ, false, true};
 ghost use Rattle.cha_board.specs.declared.men.Kind.{Kind as ManKind};
 ghost use Rattle.cha_board.specs.SquareSets.{has_square};
-ghost use Rattle.mob_law.specs.Reach.{Sets};
-ghost use Rattle.mob_solve.specs.Least.{IsWithin};
+ghost use Rattle.mob_sets.specs.Mobility.{Sets, IsWithin};
 ghost use Rattle.mob_solve.specs.Reaching.{row_of, sets_in, Grew};
 
 use cha_board::{Kind, Square, SquareSet};

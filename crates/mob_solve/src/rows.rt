@@ -5,17 +5,14 @@ ghost use Rattle.cha_board.specs.declared.men.Kind.{Kind as ManKind};
 ghost use Rattle.cha_board.specs.declared.men.Kind.TheVariants.{Pawn};
 ghost use Rattle.cha_board.specs.Men.{same_kind};
 ghost use Rattle.cha_moves.specs.Moves.{is_promotion};
-ghost use Rattle.mob_law.specs.Reach.{Sets};
-ghost use Rattle.mob_solve.specs.Least.{IsWithin};
+ghost use Rattle.mob_sets.specs.Mobility.{Sets, IsWithin};
 ghost use Rattle.mob_solve.specs.Reaching.{sets_in, Grew};
-ghost use Rattle.mob_solve.specs.Rules.{ends_on, AreRules, ManRules};
+ghost use Rattle.mob_steps.specs.Rules.{ends_on, AreRules, ManRules};
 
-use crate::frees::freed;
-use crate::goes::{ends, filled};
-use crate::ground::Ground;
+use crate::filling::filled;
 use crate::reach::Reach;
-use crate::squares::single;
 use cha_board::{Color, Kind, Man, Square, SquareSet};
+use mob_steps::{Ground, ends, freed};
 
 /// Adds what the rules ask for the man of an origin, and answers whether something is new.
 pub fn grow_man(ground: &Ground, reach: &mut Reach, origin: Square, man: Man) -> bool
@@ -23,7 +20,7 @@ pub fn grow_man(ground: &Ground, reach: &mut Reach, origin: Square, man: Man) ->
     ensures rules { result ≡ false → ManRules ground.now (sets_in reach.old) origin man }
     ensures inside { (r : Sets) → ManRules ground.now r origin man → IsWithin (sets_in reach.old) r → IsWithin (sets_in reach.new) r }
 {
-    let begun = reach.join(origin, man.kind, single(origin));
+    let begun = reach.join(origin, man.kind, SquareSet::empty().with(origin));
     let pieces = grow_pieces(ground, reach, origin, man.color);
     let pawn = grow_row(ground, reach, origin, man.color, Kind::Pawn);
     begun || pieces || pawn

@@ -1,7 +1,6 @@
 use Rattle.std.proofs.Common.{◌≡◌, ◌-◌, ◌+◌, false, cond}
-use Rattle.mob_law.specs.Reach.{Sets}
+use Rattle.mob_sets.specs.Mobility.{Sets, IsWithin}
 use Rattle.mob_law.specs.Closed.{IsClosed}
-use Rattle.mob_solve.specs.Least.{IsWithin}
 use Rattle.mob_solve.specs.Reaching.{sets_in, total_of}
 use Rattle.mob_solve.proofs.closure.grown.Given as goal
 

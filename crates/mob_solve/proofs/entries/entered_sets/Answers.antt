@@ -4,10 +4,10 @@ use Rattle.std.proofs.lemmas.Bool.{both_ways, cases_eq}
 use Rattle.cha_board.specs.declared.men.Kind.{Kind}
 use Rattle.cha_board.specs.SquareSets.{has_square}
 use Rattle.mob_sets.specs.Rows.{SetRows, sets_of}
-use Rattle.mob_solve.specs.Least.{IsWithin}
+use Rattle.mob_sets.specs.Mobility.{IsWithin}
 use Rattle.mob_solve.specs.Reaching.{sets_in}
 use Rattle.mob_solve.proofs.Entered.{nothing_within, loosened_grows, loosened_has, loosened_inside, origin_small}
-use Rattle.mob_solve.proofs.RowRules.{shown}
+use Rattle.mob_steps.proofs.RowRules.{shown}
 use Rattle.mob_solve.proofs.entries.entered_sets.Goals as goal
 use Rattle.mob_solve.proofs.entries.entered_sets.Goals.{then-has, else-has}
 

@@ -1,7 +1,7 @@
 use Rattle.std.proofs.Common.{◌≡◌, ◌<◌, ℕ, true}
 use Rattle.cha_board.specs.declared.men.Kind.{Kind}
 use Rattle.mob_sets.specs.Rows.{sets_of}
-use Rattle.mob_solve.specs.Least.{IsWithin}
+use Rattle.mob_sets.specs.Mobility.{IsWithin}
 use Rattle.mob_solve.specs.Reaching.{sets_in}
 use Rattle.mob_solve.proofs.entries.entered_sets.Given as goal
 

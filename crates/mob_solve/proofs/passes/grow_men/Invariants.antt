@@ -1,10 +1,9 @@
 use Rattle.std.proofs.Common.{◌≡◌, ◌<◌, ℕ, false, Some}
 use Rattle.cha_board.specs.declared.men.Man.{Man}
 use Rattle.cha_board.specs.Board.{man_at}
-use Rattle.mob_law.specs.Reach.{Sets}
-use Rattle.mob_solve.specs.Least.{IsWithin}
+use Rattle.mob_sets.specs.Mobility.{Sets, IsWithin}
 use Rattle.mob_solve.specs.Reaching.{sets_in, Grew}
-use Rattle.mob_solve.specs.Rules.{ManRules}
+use Rattle.mob_steps.specs.Rules.{ManRules}
 use Rattle.mob_solve.proofs.passes.grow_men.Given as goal
 
 abbrev pub invariant-loop-index : goal.invariant-loop-index

@@ -2,8 +2,9 @@ use Rattle.std.proofs.Common.{◌∙◌}
 use Rattle.cha_board.specs.declared.men.Kind.{Kind}
 use Rattle.cha_board.specs.declared.men.Kind.TheVariants.{Knight, Bishop, Rook, Queen, King}
 use Rattle.mob_solve.specs.Reaching.{sets_in}
-use Rattle.mob_solve.specs.Rules.{AreRules}
-use Rattle.mob_solve.proofs.RowRules.{each_piece, rules_before}
+use Rattle.mob_steps.specs.Rules.{AreRules}
+use Rattle.mob_steps.proofs.RowRules.{each_piece}
+use Rattle.mob_solve.proofs.RowRules.{rules_before}
 use Rattle.mob_solve.proofs.rows.grow_pieces.Goals as goal
 
 pub returns-then-queen-clause-inside : goal.returns-then-queen-clause-inside

@@ -2,7 +2,9 @@ use Rattle.std.proofs.Common.{◌≡◌, ◌<◌, ◌∙◌, ℕ, List, Bool, tr
 use Rattle.cha_board.specs.SquareSets.{has_square}
 use Rattle.mob_solve.specs.Reaching.{sets_in}
 use Rattle.mob_solve.proofs.Reaches.{has_before, loose_before}
-use Rattle.mob_solve.proofs.RowRules.{ends_inside, row_inside, freed_inside, row_rules}
+use Rattle.mob_steps.specs.Rules.{is_freed}
+use Rattle.mob_steps.proofs.RowRules.{ends_inside, freed_inside, shows}
+use Rattle.mob_solve.proofs.RowRules.{row_inside, row_rules}
 use Rattle.mob_solve.proofs.rows.grow_row.Goals as goal
 
 pub returns-then-promoted-clause-inside : goal.returns-then-promoted-clause-inside
@@ -39,9 +41,9 @@ returns-else-promoted-clause-rules c = λ last.
     let small : o < 64 = omega arith in
     let one = c.join-come.ensures.change.still none.0 in
     let two = c.promote-promoted.ensures.change.still none.1 ∙ one in
-    row_rules c.args.ground.now o c.args.side c.args.kind c.filled-row.result c.row.result c.freed.result (sets_in old) small
+    row_rules c.args.ground.now o c.args.side c.args.kind c.filled-row.result c.row.result (sets_in old) small
     (λ (u : ℕ). ap (λ (x : List Bool). has_square x u) (sym c.row.ensures)) c.filled-row.ensures
     (λ u inside h. c.join-come.ensures.there none.0 u inside h)
     (λ j promotion t inside ends. has_before old c.join-come.new.self o j t one (c.promote-promoted.ensures.rules none.1 j promotion t inside ends))
-    c.freed.ensures
-    (λ x inside h. loose_before old c.promote-promoted.new.reach x two (c.loosen-loosened.ensures.there last x inside h))
+    (λ x inside h. loose_before old c.promote-promoted.new.reach x two
+    (c.loosen-loosened.ensures.there last x inside (shows c.freed.result (is_freed c.args.ground.now o c.args.side c.args.kind c.filled-row.result) c.freed.ensures x inside h)))

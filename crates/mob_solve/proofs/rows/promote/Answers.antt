@@ -2,9 +2,9 @@ use Rattle.std.proofs.Common.{◌≡◌, ◌∙◌, true, refl}
 use Rattle.cha_board.specs.declared.men.Kind.{Kind}
 use Rattle.cha_board.specs.declared.men.Kind.TheVariants.{Knight, Bishop, Rook, Queen}
 use Rattle.mob_solve.specs.Reaching.{sets_in}
-use Rattle.mob_solve.specs.Rules.{ends_on}
+use Rattle.mob_steps.specs.Rules.{ends_on}
 use Rattle.mob_solve.proofs.Reaches.{has_before}
-use Rattle.mob_solve.proofs.RowRules.{shown, shows, each_promotion}
+use Rattle.mob_steps.proofs.RowRules.{shown, shows, each_promotion}
 use Rattle.mob_solve.proofs.rows.promote.Goals as goal
 
 pub returns-then-bishop-clause-inside : goal.returns-then-bishop-clause-inside

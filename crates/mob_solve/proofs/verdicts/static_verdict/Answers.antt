@@ -1,7 +1,7 @@
 use Rattle.std.proofs.lemmas.Bool.{both_ways}
 use Rattle.mob_law.specs.Threats.{HasNoMate}
 use Rattle.mob_law.proofs.Law.{bounded}
-use Rattle.mob_solve.proofs.Growing.{no_mate_shrinks}
+use Rattle.mob_law.proofs.Growing.{no_mate_shrinks}
 use Rattle.mob_sets.specs.Rows.{sets_of}
 use Rattle.mob_solve.proofs.verdicts.static_verdict.Goals as goal
 

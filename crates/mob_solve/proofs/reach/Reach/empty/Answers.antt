@@ -1,7 +1,7 @@
 use Rattle.std.proofs.Common.{List, [], Bool, ap, ◌∙◌, get_or, replicate}
 use Rattle.cha_board.specs.SquareSets.{has_square}
 use Rattle.mob_sets.specs.Rows.{place_of}
-use Rattle.mob_solve.proofs.Contents.{in_empty}
+use Rattle.cha_board.proofs.Contents.{in_empty}
 use Rattle.mob_solve.proofs.Reaches.{none_in_reach}
 use Rattle.mob_solve.proofs.reach.Reach.empty.Goals as goal
 

@@ -1,7 +1,7 @@
 use Rattle.std.proofs.Common.{◌≡◌, ◌<◌, List, Bool, [], get_or, length, sym, ap, ◌∙◌, arith}
 use Rattle.std.proofs.lemmas.Bool.{true≢false}
 use Rattle.cha_board.specs.SquareSets.{has_square, is_subset, set_joined}
-use Rattle.mob_solve.proofs.Contents.{subset_at}
+use Rattle.cha_board.proofs.Contents.{subset_at}
 use Rattle.mob_solve.proofs.Reaches.{joined_within, joined_total}
 use Rattle.mob_solve.proofs.reach.Reach.join.Goals as goal
 use Rattle.mob_solve.proofs.reach.Reach.join.Goals.{After-index-self-place}

@@ -1,6 +1,6 @@
 use Rattle.std.proofs.Common.{sym, ◌∙◌}
 use Rattle.std.proofs.lemmas.Bool.{true≢false}
-use Rattle.mob_solve.proofs.Contents.{subset_at}
+use Rattle.cha_board.proofs.Contents.{subset_at}
 use Rattle.mob_solve.proofs.Reaches.{loosened_within, loosened_total}
 use Rattle.mob_solve.proofs.reach.Reach.loosen.Goals as goal
 

@@ -1,8 +1,0 @@
-use Rattle.std.proofs.Common.{ℕ}
-use Rattle.mob_solve.specs.Reaching.{sets_in}
-use Rattle.mob_solve.specs.Grounds.{reaches_from}
-use Rattle.mob_solve.proofs.Loops.{Gathers}
-use Rattle.mob_solve.proofs.ground.reached_squares.Given as goal
-
-abbrev pub invariant-loop-index : goal.invariant-loop-index
-invariant-loop-index l = Gathers (λ (o t : ℕ). reaches_from l.position (sets_in l.reach) l.side t o) l.squares l.index

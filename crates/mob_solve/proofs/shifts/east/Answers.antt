@@ -1,8 +1,0 @@
-use Rattle.cha_board.specs.SquareSets.{set_common}
-use Rattle.mob_solve.proofs.Shifted.{moved_east}
-use Rattle.mob_solve.proofs.shifts.east.Goals as goal
-
-pub returns : goal.returns
-unfolding set_common
-returns c =
-    moved_east c.bits.result c.args.set c.from_bits.result c.from_bits-all_but_a.result c.common.result c.bits.ensures.shown c.from_bits.ensures c.from_bits-all_but_a.ensures c.common.ensures

@@ -1,0 +1,9 @@
+pub mod Pulls
+pub mod Going
+pub mod Freeing
+pub mod GroundAt
+pub mod Grounds
+pub mod Lines
+pub mod Grounded
+pub mod Closing
+pub mod RowRules

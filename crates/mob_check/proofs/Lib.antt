@@ -1,7 +1,9 @@
 pub mod Choices
 pub mod Loops
 pub mod Reaching
-pub mod Fixing
+pub mod Seeing
+pub mod AtMostOne
+pub mod StruckSets
 pub mod MenInReach
 pub mod Unreached
 pub mod NextTo

@@ -11,9 +11,10 @@ use Rattle.cha_board.specs.declared.men.Man.{Man}
 use Rattle.cha_board.specs.Men.{same_kind, is_man, is_non_king}
 use Rattle.cha_board.specs.Squares.{squares}
 use Rattle.cha_board.specs.Board.{Board, man_at}
-use Rattle.cha_board.specs.SquareSets.{has_square}
+use Rattle.cha_board.specs.SquareSets.{set_of, has_square}
 use Rattle.cha_board.specs.SetLaws.{has-set_of}
 use Rattle.cha_board.proofs.Scans.{any_square_at, no_square}
+use Rattle.mob_steps.specs.Grounds.{has_own}
 use Rattle.mob_law.specs.Threats.{KingOn, NonKingOn, HasAtMostOneMan}
 use Rattle.cha_board.proofs.Contents.{some_square}
 use Rattle.mob_sets.specs.Rows.{Row, SetRows, is_entry, has_entry, sets_of}
@@ -22,7 +23,8 @@ use Rattle.mob_sets.proofs.Entries.{entry_parts, entry_from}
 use Rattle.mob_check.specs.declared.groups.Group.{Group}
 use Rattle.mob_check.specs.declared.groups.Group.TheVariants.{KingOf, MenOf, MenAs}
 use Rattle.mob_check.specs.Reaches.{is_row_of, reaches_by, reaches, reach_of}
-use Rattle.mob_check.specs.Scenes.{squares_as, reach_by_kind, are_two, has_two}
+use Rattle.mob_check.specs.Scenes.{squares_as, reach_by_kind, has_at_most_one}
+use Rattle.mob_check.proofs.AtMostOne.{at_most_one, several}
 
 -- where men are in reach as a kind
 pub squares_as_is : (p : Board) (rows : List Row) (c : Color) (k : Kind) → squares_as (reach_by_kind p rows c) k ≡ reach_of p rows (MenAs c k)
@@ -103,11 +105,6 @@ module _ (p : Board) (r : SetRows) where
   any_from c k u m =
       on_row p r.rows (MenOf c) m.origin k u m.small m.reach (λ row e f. ap (λ o. is_non_king c (man_at p.men o)) e ∙ m.stood)
 
--- where no man of c other than its king stands, it has no two
-pub not_two : (men : List (Option Man)) (c : Color) (u : ℕ) → is_non_king c (man_at men u) ≡ false → list_any (are_two men c u) squares ≡ false
-unfolding are_two
-not_two men c u none = no_square (are_two men c u) (λ v small. rw none refl)
-
 -- a man stands on the board
 pub small_of : (men : List (Option Man)) (c : Color) (u : ℕ) → length men ≡ 64 → is_non_king c (man_at men u) ≡ true → u < 64
 small_of men c u size h =
@@ -118,22 +115,14 @@ small_of men c u size h =
           absurd (both_ways (is_non_king c (man_at men u)) none h))
     ]
 
-pub one_from : (p : Board) (c : Color) → length p.men ≡ 64 → has_two p.men c ≡ false → HasAtMostOneMan p c
-unfolding has_two are_two
-one_from p c size none u v here there =
-    elim (cases_eq u v) [
-      | inl e ↦ e
-      | inr ne ↦ (
-          let two = and_from (is_non_king c (man_at p.men u) && is_non_king c (man_at p.men v)) (not (u == v)) (and_from (is_non_king c (man_at p.men u)) (is_non_king c (man_at p.men v)) here there) (ap not (ne_eqb u v ne)) in
-          let inner = any_square_at (are_two p.men c u) v (small_of p.men c v size there) two in
-          absurd (both_ways (has_two p.men c) none (any_square_at (λ x. list_any (are_two p.men c x) squares) u (small_of p.men c u size here) inner)))
-    ]
+-- a side has at most one man beside its king, or more
+pub one_from : (p : Board) (c : Color) → length p.men ≡ 64 → has_at_most_one (set_of (has_own p c)) ≡ true → HasAtMostOneMan p c
+unfolding has_own
+one_from p c size few u v here there =
+    at_most_one (λ s. is_non_king c (man_at p.men s)) few u v (small_of p.men c u size here) (small_of p.men c v size there) here there
 
-pub two_not_one : (p : Board) (c : Color) → has_two p.men c ≡ true → HasAtMostOneMan p c → ⊥
-unfolding has_two are_two
-two_not_one p c two one =
-    let a = some_square (λ x. list_any (are_two p.men c x) squares) two in
-    let b = some_square (are_two p.men c a.0) a.2 in
-    let both = and_parts (is_non_king c (man_at p.men a.0) && is_non_king c (man_at p.men b.0)) (not (a.0 == b.0)) b.2 in
-    let each = and_parts (is_non_king c (man_at p.men a.0)) (is_non_king c (man_at p.men b.0)) both.0 in
-    eqb-false a.0 b.0 (not-true (a.0 == b.0) both.1) (one a.0 b.0 each.0 each.1)
+pub several_not_one : (p : Board) (c : Color) → has_at_most_one (set_of (has_own p c)) ≡ false → HasAtMostOneMan p c → ⊥
+unfolding has_own
+several_not_one p c more one =
+    let two = several (λ s. is_non_king c (man_at p.men s)) more in
+    two.apart (one two.first two.second two.here two.there)

@@ -1,19 +1,19 @@
 -- Squares on which no man of the winner is in reach: from there none gives check, attacks a square or mates.
 use Rattle.std.proofs.Common.{◌≡◌, ℕ, ◌<◌, Bool, true, false, ◌&&◌, ◌||◌, ◌==◌, if◌then◌else◌, List, refl, ap, sym, ◌∙◌}
+use Rattle.std.specs.List.{list_any}
 use Rattle.std.specs.Int.{bit_at}
 use Rattle.std.proofs.lemmas.Nat.Bits.{bit_at-zero}
 use Rattle.cha_board.specs.declared.men.Kind.{Kind}
 use Rattle.cha_board.specs.declared.men.Kind.TheVariants.{Pawn, Knight, Bishop, Rook, Queen, King}
-use Rattle.cha_board.specs.declared.men.Man.{Man}
-use Rattle.std.specs.Prelude.{Option}
 use Rattle.cha_board.specs.SquareSets.{set_of_bits, has_square, set_joined}
 use Rattle.cha_board.specs.SetLaws.{has-set_of}
 use Rattle.cha_board.proofs.Scans.{no_square}
+use Rattle.mob_sets.specs.Rows.{kinds}
 use Rattle.mob_sets.proofs.KindTests.{no_kind}
 use Rattle.mob_check.specs.declared.scene.Reach.{Reach}
 use Rattle.mob_check.specs.declared.scene.Scene.{Scene}
 use Rattle.mob_check.specs.Scenes.{squares_as, all_in_reach}
-use Rattle.mob_check.specs.Mates.{checks_as, checks_from, has_check, seen_through, strikes_as, strikes_from, mates_as, mates_from, mates_with_one, mates_with_all, may_mate_on, may_mate}
+use Rattle.mob_check.specs.Mates.{checks_as, checks_from, has_check, seen_through, strikes_as, mates_as, mates_from, mates_with_one, mates_with_all, may_mate_on, may_mate}
 
 neither : (a b : Bool) → (a || b) ≡ false → (a ≡ false) × (b ≡ false)
 neither true b h = cc
@@ -51,11 +51,11 @@ pub no_check_from : (scene : Scene) (ks u : ℕ) → u < 64 → has_square (all_
 unfolding checks_from checks_as
 no_check_from scene ks u small none = no_kind (checks_as scene ks u) (λ k. rw (not_as scene.men u k small none) refl)
 
-pub no_strike_from : (scene : Scene) (seen : List (Option Man)) (ks n u : ℕ) → u < 64 → has_square (all_in_reach scene.men) u ≡ false → strikes_from scene seen ks n u ≡ false
-unfolding strikes_from strikes_as
-no_strike_from scene seen ks n u small none = no_kind (strikes_as scene seen ks n u) (λ k. rw (not_as scene.men u k small none) refl)
+pub no_strike_as : (scene : Scene) (seen : List Bool) (ks n u : ℕ) → u < 64 → has_square (all_in_reach scene.men) u ≡ false → list_any (strikes_as scene seen ks n u) kinds ≡ false
+unfolding strikes_as
+no_strike_as scene seen ks n u small none = no_kind (strikes_as scene seen ks n u) (λ k. rw (not_as scene.men u k small none) refl)
 
-pub no_mate_from : (scene : Scene) (seen : List (Option Man)) (ks u : ℕ) → u < 64 → has_square (all_in_reach scene.men) u ≡ false → mates_from scene seen ks u ≡ false
+pub no_mate_from : (scene : Scene) (seen : List Bool) (ks u : ℕ) → u < 64 → has_square (all_in_reach scene.men) u ≡ false → mates_from scene seen ks u ≡ false
 unfolding mates_from mates_as checks_as
 no_mate_from scene seen ks u small none = no_kind (mates_as scene seen ks u) (λ k. rw (not_as scene.men u k small none) refl)
 

@@ -1,4 +1,3 @@
-pub mod FixedMen
 pub mod Nearness
 pub mod Reaches
 pub mod Closing

@@ -1,19 +1,17 @@
 -- What a search for a mate looks at, once for all squares of the two kings.
-use Rattle.std.specs.Prelude.{◌==◌, ℕ, Bool, not, ◌&&◌, List, Option}
-use Rattle.std.specs.List.{list_any}
+use Rattle.std.specs.Prelude.{Bool, List, length, ltb}
 use Rattle.cha_board.specs.declared.men.Color.{Color}
 use Rattle.cha_board.specs.declared.men.Kind.{Kind}
 use Rattle.cha_board.specs.declared.men.Kind.TheVariants.{Pawn, Knight, Bishop, Rook, Queen, King}
-use Rattle.cha_board.specs.declared.men.Man.{Man}
-use Rattle.cha_board.specs.Men.{other_color, is_non_king}
-use Rattle.cha_board.specs.Squares.{squares}
-use Rattle.cha_board.specs.Board.{Board, man_at}
-use Rattle.cha_board.specs.SquareSets.{set_joined}
+use Rattle.cha_board.specs.Men.{other_color}
+use Rattle.cha_board.specs.Board.{Board}
+use Rattle.cha_board.specs.SquareSets.{set_of, squares_in, set_joined}
+use Rattle.mob_law.specs.Reach.{is_fixed}
+use Rattle.mob_steps.specs.Grounds.{has_own}
 use Rattle.mob_sets.specs.Rows.{Row, SetRows, sets_of}
 use Rattle.mob_check.specs.declared.groups.Group.TheVariants.{KingOf, MenOf, MenAs}
 use Rattle.mob_check.specs.declared.scene.Reach.{Reach}
 use Rattle.mob_check.specs.declared.scene.Scene.{Scene}
-use Rattle.mob_check.specs.FixedMen.{fixed_men}
 use Rattle.mob_check.specs.Reaches.{reach_of}
 
 -- the squares on which men are in reach as a kind
@@ -39,19 +37,15 @@ reach_by_kind p rows c = record {
   kings = reach_of p rows (MenAs c King);
 }
 
--- men of c other than the king stand on u and on another square v
-unfoldable pub are_two : List (Option Man) → Color → ℕ → ℕ → Bool
-are_two men c u v = is_non_king c (man_at men u) && is_non_king c (man_at men v) && not (u == v)
-
--- c has two men beside its king
-unfoldable pub has_two : List (Option Man) → Color → Bool
-has_two men c = list_any (λ u. list_any (are_two men c u) squares) squares
+-- a set has at most one square
+unfoldable pub has_at_most_one : List Bool → Bool
+has_at_most_one set = ltb (length (squares_in set)) 2
 
 unfoldable pub scene_of : Board → SetRows → Color → Scene
 scene_of p r w = record {
-  fixed = fixed_men p (sets_of r);
+  fixed = set_of (is_fixed p (sets_of r));
   winner = w;
-  one_man = not (has_two p.men w);
+  one_man = has_at_most_one (set_of (has_own p w));
   men = reach_by_kind p r.rows w;
   winner_king = reach_of p r.rows (KingOf w);
   loser_king = reach_of p r.rows (KingOf (other_color w));

@@ -1,14 +1,13 @@
 //! Mobility sets, checked against a position: whether they are closed, and whether they leave a mate in reach.
 //!
 //! `closing` has the test of closed sets; `mates` the search for a mate, with `scene`, `strikes` and `near`; `bound` both
-//! together. `fixed` has the fixed men, and `groups` entries of sets.
+//! together, and `groups` entries of sets.
 #![tactic(auto)]
 
 mod bound;
 mod closing;
 #[cfg(test)]
 mod closing_tests;
-mod fixed;
 mod groups;
 #[cfg(test)]
 mod mate_tests;

@@ -7,8 +7,8 @@ ghost use Rattle.mob_check.specs.Mates.{is_shut, shuts_from, may_shut, mates_wit
 
 use crate::near::{is_near, squares_near};
 use crate::scene::{Scene, somewhere};
-use crate::strikes::{check_as, some_check, struck, struck_from, through_king};
-use cha_board::{Color, Kind, Man, Position, Square, SquareSet};
+use crate::strikes::{check_as, some_check, struck, struck_from};
+use cha_board::{Color, Kind, Position, Square, SquareSet};
 use mob_sets::Sets;
 
 /// Whether mobility sets have no mate for a winner (this project): wherever the two kings may stand, either no man of the
@@ -45,18 +45,18 @@ fn mate_on(scene: &Scene, king: Square) -> bool
     if !scene.loser_king.has(king) {
         return false;
     }
-    let seen = through_king(scene, king);
+    let seen = scene.fixed.without(king);
     if scene.one_man {
-        mate_with_one(scene, &seen, king)
+        mate_with_one(scene, seen, king)
     } else {
-        mate_with_all(scene, &seen, king)
+        mate_with_all(scene, seen, king)
     }
 }
 
 /// Whether one man of the winner may give check while its men and its king keep the other king in.
 #[tactic(auto, unfolding(crate::specs::Mates::mates_with_all))]
-fn mate_with_all(scene: &Scene, seen: &[Option<Man>; 64], king: Square) -> bool
-    ensures { result ≡ mates_with_all scene.now seen.now king }
+fn mate_with_all(scene: &Scene, seen: SquareSet, king: Square) -> bool
+    ensures { result ≡ mates_with_all scene.now seen king }
 {
     some_check(scene, king)
         && some_shut(
@@ -68,8 +68,8 @@ fn mate_with_all(scene: &Scene, seen: &[Option<Man>; 64], king: Square) -> bool
 
 /// Whether the only man of the winner may give check while it and its king keep the other king in.
 #[tactic(auto, unfolding(crate::specs::Mates::mates_with_one), using(crate::proofs::Unreached::no_mate_from))]
-fn mate_with_one(scene: &Scene, seen: &[Option<Man>; 64], king: Square) -> bool
-    ensures { result ≡ mates_with_one scene.now seen.now king }
+fn mate_with_one(scene: &Scene, seen: SquareSet, king: Square) -> bool
+    ensures { result ≡ mates_with_one scene.now seen king }
 {
     let men = somewhere(&scene.men);
     for index in 0..64 {
@@ -83,8 +83,8 @@ fn mate_with_one(scene: &Scene, seen: &[Option<Man>; 64], king: Square) -> bool
 
 /// The same from a square.
 #[tactic(auto, unfolding(crate::specs::Mates::mates_from))]
-fn mate_from(scene: &Scene, seen: &[Option<Man>; 64], king: Square, from: Square) -> bool
-    ensures { result ≡ mates_from scene.now seen.now king from }
+fn mate_from(scene: &Scene, seen: SquareSet, king: Square, from: Square) -> bool
+    ensures { result ≡ mates_from scene.now seen king from }
 {
     mate_as(scene, seen, king, from, Kind::Pawn)
         || mate_as(scene, seen, king, from, Kind::Knight)
@@ -96,8 +96,8 @@ fn mate_from(scene: &Scene, seen: &[Option<Man>; 64], king: Square, from: Square
 
 /// The same from a square, as a kind.
 #[tactic(auto, unfolding(crate::specs::Mates::mates_as))]
-fn mate_as(scene: &Scene, seen: &[Option<Man>; 64], king: Square, from: Square, kind: Kind) -> bool
-    ensures { result ≡ mates_as scene.now seen.now king from kind }
+fn mate_as(scene: &Scene, seen: SquareSet, king: Square, from: Square, kind: Kind) -> bool
+    ensures { result ≡ mates_as scene.now seen king from kind }
 {
     check_as(scene, king, from, kind)
         && some_shut(

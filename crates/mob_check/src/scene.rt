@@ -1,14 +1,16 @@
 //! What a search for a mate looks at, once for all squares of the two kings.
 
-ghost use Rattle.std.specs.Prelude.{◌≡◌, not};
-ghost use Rattle.std.specs.List.{list_any};
-ghost use Rattle.cha_board.specs.Squares.{squares};
-ghost use Rattle.mob_check.specs.Scenes.{squares_as, all_in_reach, reach_by_kind, are_two, has_two, scene_of};
+ghost use Rattle.std.specs.Prelude.{◌≡◌};
+ghost use Rattle.cha_board.specs.SquareSets.{set_of};
+ghost use Rattle.mob_law.specs.Reach.{is_fixed};
+ghost use Rattle.mob_sets.specs.Rows.{sets_of};
+ghost use Rattle.mob_steps.specs.Grounds.{has_own};
+ghost use Rattle.mob_check.specs.Scenes.{squares_as, all_in_reach, reach_by_kind, has_at_most_one, scene_of};
 
-use crate::fixed::fixed_alone;
-use crate::groups::{Group, is_man_other_than_king, squares_of};
-use cha_board::{Color, Kind, Man, Position, Square, SquareSet};
+use crate::groups::{Group, squares_of};
+use cha_board::{Color, Kind, Position, SquareSet};
 use mob_sets::{SetRow, Sets};
+use mob_steps::own_squares;
 
 /// The squares on which men of a side other than its king are in reach, by what they may be there.
 #[derive(Debug, Drop)]
@@ -24,8 +26,8 @@ pub struct Reach {
 /// What mobility sets say of a side that might mate, and of its opponent.
 #[derive(Debug, Drop)]
 pub struct Scene {
-    /// The fixed men.
-    pub fixed: [Option<Man>; 64],
+    /// The squares with a fixed man.
+    pub fixed: SquareSet,
     /// The side that might mate.
     pub winner: Color,
     /// Whether the winner has at most one man beside its king.
@@ -77,15 +79,30 @@ impl Scene {
         let rows = sets.rows();
         let loser = winner.other();
         Scene {
-            fixed: fixed_alone(position, sets),
+            fixed: fixed_squares(position, sets),
             winner,
-            one_man: !two_men(&position.placement().list(), winner),
+            one_man: one_man(position, winner),
             men: reach_kinds(position, rows, winner),
             winner_king: squares_of(position, rows, Group::KingOf(winner)),
             loser_king: squares_of(position, rows, Group::KingOf(loser)),
             loser_men: squares_of(position, rows, Group::MenOf(loser)),
         }
     }
+}
+
+/// The squares with a fixed man.
+fn fixed_squares(position: &Position, sets: &Sets) -> SquareSet
+    ensures { result ≡ set_of (is_fixed position.now (sets_of sets.now)) }
+{
+    position.occupied().minus(sets.loose())
+}
+
+/// Whether a side has at most one man beside its king.
+#[tactic(auto, unfolding(crate::specs::Scenes::has_at_most_one))]
+fn one_man(position: &Position, side: Color) -> bool
+    ensures { result ≡ has_at_most_one (set_of (has_own position.now side)) }
+{
+    own_squares(position, side).len() < 2
 }
 
 /// Where the men of a side other than its king are in reach.
@@ -101,43 +118,4 @@ fn reach_kinds(position: &Position, rows: &[SetRow], side: Color) -> Reach
         queens: squares_of(position, rows, Group::MenAs(side, Kind::Queen)),
         kings: squares_of(position, rows, Group::MenAs(side, Kind::King)),
     }
-}
-
-/// Whether a side has two men beside its king.
-#[tactic(auto, unfolding(crate::specs::Scenes::has_two))]
-fn two_men(men: &[Option<Man>; 64], side: Color) -> bool
-    ensures { result ≡ has_two men.now side }
-{
-    for index in 0..64 {
-        if another_man(men, side, Square::at(index)) {
-            return true;
-        }
-    }
-    false
-}
-
-/// Whether a side has a man beside its king on a square, and one on another.
-#[tactic(auto, using(crate::proofs::MenInReach::not_two))]
-fn another_man(men: &[Option<Man>; 64], side: Color, at: Square) -> bool
-    ensures { result ≡ list_any (are_two men.now side at) squares }
-{
-    if !is_man_other_than_king(men[usize::from(at.index())], side) {
-        return false;
-    }
-    for index in 0..64 {
-        if two_on(men, side, at, Square::at(index)) {
-            return true;
-        }
-    }
-    false
-}
-
-/// Whether men of a side other than its king stand on two different squares.
-#[tactic(auto, unfolding(crate::specs::Scenes::are_two))]
-fn two_on(men: &[Option<Man>; 64], side: Color, one: Square, other: Square) -> bool
-    ensures { result ≡ are_two men.now side one other }
-{
-    is_man_other_than_king(men[usize::from(one.index())], side)
-        && is_man_other_than_king(men[usize::from(other.index())], side)
-        && one.index() != other.index()
 }

@@ -1,4 +1,3 @@
-pub mod Loops
 pub mod Sizes
 pub mod Reaches
 pub mod Fills

@@ -118,14 +118,17 @@ six_joined a b c d e f =
     ap (λ x. x || has_square f s) (joined_at three e s small ∙ ap (λ x. x || has_square e s) (joined_at two d s small ∙ ap (λ x. x || has_square d s) (joined_at one c s small ∙ ap (λ x. x || has_square c s) (joined_at a b s small))))
     ∙ or_six (has_square a s) (has_square b s) (has_square c s) (has_square d s) (has_square e s) (has_square f s))
 
-pub guarded_are : (p : Board) (s : Sets) (c : Color) (a b d e f g : List Bool) → a ≡ set_of (guards_with p s c Pawn) → b ≡ set_of (guards_with p s c Knight) → d ≡ set_of (guards_with p s c Bishop)
-    → e ≡ set_of (guards_with p s c Rook) → f ≡ set_of (guards_with p s c Queen) → g ≡ set_of (guards_with p s c King)
-    → set_joined (set_joined (set_joined (set_joined (set_joined a b) d) e) f) g ≡ set_of (is_guarded p s c)
-guarded_are p s c a b d e f g pawns knights bishops rooks queens kings =
-    let at = λ (k : Kind) (x : List Bool) (is : x ≡ set_of (guards_with p s c k)) (t : ℕ) (small : t < 64). ap (λ y. has_square y t) is ∙ has-set_of (guards_with p s c k) t small in
-    six_joined a b d e f g
-    ∙ same_set (λ t. has_square a t || (has_square b t || (has_square d t || (has_square e t || (has_square f t || (has_square g t || false)))))) (is_guarded p s c) (λ t small.
-    rw (at Pawn a pawns t small, at Knight b knights t small, at Bishop d bishops t small, at Rook e rooks t small, at Queen f queens t small, at King g kings t small) (guarded_by_kind p s c t))
+-- what is in the sets of all kinds
+pub kinds_joined : (f : Kind → ℕ → Bool) (a b d e g h : List Bool) → a ≡ set_of (f Pawn) → b ≡ set_of (f Knight) → d ≡ set_of (f Bishop) → e ≡ set_of (f Rook) → g ≡ set_of (f Queen) → h ≡ set_of (f King)
+    → set_joined (set_joined (set_joined (set_joined (set_joined a b) d) e) g) h ≡ set_of (λ t. list_any (λ k. f k t) kinds)
+kinds_joined f a b d e g h pawns knights bishops rooks queens kings =
+    let at = λ (k : Kind) (x : List Bool) (is : x ≡ set_of (f k)) (t : ℕ) (small : t < 64). ap (λ y. has_square y t) is ∙ has-set_of (f k) t small in
+    six_joined a b d e g h
+    ∙ same_set (λ t. has_square a t || (has_square b t || (has_square d t || (has_square e t || (has_square g t || (has_square h t || false)))))) (λ t. list_any (λ k. f k t) kinds) (λ t small.
+    rw (at Pawn a pawns t small, at Knight b knights t small, at Bishop d bishops t small, at Rook e rooks t small, at Queen g queens t small, at King h kings t small) refl)
+
+pub guarded_are : (p : Board) (s : Sets) (c : Color) → set_of (λ t. list_any (λ k. guards_with p s c k t) kinds) ≡ set_of (is_guarded p s c)
+guarded_are p s c = same_set (λ t. list_any (λ k. guards_with p s c k t) kinds) (is_guarded p s c) (λ t small. guarded_by_kind p s c t)
 
 -- the target
 pub no_target : (p : Board) (c : Color) → p.target ≡ None → empty_set ≡ set_of (is_target_for p c)

@@ -7,3 +7,4 @@ pub mod Lines
 pub mod Grounded
 pub mod Closing
 pub mod RowRules
+pub mod Gathering

@@ -1,6 +1,7 @@
-use Rattle.mob_check.specs.Mates.{is_struck}
-use Rattle.mob_check.proofs.Loops.{Collects}
+use Rattle.std.proofs.Common.{ℕ}
+use Rattle.mob_steps.proofs.Gathering.{Gathers}
+use Rattle.mob_check.specs.Mates.{strikes_from}
 use Rattle.mob_check.proofs.strikes.struck.Given as goal
 
 abbrev pub invariant-loop-index : goal.invariant-loop-index
-invariant-loop-index l = Collects (is_struck l.scene l.seen l.king) l.squares l.index
+invariant-loop-index l = Gathers (λ (u n : ℕ). strikes_from l.scene l.seen l.king n u) l.squares l.index

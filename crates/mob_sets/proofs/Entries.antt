@@ -2,13 +2,12 @@
 use Rattle.std.proofs.Common.{◌≡◌, ℕ, zero, suc, ◌<◌, Bool, true, false, ◌&&◌, ◌||◌, ◌==◌, List, [], ◌∷◌, length, get_or, set, take, drop, refl, ap, sym, ◌∙◌, arith, inl, inr}
 use Rattle.std.specs.List.{list_any, insert}
 use Rattle.std.proofs.Math.Bool.{or_assoc}
-use Rattle.std.proofs.lemmas.Bool.{cases_lt, cases_order, cases_Bool, eqb-true, eq-eqb, ne_eqb, and_parts, and_from, both_ways, false_from_ne_true}
-use Rattle.std.proofs.lemmas.List.{take-append-drop, get_or_past, get_or_default}
+use Rattle.std.proofs.lemmas.Bool.{cases_order, cases_Bool, eqb-true, eq-eqb, and_parts, and_from, both_ways, false_from_ne_true}
+use Rattle.std.proofs.lemmas.List.{take-append-drop, get_or_default}
 use Rattle.std.proofs.lemmas.List.Folds.{list_any-append, list_any_at, list_any_none}
 use Rattle.cha_board.specs.declared.men.Kind.{Kind}
 use Rattle.cha_board.specs.Men.{same_kind}
-use Rattle.cha_board.specs.SquareSets.{set_of, empty_set, has_square, set_with}
-use Rattle.cha_board.specs.SetLaws.{length-set_of, has-set_of}
+use Rattle.cha_board.specs.SquareSets.{has_square}
 use Rattle.mob_sets.specs.Rows.{Row, is_entry, has_entry, place_of, row_place}
 use Rattle.mob_sets.specs.Tidy.{AreTidy, IsThere, IsMissing}
 use Rattle.mob_sets.proofs.Order.{place_tells, same_kind_tells, same_kind_self}

@@ -1,16 +1,14 @@
 -- Rows stay tidy.
-use Rattle.std.proofs.Common.{◌≡◌, ◌≢◌, ℕ, ◌+◌, ◌-◌, ◌<◌, ◌≤◌, Bool, true, ◌||◌, ◌==◌, List, [], length, get_or, set, refl, ap, sym, ◌∙◌, arith, inl, inr}
+use Rattle.std.proofs.Common.{◌≡◌, ◌≢◌, ℕ, ◌+◌, ◌-◌, ◌<◌, ◌≤◌, Bool, List, [], length, get_or, set, ap, sym, ◌∙◌, arith, inl, inr}
 use Rattle.std.specs.List.{All, insert}
-use Rattle.std.proofs.lemmas.Bool.{cases_eq, cases_order, eq-eqb, both_ways}
-use Rattle.std.proofs.lemmas.List.{get_or-set_same, get_or-set_other, length-set, get_or_default}
+use Rattle.std.proofs.lemmas.Bool.{cases_eq, cases_order}
+use Rattle.std.proofs.lemmas.List.{get_or-set_same, get_or-set_other}
 use Rattle.std.proofs.lemmas.List.Edits.{length-insert, get_or-insert_below, get_or-insert_at, get_or-insert_above}
-use Rattle.std.proofs.lemmas.List.Elements.{All-set}
-use Rattle.cha_board.specs.SquareSets.{empty_set, has_square, set_with}
-use Rattle.cha_board.specs.SetLaws.{length-set_of}
+use Rattle.cha_board.specs.SquareSets.{set_with}
 use Rattle.mob_sets.specs.Rows.{Row, has_entry, sets_of, sets_loosened, row_place}
 use Rattle.mob_sets.specs.Tidy.{AreTidy, IsFull, IsMissing}
 use Rattle.mob_sets.proofs.Order.{rows_rise}
-use Rattle.cha_board.proofs.Contents.{has-set_with, in_empty}
+use Rattle.cha_board.proofs.Contents.{has-set_with}
 
 pub none_tidy : AreTidy []
 none_tidy = record {

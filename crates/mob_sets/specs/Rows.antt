@@ -4,7 +4,7 @@ use Rattle.std.specs.List.{list_any}
 use Rattle.cha_board.specs.declared.men.Kind.{Kind}
 use Rattle.cha_board.specs.declared.men.Kind.TheVariants.{Pawn, Knight, Bishop, Rook, Queen, King}
 use Rattle.cha_board.specs.Men.{same_kind}
-use Rattle.cha_board.specs.SquareSets.{has_square, empty_set, set_with, set_joined}
+use Rattle.cha_board.specs.SquareSets.{has_square, set_joined}
 use Rattle.mob_sets.specs.Mobility.{Sets}
 
 -- the squares on which the man of an origin may ever stand as a kind

@@ -1,5 +1,5 @@
-use Rattle.std.proofs.Common.{List, Bool, sym, ap, ◌∙◌, arith, ◌<◌, length}
-use Rattle.cha_board.specs.SquareSets.{has_square, set_of}
+use Rattle.std.proofs.Common.{sym, ap, ◌∙◌}
+use Rattle.cha_board.specs.SquareSets.{set_of}
 use Rattle.cha_board.specs.SetLaws.{length-set_of, has-set_of, same_set, same_squares}
 use Rattle.mob_sets.specs.Rows.{Row, has_entry}
 use Rattle.mob_sets.proofs.Entries.{shown_there, shown_nowhere}

@@ -1,4 +1,3 @@
-use Rattle.std.proofs.Common.{◌∙◌}
 use Rattle.mob_steps.proofs.Grounds.{guarded_are}
 use Rattle.mob_steps.proofs.ground.guarded_squares.Goals as goal
 

@@ -1,10 +1,10 @@
 -- The tests of closed sets hold where the rules on the ground do.
-use Rattle.std.proofs.Common.{◌≡◌, ℕ, ◌<◌, Bool, true, ◌&&◌, List, length, Option, Some, None, refl, sym, ap, subst, ◌∙◌}
+use Rattle.std.proofs.Common.{◌≡◌, ℕ, ◌<◌, true, ◌&&◌, length, Option, Some, None, refl, sym, subst, ◌∙◌}
 use Rattle.std.specs.List.{list_all, list_any}
 use Rattle.std.proofs.lemmas.Bool.{and_parts, and_from}
 use Rattle.cha_board.specs.declared.men.Color.{Color}
 use Rattle.cha_board.specs.declared.men.Kind.{Kind}
-use Rattle.cha_board.specs.declared.men.Kind.TheVariants.{Pawn, Knight, Bishop, Rook, Queen, King}
+use Rattle.cha_board.specs.declared.men.Kind.TheVariants.{Knight, Bishop, Rook, Queen}
 use Rattle.cha_board.specs.declared.men.Man.{Man}
 use Rattle.cha_board.specs.Men.{is_non_king}
 use Rattle.cha_board.specs.Squares.{squares}
@@ -15,7 +15,6 @@ use Rattle.cha_board.proofs.Scans.{any_square_at, all_squares_at, each_square}
 use Rattle.cha_board.proofs.Contents.{some_square, same_test, in_set_of, subset_at, subset_from}
 use Rattle.cha_moves.specs.Moves.{is_promotion}
 use Rattle.cha_moves.proofs.Identity.{on_board, some_inj}
-use Rattle.mob_law.specs.Threats.{NonKingOn}
 use Rattle.mob_sets.specs.Mobility.{Sets}
 use Rattle.mob_sets.specs.Rows.{SetRows, kinds, sets_of}
 use Rattle.mob_sets.proofs.KindTests.{any_kind_at, some_kind, all_kinds_at, each_kind}
@@ -57,8 +56,15 @@ module _ (g : Ground) (r : SetRows) where
       let n = row_of s o Knight in
       let one = λ (u : ℕ). has_square q u && has_square k u in
       let two = λ (u : ℕ). has_square (set_of one) u && has_square b u in
-      rw (has-set_of (λ u. has_square (set_of two) u && has_square n u) t small, has-set_of two t small, has-set_of one t small,
-      has-set_of (s.has o Queen) t small, has-set_of (s.has o Rook) t small, has-set_of (s.has o Bishop) t small, has-set_of (s.has o Knight) t small) refl
+      rw (
+        has-set_of (λ u. has_square (set_of two) u && has_square n u) t small,
+        has-set_of two t small,
+        has-set_of one t small,
+        has-set_of (s.has o Queen) t small,
+        has-set_of (s.has o Rook) t small,
+        has-set_of (s.has o Bishop) t small,
+        has-set_of (s.has o Knight) t small,
+      ) refl
 
   in_promoted : (o t : ℕ) → t < 64 → ((j : Kind) → is_promotion (Some j) ≡ true → s.has o j t ≡ true) → has_square (promoted s o) t ≡ true
   in_promoted o t small each =

@@ -1,15 +1,12 @@
 -- What is attacked is attacked by a man on a square, and back.
-use Rattle.std.proofs.Common.{◌≡◌, ℕ, ◌<◌, Bool, true, ◌&&◌, List, [], Option, Some, None, refl, sym, subst, ◌∙◌, arith}
-use Rattle.std.specs.List.{list_any}
+use Rattle.std.proofs.Common.{◌≡◌, ℕ, ◌<◌, true, ◌&&◌, List, [], Option, Some, None, refl, sym, subst}
 use Rattle.std.proofs.lemmas.Bool.{and_parts, and_from}
-use Rattle.std.proofs.lemmas.List.Folds.{Any-from_list_any}
 use Rattle.cha_board.specs.declared.men.Color.{Color}
 use Rattle.cha_board.specs.declared.men.Man.{Man}
 use Rattle.cha_board.specs.Men.{same_color}
-use Rattle.cha_board.specs.Squares.{squares, aims_at, between}
+use Rattle.cha_board.specs.Squares.{aims_at, between}
 use Rattle.cha_board.specs.Board.{man_at, is_clear, attacks_as, attacked}
 use Rattle.cha_board.proofs.Contents.{some_square}
-use Rattle.cha_board.proofs.Scans.{length_squares, square_at}
 
 -- a man of c that attacks t from s
 pub record Attacker (men : List (Option Man)) (c : Color) (t s : ℕ) : Type 0 where

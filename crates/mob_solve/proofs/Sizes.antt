@@ -1,13 +1,10 @@
 -- How many squares a set has.
-use Rattle.std.proofs.Common.{◌≡◌, ℕ, zero, suc, ◌<◌, ◌≤◌, Bool, true, false, not, ◌&&◌, ◌||◌, cond, List, [], ◌∷◌, length, get_or, ◌==◌, refl, sym, ap, ◌∙◌, arith, ◌⊎◌, inl, inr}
-use Rattle.std.specs.List.{list_all, list_any, count_by}
-use Rattle.std.proofs.lemmas.Bool.{and_parts, or_cases, or_left, or_right, both_ways, cases_lt, cases_Bool, false_from_ne_true, not-true, eq-eqb, eqb-true}
-use Rattle.std.proofs.lemmas.List.{get_or_past}
+use Rattle.std.proofs.Common.{◌≡◌, ℕ, zero, suc, ◌<◌, ◌≤◌, Bool, true, false, cond, List, [], ◌∷◌, length, get_or, refl, sym, ap, ◌∙◌, arith}
+use Rattle.std.specs.List.{count_by}
 use Rattle.std.proofs.lemmas.List.Sums.{sum_by-cons, count_by-le-length}
 use Rattle.cha_board.specs.Squares.{squares}
-use Rattle.cha_board.specs.SquareSets.{set_of, empty_set, has_square, set_with, set_joined, is_subset}
-use Rattle.cha_board.specs.SetLaws.{length-set_of, has-set_of}
-use Rattle.cha_board.proofs.Scans.{length_squares, square_at, any_square_at, all_squares_at, each_square}
+use Rattle.cha_board.specs.SquareSets.{has_square, set_joined, is_subset}
+use Rattle.cha_board.proofs.Scans.{length_squares, square_at}
 use Rattle.cha_board.proofs.Contents.{outside, joined_left, joined_right}
 use Rattle.mob_solve.specs.Reaching.{size_of}
 

@@ -1,6 +1,4 @@
 -- The least closed sets.
-use Rattle.std.specs.Prelude.{◌≡◌, ℕ, true}
-use Rattle.cha_board.specs.declared.men.Kind.{Kind}
 use Rattle.cha_board.specs.Board.{Board}
 use Rattle.mob_sets.specs.Mobility.{Sets, IsWithin}
 use Rattle.mob_law.specs.Closed.{IsClosed}

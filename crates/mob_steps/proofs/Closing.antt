@@ -1,5 +1,5 @@
 -- Sets that keep the rules on their own ground are closed.
-use Rattle.std.proofs.Common.{◌≡◌, ◌≢◌, ℕ, zero, suc, ◌+◌, ◌-◌, ◌<◌, ◌≤◌, Bool, true, false, not, ◌&&◌, ◌||◌, ◌==◌, List, length, if◌then◌else◌, Option, Some, None, refl, sym, ap, subst, ◌∙◌, arith, inl, inr}
+use Rattle.std.proofs.Common.{◌≡◌, ◌≢◌, ℕ, zero, suc, ◌+◌, ◌-◌, ◌<◌, ◌≤◌, Bool, true, false, not, ◌&&◌, ◌||◌, ◌==◌, List, length, if◌then◌else◌, Some, refl, sym, ap, subst, ◌∙◌, arith, inl, inr}
 use Rattle.std.specs.List.{list_any}
 use Rattle.std.proofs.lemmas.Bool.{and_parts, and_from, or_left, or_right, both_ways, false_from_ne_true, eq-eqb, ne_eqb, eqb-true, cases_Bool}
 use Rattle.cha_board.specs.declared.men.Color.{Color}
@@ -246,8 +246,8 @@ module _ (p : Board) (s : Sets) (size : length p.men ≡ 64) (rules : AllRules p
     pawns_capture = λ o man u t entry aims. pawn_captures_on o man entry.stood u t entry.reach entry.from entry.to aims;
   }
     where
-    steps_hold : PawnsStep p s
-    steps_hold o man u t entry file ahead free = steps_enter o man entry.stood u t entry.reach entry.from entry.to file ahead free
+      steps_hold : PawnsStep p s
+      steps_hold o man u t entry file ahead free = steps_enter o man entry.stood u t entry.reach entry.from entry.to file ahead free
 
 -- sets that keep the rules on their ground are closed
 pub rules_close : (p : Board) (s : Sets) → IsValid p → AllRules p (ground_of p s) s → IsClosed p s

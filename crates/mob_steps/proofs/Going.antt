@@ -1,18 +1,13 @@
 -- To which squares men go, as sets.
-use Rattle.std.proofs.Common.{◌≡◌, ℕ, ◌+◌, ◌-◌, ◌<◌, Bool, true, false, not, ◌&&◌, ◌||◌, ◌==◌, if◌then◌else◌, List, length, refl, sym, ap, ◌∙◌}
-use Rattle.std.specs.List.{list_all}
-use Rattle.std.specs.Int.{bit_at}
-use Rattle.std.proofs.lemmas.Bool.{eqb-true}
+use Rattle.std.proofs.Common.{◌≡◌, ℕ, ◌<◌, Bool, true, false, not, ◌&&◌, ◌||◌, ◌==◌, if◌then◌else◌, List, length, refl, sym, ap, ◌∙◌}
 use Rattle.cha_board.specs.declared.men.Color.{Color}
 use Rattle.cha_board.specs.declared.men.Color.TheVariants.{White, Black}
 use Rattle.cha_board.specs.declared.men.Kind.{Kind}
 use Rattle.cha_board.specs.declared.men.Kind.TheVariants.{Pawn, King}
 use Rattle.cha_board.specs.Men.{other_color, same_kind}
 use Rattle.cha_board.specs.Squares.{squares, rank_of, files_apart, is_rank_ahead}
-use Rattle.cha_board.specs.SquareSets.{set_of, has_square, set_of_bits, set_joined}
+use Rattle.cha_board.specs.SquareSets.{set_of, has_square, set_joined}
 use Rattle.cha_board.specs.SetLaws.{has-set_of, same_set}
-use Rattle.cha_board.proofs.Scans.{all_squares_at}
-use Rattle.cha_board.proofs.SetBits.{shown_at}
 use Rattle.cha_moves.specs.Moves.{last_rank}
 use Rattle.mob_steps.specs.declared.ground.Ground.{Ground}
 use Rattle.mob_steps.specs.Steps.{steps_to, is_stepped_to, spread_of, stays}

@@ -11,6 +11,7 @@ returns c =
     let p = c.args.position.now in
     let r = c.args.sets.now in
     let s = sets_of r in
-    let same = rw c.ground_of.ensures at c.men_hold.ensures in
-    (λ h. rules_close p s c.known.ensures (rules_given (ground_of p s) r p c.known.ensures.size (sym same ∙ h)),
-    λ closed. same ∙ tests_hold (ground_of p s) r p (all_forced p s s (record { has = λ o k u h. h; loose = λ o h. h }) closed))
+    let same = rw c.ground_of.ensures at c.men_hold.ensures in (
+      λ h. rules_close p s c.known.ensures (rules_given (ground_of p s) r p c.known.ensures.size (sym same ∙ h)),
+      λ closed. same ∙ tests_hold (ground_of p s) r p (all_forced p s s (record { has = λ o k u h. h; loose = λ o h. h }) closed),
+    )

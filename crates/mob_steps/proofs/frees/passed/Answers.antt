@@ -1,4 +1,4 @@
-use Rattle.std.proofs.Common.{◌≡◌, ◌&&◌, ◌∙◌, sym, ap, ℕ}
+use Rattle.std.proofs.Common.{◌&&◌, ◌∙◌, sym, ap, ℕ}
 use Rattle.cha_board.specs.declared.men.Color.{Color}
 use Rattle.cha_board.specs.Shifts.{is_ahead}
 use Rattle.cha_board.specs.SquareSets.{set_of, has_square, set_common}

@@ -1,3 +1,4 @@
+-- All of these are cited by the laws.
 pub mod Reach
 pub mod Closed
 pub mod Threats

@@ -1,3 +1,5 @@
-pub mod Steps
+-- What public contracts say.
 pub mod Grounds
 pub mod Rules
+-- What these stand on.
+pub mod Steps

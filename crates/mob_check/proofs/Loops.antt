@@ -4,7 +4,7 @@ use Rattle.std.specs.List.{list_all}
 use Rattle.std.proofs.lemmas.Bool.{both_ways, cases_Bool, cases_eq, eq-eqb, ne_eqb, false_from_ne_true}
 use Rattle.cha_board.specs.Squares.{squares}
 use Rattle.cha_board.specs.SquareSets.{set_of, has_square, set_with}
-use Rattle.cha_board.specs.SetLaws.{length-set_of, has-set_of, same_squares}
+use Rattle.cha_board.proofs.SetLaws.{length-set_of, has-set_of, same_squares}
 use Rattle.cha_board.proofs.Scans.{all_squares_at, each_square}
 
 -- a square that fails settles that not all squares pass

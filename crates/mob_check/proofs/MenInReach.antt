@@ -12,7 +12,7 @@ use Rattle.cha_board.specs.Men.{same_kind, is_man, is_non_king}
 use Rattle.cha_board.specs.Squares.{squares}
 use Rattle.cha_board.specs.Board.{Board, man_at}
 use Rattle.cha_board.specs.SquareSets.{has_square}
-use Rattle.cha_board.specs.SetLaws.{has-set_of}
+use Rattle.cha_board.proofs.SetLaws.{has-set_of}
 use Rattle.cha_board.proofs.Scans.{any_square_at, no_square}
 use Rattle.mob_law.specs.Threats.{KingOn, NonKingOn, HasAtMostOneMan}
 use Rattle.cha_board.proofs.Contents.{some_square}

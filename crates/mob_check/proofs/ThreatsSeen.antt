@@ -8,7 +8,7 @@ use Rattle.cha_board.specs.Men.{other_color}
 use Rattle.cha_board.specs.Squares.{squares, aims_at, steps_apart}
 use Rattle.cha_board.specs.Board.{Board, is_clear}
 use Rattle.cha_board.specs.SquareSets.{has_square, set_joined}
-use Rattle.cha_board.specs.SetLaws.{has-set_of}
+use Rattle.cha_board.proofs.SetLaws.{has-set_of}
 use Rattle.cha_board.proofs.Scans.{any_square_at, all_squares_at, each_square}
 use Rattle.mob_sets.specs.Mobility.{Sets}
 use Rattle.mob_law.specs.Threats.{KingOn, NonKingOn, HasAtMostOneMan, Checks, Attacks, Covered, Blocked, NextToKing, Attacked, Threat, HasNoMate}

@@ -7,7 +7,7 @@ use Rattle.cha_board.specs.declared.men.Kind.TheVariants.{Pawn, Knight, Bishop, 
 use Rattle.cha_board.specs.declared.men.Man.{Man}
 use Rattle.std.specs.Prelude.{Option}
 use Rattle.cha_board.specs.SquareSets.{set_of_bits, has_square, set_joined}
-use Rattle.cha_board.specs.SetLaws.{has-set_of}
+use Rattle.cha_board.proofs.SetLaws.{has-set_of}
 use Rattle.cha_board.proofs.Scans.{no_square}
 use Rattle.mob_sets.proofs.KindTests.{no_kind}
 use Rattle.mob_check.specs.declared.scene.Reach.{Reach}

@@ -1,7 +1,7 @@
 //! A bounded list of true facts, the most recently used first.
 //!
-//! `shard` has the list and its two calls, `step` a call as a value, `place` the list as a place that keeps facts, and `law` what
-//! holds after any calls.
+//! `shard` has the list and its two calls, `step` the list as a value at which passes take turns, `place` the list as a
+//! place that keeps facts, and `law` what holds after any calls.
 #![tactic(auto)]
 
 mod law;

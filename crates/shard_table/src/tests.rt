@@ -8,6 +8,7 @@ use cha_fact::{FactCall, FactReply, Facts, Key, Line, Probe, Proved, Stored};
 use cha_fen::read;
 use cha_moves::{Move, replays};
 use std::test::Fail;
+use turn_cell::Object;
 
 /// Black mates in two moves: 2. g4 Qh4.
 const OPEN: &str = "rnbqkbnr/pppp1ppp/8/4p3/8/5P2/PPPPP1PP/RNBQKBNR w KQkq -";

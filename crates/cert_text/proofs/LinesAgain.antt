@@ -15,7 +15,7 @@ use Rattle.cha_board.specs.declared.men.Kind.{Kind}
 use Rattle.cha_board.specs.declared.men.Kind.TheVariants.{Pawn, Knight, Bishop, Rook, Queen, King}
 use Rattle.cha_board.specs.Board.{Board, IsValid}
 use Rattle.cha_board.specs.SquareSets.{has_square, set_of_bits, bits_of_set}
-use Rattle.cha_board.specs.SetLaws.{one_if, length-set_of, has-set_of, same_squares, bit_at-bits_of_set}
+use Rattle.cha_board.proofs.SetLaws.{one_if, length-set_of, has-set_of, same_squares, bit_at-bits_of_set}
 use Rattle.cha_fen.specs.Placement.{kind_of}
 use Rattle.cha_fen.specs.Fen.{fen}
 use Rattle.cha_fen.specs.Written.{kind_letter}

@@ -8,7 +8,7 @@ use Rattle.std.proofs.lemmas.Nat.Bits.{bit_at-zero}
 use Rattle.cha_board.specs.declared.men.Color.{Color}
 use Rattle.cha_board.specs.Board.{Board, IsValid}
 use Rattle.cha_board.specs.SquareSets.{empty_set, set_of_bits, bits_of_set}
-use Rattle.cha_board.specs.SetLaws.{same_set}
+use Rattle.cha_board.proofs.SetLaws.{same_set}
 use Rattle.mob_sets.specs.Rows.{Row, row_place}
 use Rattle.mob_sets.specs.Tidy.{AreTidy, IsFull}
 use Rattle.cha_cert.specs.declared.nodes.Node.{Node}

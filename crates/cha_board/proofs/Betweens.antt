@@ -6,7 +6,7 @@ use Rattle.std.proofs.Math.Nat.{add_comm}
 use Rattle.std.proofs.Math.Bool.{and_comm}
 use Rattle.cha_board.specs.Squares.{squares, files_apart, ranks_apart, is_straight, is_diagonal, is_within, lies_between, between}
 use Rattle.cha_board.specs.SquareSets.{set_of, has_square, set_of_bits, bits_of_set, set_common, has_no_square}
-use Rattle.cha_board.specs.SetLaws.{has-set_of, set_of_bits-bits_of_set}
+use Rattle.cha_board.proofs.SetLaws.{has-set_of, set_of_bits-bits_of_set}
 use Rattle.cha_board.specs.Aims.{is_open}
 use Rattle.cha_board.specs.Rays.{rays_between}
 use Rattle.cha_board.proofs.Scans.{all_squares_at, any_alike}

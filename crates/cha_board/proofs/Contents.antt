@@ -6,7 +6,7 @@ use Rattle.std.proofs.lemmas.List.{get_or_past}
 use Rattle.std.proofs.lemmas.List.Folds.{Any-from_list_any}
 use Rattle.cha_board.specs.Squares.{squares}
 use Rattle.cha_board.specs.SquareSets.{set_of, empty_set, has_square, set_with, set_joined, is_subset}
-use Rattle.cha_board.specs.SetLaws.{length-set_of, has-set_of, same_squares}
+use Rattle.cha_board.proofs.SetLaws.{length-set_of, has-set_of, same_squares}
 use Rattle.cha_board.proofs.Scans.{length_squares, square_at, any_square_at, all_squares_at, each_square}
 
 -- where some square passes a test, there is one

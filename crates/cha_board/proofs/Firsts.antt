@@ -10,7 +10,7 @@ use Rattle.std.proofs.lemmas.List.Sums.{length-filter}
 use Rattle.std.proofs.lemmas.Simd.{ones-mask_l}
 use Rattle.cha_board.specs.Squares.{squares}
 use Rattle.cha_board.specs.SquareSets.{has_square, set_of_bits, bits_of_set, squares_in, has_no_square}
-use Rattle.cha_board.specs.SetLaws.{bits_of_set-set_of_bits, kept_alike, squares_are}
+use Rattle.cha_board.proofs.SetLaws.{bits_of_set-set_of_bits, kept_alike, squares_are}
 use Rattle.cha_board.proofs.Scans.{any_square_at, no_square}
 use Rattle.cha_board.proofs.SetBits.{shown_at}
 

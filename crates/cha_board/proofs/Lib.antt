@@ -1,4 +1,7 @@
+pub mod Identity
+pub mod SetLaws
 pub mod Scans
+pub mod Counting
 pub mod Sightings
 pub mod Kings
 pub mod Builds

@@ -10,7 +10,7 @@ use Rattle.cha_board.specs.declared.position.Rights.{Rights}
 use Rattle.cha_board.specs.Men.{is_of}
 use Rattle.cha_board.specs.Board.{Board, man_at, IsValid}
 use Rattle.cha_board.specs.SquareSets.{set_of, has_square, set_of_bits, set_joined}
-use Rattle.cha_board.specs.SetLaws.{same_set, has-set_of, set_of_bits-bits_of_set}
+use Rattle.cha_board.proofs.SetLaws.{same_set, has-set_of, set_of_bits-bits_of_set}
 use Rattle.cha_board.specs.Packing.{is_of_three, bits_where, color_code, bit_of, target_code, state_number, words_of}
 
 -- what the four bits of a square show

@@ -6,7 +6,7 @@ use Rattle.std.proofs.lemmas.List.FromFn.{length-range_with_len, get_or-range_wi
 use Rattle.std.proofs.lemmas.List.Folds.{list_any_at, list_any_none}
 use Rattle.std.proofs.lemmas.List.Sums.{AllPass-from_list_all, list_all-from_AllPass, count_by_more_no}
 use Rattle.cha_board.specs.Squares.{squares}
-use Rattle.cha_board.specs.SetLaws.{squares_are}
+use Rattle.cha_board.proofs.SetLaws.{squares_are}
 
 pub length_squares : length squares ≡ 64
 unfolding squares

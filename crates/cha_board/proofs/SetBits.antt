@@ -7,7 +7,7 @@ use mir.Syntax.{w64}
 use Rattle.std.proofs.lemmas.Bool.{cases_eq, cases_lt, eq-eqb, ne_eqb, false_from_ne_true}
 use Rattle.std.proofs.lemmas.Nat.Bits.{bit_at-zero, bit_at-lt, bit_at_above, same_from_bits, shr_and_one, bit_at_or, bit_at_and, bit_at_not, bit_at_set_same, bit_at_set_other, bit_at_clear_same, bit_at_clear_other}
 use Rattle.cha_board.specs.SquareSets.{has_square, set_of_bits, bits_of_set, set_with, set_without, set_placed, set_joined, set_common, set_minus, is_subset}
-use Rattle.cha_board.specs.SetLaws.{same_set, has-set_of, bits_of_set-set_of_bits}
+use Rattle.cha_board.proofs.SetLaws.{same_set, has-set_of, bits_of_set-set_of_bits}
 use Rattle.cha_board.proofs.Scans.{all_squares_at, each_square}
 
 -- a square is in the set of a number's bits where its bit is 1

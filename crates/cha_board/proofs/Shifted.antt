@@ -10,7 +10,7 @@ use Rattle.std.proofs.Math.Nat.{mod-add-div, mod-lt}
 use Rattle.std.proofs.lemmas.Nat.Bits.{bit_at-zero, bit_at_above, bit_at_cat_low, bit_at_cat_high}
 use Rattle.cha_board.specs.Squares.{squares, file_of, rank_of}
 use Rattle.cha_board.specs.SquareSets.{set_of, has_square, set_of_bits}
-use Rattle.cha_board.specs.SetLaws.{same_set}
+use Rattle.cha_board.proofs.SetLaws.{same_set}
 use Rattle.cha_board.proofs.Scans.{all_squares_at}
 use Rattle.cha_board.proofs.SetBits.{shown_at}
 use Rattle.cha_board.specs.Shifts.{is_above, is_below, is_right_of, is_left_of}

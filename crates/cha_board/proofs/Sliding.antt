@@ -10,7 +10,7 @@ use Rattle.cha_board.specs.declared.men.Color.TheVariants.{White}
 use Rattle.cha_board.specs.declared.men.Kind.{Kind}
 use Rattle.cha_board.specs.Squares.{squares, lies_between, aims_at}
 use Rattle.cha_board.specs.SquareSets.{set_of, has_square, set_of_bits, bits_of_set, set_joined, set_common, has_no_square}
-use Rattle.cha_board.specs.SetLaws.{same_set, same_squares, length-set_of, has-set_of, set_of_bits-bits_of_set}
+use Rattle.cha_board.proofs.SetLaws.{same_set, same_squares, length-set_of, has-set_of, set_of_bits-bits_of_set}
 use Rattle.cha_board.specs.Aims.{is_open, aims_over, aimed, stops_before, stops_behind, seen_up, seen_down}
 use Rattle.cha_board.proofs.Scans.{any_square_at, no_square, any_alike}
 use Rattle.cha_board.proofs.SetBits.{shown_at, shown_joined, both_bits}

@@ -11,7 +11,7 @@ use Rattle.cha_board.specs.Men.{other_color, same_color, same_kind, is_man}
 use Rattle.cha_board.specs.Board.{man_at, is_empty, is_clear, attacks_as, attacked}
 use Rattle.cha_board.specs.Squares.{squares, lies_between, is_line, aims_at, between}
 use Rattle.cha_board.specs.SquareSets.{set_of, has_square, set_joined, set_common, has_no_square}
-use Rattle.cha_board.specs.SetLaws.{same_set, has-set_of}
+use Rattle.cha_board.proofs.SetLaws.{same_set, has-set_of}
 use Rattle.cha_board.specs.Aims.{is_open, aims_over, aimed, strikes_from, struck_by, struck_somehow}
 use Rattle.cha_board.proofs.Scans.{no_square, any_alike}
 use Rattle.cha_board.proofs.Betweens.{between_bits, all_kept, lies_turned}

@@ -11,7 +11,7 @@ use Rattle.cha_board.specs.declared.leaps.TheConstants.{KNIGHT, KING, WHITE_PAWN
 use Rattle.cha_board.specs.declared.rays.TheConstants.{NORTH, EAST, NORTH_EAST, NORTH_WEST, SOUTH, WEST, SOUTH_EAST, SOUTH_WEST}
 use Rattle.cha_board.specs.Squares.{squares, files_apart, ranks_apart, steps_apart, is_straight, is_diagonal, is_line, is_rank_ahead, aims_at, is_within, lies_between}
 use Rattle.cha_board.specs.SquareSets.{set_of, has_square, set_of_bits, bits_of_set, set_joined}
-use Rattle.cha_board.specs.SetLaws.{set_of_bits-bits_of_set, same_set, has-set_of}
+use Rattle.cha_board.proofs.SetLaws.{set_of_bits-bits_of_set, same_set, has-set_of}
 use Rattle.cha_board.specs.Men.{other_color}
 use Rattle.cha_board.proofs.Scans.{all_squares_at}
 use Rattle.cha_board.proofs.SetBits.{shown_at}

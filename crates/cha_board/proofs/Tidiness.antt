@@ -13,7 +13,7 @@ use Rattle.cha_board.specs.Men.{same_color, same_kind, is_vacant, is_of, is_kind
 use Rattle.cha_board.specs.Board.{man_at, is_empty, king_of, has_one_king}
 use Rattle.cha_board.specs.Squares.{squares}
 use Rattle.cha_board.specs.SquareSets.{set_of, squares_in, has_square, empty_set, set_placed, set_joined, set_common}
-use Rattle.cha_board.specs.SetLaws.{same_set, has-set_of}
+use Rattle.cha_board.proofs.SetLaws.{same_set, has-set_of}
 use Rattle.cha_board.proofs.Kings.{king_is, some_king}
 use Rattle.cha_board.proofs.Firsts.{first_tells, none_tells}
 use Rattle.cha_board.specs.MenSets.{first_kind, man_of, man_in, men_in, sets_of, AreTidy}

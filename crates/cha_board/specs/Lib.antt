@@ -1,11 +1,14 @@
+-- what public contracts say
 pub mod Men
 pub mod Squares
 pub mod Board
 pub mod Build
 pub mod SquareSets
-pub mod SetLaws
 pub mod Shifts
+pub mod Letters
+pub mod Packing
+-- what only loops and lemmas use
 pub mod Aims
 pub mod MenSets
 pub mod Rays
-pub mod Packing
+pub mod SetNumbers

@@ -2,12 +2,14 @@
 
 ghost use Rattle.std.specs.Prelude.{◌≡◌, IfOk};
 ghost use Rattle.std.specs.Result.{result_err};
-ghost use Rattle.cha_board.specs.Board.{has_pawn_at_end, is_pawn_at_end, are_at_home, target_fits};
+ghost use Rattle.cha_board.specs.Board.{has_pawn_at_end, are_at_home, target_fits};
 ghost use Rattle.cha_board.specs.Build.{build_fault, kept_rights, kept_target, built};
 
+use crate::castling::home;
 use crate::men::{Color, Kind, Man, is_man_of};
 use crate::placement::Men;
 use crate::position::{Position, Rights};
+use crate::sets::SquareSet;
 use crate::squares::Square;
 
 /// Why men and a side to move are no valid position. The first rule that is broken, in this order, is the fault.
@@ -67,22 +69,8 @@ fn first_fault(men: &Men, side: Color) -> Option<BuildFault>
 fn pawn_at_end(men: &Men) -> bool
     ensures { result ≡ has_pawn_at_end men.now }
 {
-    for index in 0..64 {
-        if pawn_ends_on(men, Square::at(index)) {
-            return true;
-        }
-    }
-    false
-}
-
-/// Whether a pawn stands on a square, which is of the first or the last rank.
-#[tactic(auto, unfolding(crate::specs::Board::is_pawn_at_end))]
-fn pawn_ends_on(men: &Men, at: Square) -> bool
-    ensures { result ≡ is_pawn_at_end men.now at }
-{
-    let man = men.man(at);
-    (is_man_of(man, Color::White, Kind::Pawn) || is_man_of(man, Color::Black, Kind::Pawn))
-        && (at.rank() == 0 || at.rank() == 7)
+    let ends = SquareSet::of_rank(0).joined(SquareSet::of_rank(7));
+    !men.all_of_kind(Kind::Pawn).common(ends).is_empty()
 }
 
 /// Whether the king of a side and its rook on a square are at home.
@@ -90,10 +78,7 @@ fn pawn_ends_on(men: &Men, at: Square) -> bool
 fn at_home(men: &Men, side: Color, rook: Square) -> bool
     ensures { result ≡ are_at_home men.now side rook }
 {
-    let king = match side {
-        Color::White => men.man(Square::at(4)),
-        Color::Black => men.man(Square::at(60)),
-    };
+    let king = men.man(Square::at(home(side)));
     is_man_of(king, side, Kind::King) && is_man_of(men.man(rook), side, Kind::Rook)
 }
 

@@ -1,15 +1,18 @@
 //! The chess board: squares, men, what men aim at and attack, and valid positions (Laws of Chess, Articles 2 and 3).
 //!
-//! `men` has colours, kinds and men, `squares` the squares, `sets` sets of squares, `shifts` ranks and sets moved by a square, and `placement` what stands on the
-//! board, kept as sets. `aim` has distances and what a man aims at on an empty board, `over` the same over occupied squares
+//! `men` has colours, kinds and men, `squares` the squares, `letters` how both are written, `sets` sets of squares,
+//! `shifts` ranks and sets moved by one square, and `placement` what stands on the board, kept as sets. `aim` has distances and what a man aims at on an empty board, `over` the same over occupied squares
 //! by the tables of `leaps` and `rays`, `strikes` what men attack by it, and `sight` the same by a plain walk over
-//! a list of men. `position` has the valid positions, `build` how one is made, and `opening` the opening position.
+//! a list of men. `position` has the valid positions, `build` how one is made, `castling` what a side
+//! needs for castling, and `opening` the opening position.
 //! `packed` has positions as five words, by which they are compared and found.
 #![tactic(auto)]
 
 mod aim;
 mod build;
+mod castling;
 mod leaps;
+mod letters;
 mod men;
 mod opening;
 mod over;
@@ -29,7 +32,8 @@ pub use aim::{
     aims_at, diagonal, files_between, in_line, rank_ahead, ranks_between, steps_between, straight,
 };
 pub use build::BuildFault;
-pub use men::{Color, Kind, Man, is_man_of, is_of_kind, is_of_side};
+pub use castling::{home, long_right, short_right};
+pub use men::{Color, Kind, Man, is_man_of, is_man_other_than_king, is_of_kind, is_of_side};
 pub use opening::OPENING_MEN;
 pub use over::{aims, aims_alone, squares_between};
 pub use packed::{Packed, same_position, words_tell_positions};

@@ -6,7 +6,7 @@ ghost use Rattle.cha_board.specs.Board.{man_at, is_empty, king_of, has_one_king}
 ghost use Rattle.cha_board.specs.SquareSets.{set_of};
 ghost use Rattle.cha_board.specs.MenSets.{first_kind as first_kind_of, man_of as man_of_sets};
 
-use crate::men::{Color, Kind, Man, is_man_of, is_of_kind, is_of_side};
+use crate::men::{Color, Kind, Man, is_of_kind, is_of_side};
 use crate::sets::SquareSet;
 use crate::squares::Square;
 use std::marker::Model;
@@ -176,11 +176,8 @@ impl Men {
     pub fn one_king(&self, of: Color) -> bool
         ensures { result ≡ has_one_king self.now of }
     {
-        let list = self.list();
-        list.iter()
-            .filter(|man| is_man_of(**man, of, Kind::King))
-            .count()
-            == 1
+        let _men = &self.kings;
+        self.of_kind(of, Kind::King).len() == 1
     }
 
     /// Where the king of a side stands that has one.

@@ -18,7 +18,7 @@ impl Model for SquareSet {
     ghost use Rattle.std.specs.Prelude.{Bool, List, ◌<◌, ◌^◌};
     ghost use Rattle.std.proofs.Common.{ap};
     ghost use Rattle.cha_board.specs.SquareSets.{set_of_bits, bits_of_set};
-    ghost use Rattle.cha_board.specs.SetLaws.{bits_of_set-set_of_bits};
+    ghost use Rattle.cha_board.specs.SetNumbers.{bits_of_set-set_of_bits};
 
     ghost Value = { List Bool };
 
@@ -37,6 +37,13 @@ impl SquareSet {
         ensures { result ≡ empty_set }
     {
         SquareSet { bits: 0 }
+    }
+
+    /// The set of one square.
+    pub fn single(at: Square) -> SquareSet
+        ensures { result ≡ set_with empty_set at }
+    {
+        SquareSet::empty().with(at)
     }
 
     /// The set of the squares that are the bits of a number.

@@ -1,6 +1,6 @@
 //! A list that grows, seen by contracts as the list of its items.
 
-ghost use Rattle.std.specs.Prelude.{◌≡◌, ◌<◌, ◌^◌, [], ◌∷◌, ◌++◌, length, OnOk, OnErr, IfOk, IfErr};
+ghost use Rattle.std.specs.Prelude.{◌≡◌, ◌<◌, ◌^◌, [], ◌∷◌, ◌++◌, length, decimal, OnOk, OnErr, IfOk, IfErr};
 
 use crate::memory::NoMemory;
 use std::alloc::Global;
@@ -78,6 +78,15 @@ impl Listed<u8> {
             Ok(()) => Ok(()),
             Err(_) => Err(NoMemory),
         }
+    }
+
+    /// Appends a number in decimal digits. On a refusal the text is unchanged.
+    pub fn append_decimal(&mut self, alloc: Global, number: u64) -> Result<(), NoMemory>
+        ensures ok { OnOk result (self.new ≡ self.old ++ decimal number) }
+        ensures err { OnErr result (self.new ≡ self.old) }
+    {
+        let digits = format!(in alloc; "{number}")?;
+        self.append(digits.as_bytes())
     }
 }
 

@@ -11,11 +11,11 @@ use Rattle.cha_board.specs.Men.{same_color, same_kind, is_man}
 use Rattle.cha_board.specs.Squares.{rank_of}
 use Rattle.cha_board.specs.Board.{Board, IsValid, man_at, in_check}
 use Rattle.cha_board.specs.SquareSets.{set_of, has_square}
-use Rattle.cha_board.specs.SetLaws.{has-set_of}
+use Rattle.cha_board.proofs.SetLaws.{has-set_of}
 use Rattle.cha_moves.specs.Step.{Move}
 use Rattle.cha_moves.specs.Moves.{last_rank, goes, goes_as, is_promotion, promotes_well, may_enter, is_pseudo_legal, is_pseudo_legal_as, is_en_passant, captures_en_passant, men_after, is_legal_in}
 use Rattle.cha_moves.specs.Ways.{is_way, is_promoted, legal_between}
-use Rattle.cha_moves.proofs.Identity.{same_kind_equal, two_kinds}
+use Rattle.cha_board.proofs.Identity.{same_kind_equal, two_kinds}
 use Rattle.cha_moves.proofs.Kept.{target_of}
 use Rattle.cha_moves.proofs.Sureness.{Ordinary, legal_alike}
 

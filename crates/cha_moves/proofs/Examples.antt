@@ -7,7 +7,8 @@ use Rattle.cha_board.specs.Squares.{squares, files_apart, ranks_apart, steps_apa
 use Rattle.cha_board.specs.Board.{Board, man_at, is_clear, attacks_as, attacked, king_of, in_check}
 use Rattle.cha_moves.specs.Moves.{is_step, is_double_step, is_pawn_capture, is_en_passant, is_short_castling, is_long_castling, goes, promotes_well, is_pseudo_legal_as, men_after, rights_after, target_after, after, is_legal_in, moves_from, all_moves, legal}
 use Rattle.cha_moves.specs.Ends.{IsMated, IsStalemated}
-use Rattle.cha_moves.specs.Texts.{square_text, promotion_text, move_bytes}
+use Rattle.cha_board.specs.Letters.{square_text}
+use Rattle.cha_moves.specs.Texts.{promotion_text, move_bytes}
 
 abbrev __ : Option Man
 __ = None

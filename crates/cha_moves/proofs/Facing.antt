@@ -11,7 +11,7 @@ use Rattle.cha_board.specs.Men.{other_color, same_color, is_vacant, is_man}
 use Rattle.cha_board.specs.Squares.{squares, aims_at, lies_between}
 use Rattle.cha_board.specs.Board.{Board, man_at, is_empty, is_clear, king_of}
 use Rattle.cha_board.specs.SquareSets.{set_of, has_square, squares_in, set_of_bits, set_with, set_without, set_joined, set_common, has_no_square}
-use Rattle.cha_board.specs.SetLaws.{has-set_of, same_set}
+use Rattle.cha_board.proofs.SetLaws.{has-set_of, same_set}
 use Rattle.cha_board.proofs.Scans.{no_square}
 use Rattle.cha_board.proofs.Betweens.{open_is, lies_turned}
 use Rattle.cha_board.proofs.SetBits.{shown_at}
@@ -32,10 +32,10 @@ way_from q u = set_common (set_of (lies_between (king_of q.men q.side) u)) (occu
 
 -- What is known once the men on squares that are not left were looked at: what shields from them, and that the men on
 -- squares that are left aim at the king.
-pub record Faced (q : Board) (left answers pinned : List Bool) : Type 0 where
+pub record Faced (q : Board) (left answers screens : List Bool) : Type 0 where
   pub stopped : (u t : ℕ) → u < 64 → t < 64 → has_square left u ≡ false → checks q q.men u ≡ true → has_square answers t ≡ true → stops (king_of q.men q.side) u t ≡ true
   pub unstopped : (t : ℕ) → t < 64 → has_square answers t ≡ false → Unstopped q t
-  pub shielded : (s u : ℕ) → s < 64 → u < 64 → has_square left u ≡ false → has_square pinned s ≡ false → checks q (men_less q s) u ≡ true → checks q q.men u ≡ true
+  pub shielded : (s u : ℕ) → s < 64 → u < 64 → has_square left u ≡ false → has_square screens s ≡ false → checks q (men_less q s) u ≡ true → checks q q.men u ≡ true
   pub aiming : (u : ℕ) → u < 64 → has_square left u ≡ true → aims_as (other_color q.side) (king_of q.men q.side) u (man_at q.men u) ≡ true
 
 -- what gives check without a man aims at the king
@@ -50,9 +50,9 @@ aims_still q s u inside check =
     ]
 
 -- before any man is looked at
-pub none_faced : (q : Board) (left answers pinned : List Bool) → left ≡ set_of (λ u. aims_as (other_color q.side) (king_of q.men q.side) u (man_at q.men u))
-    → ((t : ℕ) → t < 64 → has_square answers t ≡ true) → length q.men ≡ 64 → Faced q left answers pinned
-none_faced q left answers pinned all every size =
+pub none_faced : (q : Board) (left answers screens : List Bool) → left ≡ set_of (λ u. aims_as (other_color q.side) (king_of q.men q.side) u (man_at q.men u))
+    → ((t : ℕ) → t < 64 → has_square answers t ≡ true) → length q.men ≡ 64 → Faced q left answers screens
+none_faced q left answers screens all every size =
     let e = other_color q.side in
     let k = king_of q.men q.side in
     let test = λ (u : ℕ). aims_as e k u (man_at q.men u) in
@@ -65,8 +65,8 @@ none_faced q left answers pinned all every size =
     }
 
 -- once all were looked at
-pub all_faced : (q : Board) (left answers pinned : List Bool) → Faced q left answers pinned → ((u : ℕ) → u < 64 → has_square left u ≡ false) → AreShields q answers pinned
-all_faced q left answers pinned f none =
+pub all_faced : (q : Board) (left answers screens : List Bool) → Faced q left answers screens → ((u : ℕ) → u < 64 → has_square left u ≡ false) → AreShields q answers screens
+all_faced q left answers screens f none =
     record {
       stopped = λ u t small small' check answer. f.stopped u t small small' (none u small) check answer;
       unstopped = f.unstopped;
@@ -92,9 +92,9 @@ unfolding set_without
 in_before left u v small inside = (and_parts (not (v == u)) (has_square left v) (sym (has-set_of (λ v. not (v == u) && has_square left v) v small) ∙ inside)).1
 
 -- the man on u gives check: it is answered on its square and between
-pub check_faced : (q : Board) (left answers pinned now : List Bool) (u : ℕ) → u < 64 → has_square left u ≡ true → is_clear q.men u (king_of q.men q.side) ≡ true
-    → ((t : ℕ) → t < 64 → has_square now t ≡ (has_square answers t && stops (king_of q.men q.side) u t)) → Faced q left answers pinned → Faced q (set_without left u) now pinned
-check_faced q left answers pinned now u small here clear fewer f =
+pub check_faced : (q : Board) (left answers screens now : List Bool) (u : ℕ) → u < 64 → has_square left u ≡ true → is_clear q.men u (king_of q.men q.side) ≡ true
+    → ((t : ℕ) → t < 64 → has_square now t ≡ (has_square answers t && stops (king_of q.men q.side) u t)) → Faced q left answers screens → Faced q (set_without left u) now screens
+check_faced q left answers screens now u small here clear fewer f =
     let e = other_color q.side in
     let k = king_of q.men q.side in
     let check : checks q q.men u ≡ true = attack_from q.men e k u (man_at q.men u) (f.aiming u small here) clear in
@@ -131,11 +131,11 @@ only_there q s u check y small on =
           (ap is_vacant (sym (put_other q.men s None y other)) ∙ clear_at (men_less q s) u k y (attack_parts (men_less q s) e k u (man_at (men_less q s) u) check).1 small lies))
     ]
 
--- the man on u gives no check: whoever stands alone on the way is pinned
-pub pin_faced : (q : Board) (left answers pinned now lone : List Bool) (u : ℕ) → u < 64 → king_of q.men q.side < 64 → has_no_square (way_from q u) ≡ false
+-- the man on u gives no check: whoever stands alone on the way is screens
+pub pin_faced : (q : Board) (left answers screens now lone : List Bool) (u : ℕ) → u < 64 → king_of q.men q.side < 64 → has_no_square (way_from q u) ≡ false
     → ((s : ℕ) → s < 64 → ((y : ℕ) → y < 64 → has_square (way_from q u) y ≡ true → y ≡ s) → has_square lone s ≡ true)
-    → ((s : ℕ) → s < 64 → has_square now s ≡ (has_square pinned s || has_square lone s)) → Faced q left answers pinned → Faced q (set_without left u) answers now
-pin_faced q left answers pinned now lone u small small' barred alone more f =
+    → ((s : ℕ) → s < 64 → has_square now s ≡ (has_square screens s || has_square lone s)) → Faced q left answers screens → Faced q (set_without left u) answers now
+pin_faced q left answers screens now lone u small small' barred alone more f =
     let e = other_color q.side in
     let k = king_of q.men q.side in
     record {
@@ -145,7 +145,7 @@ pin_faced q left answers pinned now lone u small small' barred alone more f =
       ];
       unstopped = f.unstopped;
       shielded = λ s v small'' small''' out free check. (
-          let apart = or_parts (has_square pinned s) (has_square lone s) (sym (more s small'') ∙ free) in
+          let apart = or_parts (has_square screens s) (has_square lone s) (sym (more s small'') ∙ free) in
           elim (cases_eq v u) [
             | inl same ↦ absurd (both_ways (has_square lone s) apart.1 (alone s small'' (only_there q s u (ap (checks q (men_less q s)) (sym same) ∙ check))))
             | inr other ↦ f.shielded s v small'' small''' (out_before left u v small''' other out) apart.0 check
@@ -187,9 +187,9 @@ answered answers line k u t e small =
     has-set_of (λ t. has_square answers t && has_square (set_of (λ t. (t == u) || has_square line t)) t) t small
     ∙ ap (λ b. has_square answers t && b) (has-set_of (λ t. (t == u) || has_square line t) t small ∙ ap (λ b. (t == u) || b) (ap (λ (x : List Bool). has_square x t) e ∙ has-set_of (lies_between k u) t small))
 
-pub pinned_too : (pinned lone : List Bool) (s : ℕ) → s < 64 → has_square (set_joined pinned lone) s ≡ (has_square pinned s || has_square lone s)
+pub pinned_too : (screens lone : List Bool) (s : ℕ) → s < 64 → has_square (set_joined screens lone) s ≡ (has_square screens s || has_square lone s)
 unfolding set_joined
-pinned_too pinned lone s small = has-set_of (λ t. has_square pinned t || has_square lone t) s small
+pinned_too screens lone s small = has-set_of (λ t. has_square screens t || has_square lone t) s small
 
 -- a set all of whose squares are one has no other
 pub one_alone : (set rest : List Bool) (first s : ℕ) (tail : List ℕ) → squares_in set ≡ first ∷ tail → rest ≡ set_without set first → ((y : ℕ) → y < 64 → has_square set y ≡ true → y ≡ s) → first < 64 → has_no_square rest ≡ true

@@ -12,13 +12,13 @@ use Rattle.cha_board.specs.Men.{other_color, same_color, same_kind, is_vacant, i
 use Rattle.cha_board.specs.Squares.{squares, rank_of, aims_at, files_apart, ranks_apart, steps_apart, is_straight, is_diagonal, is_line, is_rank_ahead, is_within, lies_between}
 use Rattle.cha_board.specs.Board.{Board, IsValid, man_at, attacks_as, attacked, in_check, king_of, home_of}
 use Rattle.cha_board.specs.SquareSets.{set_of, has_square, squares_in, set_of_bits, set_common, set_without, set_placed}
-use Rattle.cha_board.specs.SetLaws.{has-set_of, same_set, same_squares, length-set_of}
+use Rattle.cha_board.proofs.SetLaws.{has-set_of, same_set, same_squares, length-set_of}
 use Rattle.cha_board.proofs.Sightings.{attacked_from, attacked_by_none}
 use Rattle.cha_moves.specs.Step.{Move}
 use Rattle.cha_moves.specs.Moves.{last_rank, is_legal_in, is_en_passant, is_short_castling, is_long_castling, moves_between, moves_from, men_after}
 use Rattle.cha_moves.specs.Ways.{is_way, is_promoted, legal_between}
 use Rattle.cha_moves.specs.Shields.{aims_as, men_less, AreShields, IsFree, some_move, goes_legally}
-use Rattle.cha_moves.proofs.Identity.{some_inj, two_kinds}
+use Rattle.cha_board.proofs.Identity.{some_inj, two_kinds}
 use Rattle.cha_moves.proofs.Made.{Step, may_gives, put, put_other, men_moved, Plainly, Passing, Shortly, Longly, makes}
 use Rattle.cha_moves.proofs.Kept.{kings_kept, king_place, length_after, short_tests, long_tests}
 use Rattle.cha_moves.proofs.Contained.{Contains-filter_parts, Contains-squares_small}
@@ -82,25 +82,25 @@ told_by true y f g = sym (f refl)
 told_by false y f g = sym (g refl)
 
 -- the ways of such a man that are legal are those that end every check
-free_goes : (q : Board) (s t : ℕ) (man : Man) (answers pinned : List Bool) → Going q s t man → AreShields q answers pinned → IsFree q pinned s → has_square answers t ≡ goes_legally q s t
-free_goes q s t man answers pinned g shields free = elim (cases_Bool (is_promoted q.side man.kind t)) [
+free_goes : (q : Board) (s t : ℕ) (man : Man) (answers screens : List Bool) → Going q s t man → AreShields q answers screens → IsFree q screens s → has_square answers t ≡ goes_legally q s t
+free_goes q s t man answers screens g shields free = elim (cases_Bool (is_promoted q.side man.kind t)) [
   | inl promoted ↦ (
       let o = promotion_ordinary q s t man Queen g promoted refl in
-      told_by (has_square answers t) (is_legal_in q (record { from = s; to = t; promotion = Some Queen })) (λ h. answer_is_legal q (record { from = s; to = t; promotion = Some Queen }) answers pinned shields o free.unpinned h) (λ h. no_answer_is_illegal q (record { from = s; to = t; promotion = Some Queen }) answers pinned shields o h)
+      told_by (has_square answers t) (is_legal_in q (record { from = s; to = t; promotion = Some Queen })) (λ h. answer_is_legal q (record { from = s; to = t; promotion = Some Queen }) answers screens shields o free.no_screen h) (λ h. no_answer_is_illegal q (record { from = s; to = t; promotion = Some Queen }) answers screens shields o h)
       ∙ sym (goes_promoted q s t man g promoted))
   | inr plain ↦ (
       let o : Ordinary q (record { from = s; to = t; promotion = None }) = record { valid = g.valid; from = g.from; to = g.to; may = going_plain q s t man g plain; no_king = free.no_king; not_passing = free.no_passing t } in
-      told_by (has_square answers t) (is_legal_in q (record { from = s; to = t; promotion = None })) (λ h. answer_is_legal q (record { from = s; to = t; promotion = None }) answers pinned shields o free.unpinned h) (λ h. no_answer_is_illegal q (record { from = s; to = t; promotion = None }) answers pinned shields o h)
+      told_by (has_square answers t) (is_legal_in q (record { from = s; to = t; promotion = None })) (λ h. answer_is_legal q (record { from = s; to = t; promotion = None }) answers screens shields o free.no_screen h) (λ h. no_answer_is_illegal q (record { from = s; to = t; promotion = None }) answers screens shields o h)
       ∙ sym (goes_plain q s t man g plain))
 ]
 
-pub free_ways : (q : Board) (s : ℕ) (man : Man) (answers pinned : List Bool) → IsValid q → s < 64 → man_at q.men s ≡ Some man → AreShields q answers pinned → IsFree q pinned s
+pub free_ways : (q : Board) (s : ℕ) (man : Man) (answers screens : List Bool) → IsValid q → s < 64 → man_at q.men s ≡ Some man → AreShields q answers screens → IsFree q screens s
     → set_common (set_of (is_way q s)) answers ≡ set_of (goes_legally q s)
 unfolding set_common
-free_ways q s man answers pinned valid small found shields free =
+free_ways q s man answers screens valid small found shields free =
     same_set (λ t. has_square (set_of (is_way q s)) t && has_square answers t) (goes_legally q s) (λ t small'.
     ap (λ b. b && has_square answers t) (has-set_of (is_way q s) t small') ∙ elim (cases_Bool (is_way q s t)) [
-      | inl way ↦ ap (λ b. b && has_square answers t) way ∙ free_goes q s t man answers pinned (record { valid = valid; from = small; to = small'; found = found; way = way }) shields free
+      | inl way ↦ ap (λ b. b && has_square answers t) way ∙ free_goes q s t man answers screens (record { valid = valid; from = small; to = small'; found = found; way = way }) shields free
       | inr none ↦ and_left (is_way q s t) (has_square answers t) none ∙ sym (goes_nowhere q s t none)
     ])
 

@@ -11,7 +11,7 @@ use Rattle.cha_board.specs.Men.{other_color, same_color, same_kind, is_of, is_ma
 use Rattle.cha_board.specs.Squares.{squares, rank_of, files_apart, ranks_apart, steps_apart, is_rank_ahead, aims_at, lies_between, between}
 use Rattle.cha_board.specs.Board.{Board, man_at, is_empty, is_clear}
 use Rattle.cha_board.specs.SquareSets.{set_of, has_square, set_with, set_joined, set_common, set_minus}
-use Rattle.cha_board.specs.SetLaws.{has-set_of, same_set}
+use Rattle.cha_board.proofs.SetLaws.{has-set_of, same_set}
 use Rattle.cha_board.specs.Aims.{is_open, aims_over, aimed}
 use Rattle.cha_moves.specs.Moves.{is_pawn_capture, is_target, is_en_passant, may_enter}
 use Rattle.cha_moves.proofs.Near.{near_clear, king_aims}

@@ -15,7 +15,7 @@ use Rattle.cha_board.specs.Board.{Board, IsValid, man_at, is_empty, home_of, kin
 use Rattle.cha_board.proofs.Kings.{king_is}
 use Rattle.cha_moves.specs.Step.{Move}
 use Rattle.cha_moves.specs.Moves.{last_rank, is_promotion, promotes_well, may_enter, arriving, is_target, is_en_passant, victim_of, is_short_castling, is_long_castling, moved, castles_short, castles_long, captures_en_passant, rook_of, men_after}
-use Rattle.cha_moves.proofs.Identity.{same_color_equal, same_kind_equal, side_other, two_kinds, one_kind, empty_no_man, empty_is_none, none_some, some_inj, on_board, man_of, five_of_eight, six_of_nine, all_four, if_at}
+use Rattle.cha_board.proofs.Identity.{same_color_equal, same_kind_equal, side_other, two_kinds, one_kind, empty_no_man, empty_is_none, none_some, some_inj, on_board, man_of, five_of_eight, six_of_nine, all_four, if_at}
 use Rattle.cha_moves.proofs.Made.{Mover, Step, put_other, length-moved, moved_other, men_moved, Plainly, Passing, Shortly, Longly, makes}
 
 -- the mover's own man bars a square

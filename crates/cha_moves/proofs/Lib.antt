@@ -1,4 +1,3 @@
-pub mod Identity
 pub mod Made
 pub mod Kept
 pub mod Validity
@@ -21,3 +20,4 @@ pub mod GoingLegally
 pub mod SafeCastling
 pub mod Mated
 pub mod MateLines
+pub mod Captured

@@ -6,7 +6,7 @@ use Rattle.cha_board.specs.Men.{same_color}
 use Rattle.cha_board.specs.Board.{Board, IsValid, man_at, home_of}
 use Rattle.cha_moves.specs.Step.{Move}
 use Rattle.cha_moves.specs.Moves.{goes, promotes_well, may_enter, is_pseudo_legal, is_pseudo_legal_as, arriving, victim_of, moved, castles_short, castles_long, captures_en_passant, rook_of, men_after}
-use Rattle.cha_moves.proofs.Identity.{all_four}
+use Rattle.cha_board.proofs.Identity.{all_four}
 
 -- what is known of the man that may make a move
 pub record Mover (q : Board) (m : Move) (man : Man) : Type 0 where

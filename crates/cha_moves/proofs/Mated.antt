@@ -11,7 +11,7 @@ use Rattle.cha_moves.specs.MateLines.{is_nil, is_mated}
 use Rattle.cha_moves.specs.Standings.{Stands, standing_with, standing_of}
 use Rattle.cha_moves.specs.declared.ends.Standing.{Standing}
 use Rattle.cha_moves.specs.declared.ends.Standing.TheVariants.{Mate, Stalemate, Running}
-use Rattle.cha_moves.proofs.Identity.{same_color_equal, same_color_self, other_other}
+use Rattle.cha_board.proofs.Identity.{same_color_equal, same_color_self, other_other}
 
 nil_is : (ms : List Move) → is_nil ms ≡ true → ms ≡ []
 nil_is [] h = refl

@@ -15,7 +15,7 @@ use Rattle.cha_moves.specs.Step.{Move}
 use Rattle.cha_moves.specs.Moves.{goes, goes_as, may_enter, is_en_passant, is_short_castling, is_long_castling, castles_short, castles_long, moved, rook_of, men_after, arriving}
 use Rattle.cha_moves.specs.Ways.{is_way, is_promoted}
 use Rattle.cha_moves.specs.Shields.{aims_as, goes_legally}
-use Rattle.cha_moves.proofs.Identity.{same_color_self, some_inj, one_color, one_kind, if_at}
+use Rattle.cha_board.proofs.Identity.{same_color_self, some_inj, one_color, one_kind, if_at}
 use Rattle.cha_moves.proofs.Made.{Step, may_gives, length-moved, moved_to, moved_from, moved_other, men_moved, Plainly, Passing, Shortly, Longly, makes}
 use Rattle.cha_moves.proofs.Kept.{from_to, Castling, short_castling, long_castling, short_tests, long_tests, kings_kept, king_place, length_after}
 use Rattle.cha_moves.proofs.Sureness.{legal_if}

@@ -11,17 +11,17 @@ use Rattle.cha_board.proofs.Betweens.{lies_turned}
 use Rattle.cha_moves.specs.Step.{Move}
 use Rattle.cha_moves.specs.Moves.{is_legal_in, arriving}
 use Rattle.cha_moves.specs.Shields.{aims_as, stops, men_less, AreShields}
-use Rattle.cha_moves.proofs.Identity.{one_color}
+use Rattle.cha_board.proofs.Identity.{one_color}
 use Rattle.cha_moves.proofs.Made.{may_gives, men_moved, moved_from, moved_other, put}
 use Rattle.cha_moves.proofs.Kept.{from_to}
 use Rattle.cha_moves.proofs.Filling.{attacks_before, foreign_idle, filled_put}
 use Rattle.cha_moves.proofs.Sureness.{Ordinary, arrival, check_after, legal_if, left_long, not_enemy}
 use Rattle.cha_moves.proofs.Clearing.{clear_at, clear_from, attack_parts, attack_from}
 
--- a man that is not pinned and goes to a square that ends every check leaves its king unattacked
-pub answer_is_legal : (q : Board) (m : Move) (answers pinned : List Bool) → AreShields q answers pinned → Ordinary q m → has_square pinned m.from ≡ false → has_square answers m.to ≡ true → is_legal_in q m ≡ true
+-- a man that is not screens and goes to a square that ends every check leaves its king unattacked
+pub answer_is_legal : (q : Board) (m : Move) (answers screens : List Bool) → AreShields q answers screens → Ordinary q m → has_square screens m.from ≡ false → has_square answers m.to ≡ true → is_legal_in q m ≡ true
 unfolding stops
-answer_is_legal q m answers pinned shields o free answer =
+answer_is_legal q m answers screens shields o free answer =
     let a = arrival q m o in
     let e = other_color q.side in
     let k = king_of q.men q.side in
@@ -43,9 +43,9 @@ enemy_there q k s u man found own aims e =
     one_color man.color q.side own (and_parts (same_color man.color (other_color q.side)) (aims_at (other_color q.side) man.kind u k) there).0
 
 -- a man that goes to another square leaves its king attacked
-pub no_answer_is_illegal : (q : Board) (m : Move) (answers pinned : List Bool) → AreShields q answers pinned → Ordinary q m → has_square answers m.to ≡ false → is_legal_in q m ≡ false
+pub no_answer_is_illegal : (q : Board) (m : Move) (answers screens : List Bool) → AreShields q answers screens → Ordinary q m → has_square answers m.to ≡ false → is_legal_in q m ≡ false
 unfolding stops
-no_answer_is_illegal q m answers pinned shields o answer =
+no_answer_is_illegal q m answers screens shields o answer =
     let e = other_color q.side in
     let k = king_of q.men q.side in
     let un = shields.unstopped m.to o.to answer in

@@ -12,7 +12,7 @@ use Rattle.cha_moves.specs.Step.{Move}
 use Rattle.cha_moves.specs.Moves.{is_pseudo_legal, arriving, captures_en_passant, is_short_castling, is_long_castling, men_after, is_legal_in}
 use Rattle.cha_moves.specs.Shields.{men_less}
 use Rattle.cha_moves.proofs.KingSquare.{king_stands}
-use Rattle.cha_moves.proofs.Identity.{one_color, man_of, on_board}
+use Rattle.cha_board.proofs.Identity.{one_color, man_of, on_board}
 use Rattle.cha_moves.proofs.Made.{Step, may_gives, men_moved, moved_other, Plainly, Passing, Shortly, Longly, makes}
 use Rattle.cha_moves.proofs.Kept.{own_bars, length_after, kings_kept, king_place}
 use Rattle.cha_moves.proofs.Filling.{same_attacks, filled_either}

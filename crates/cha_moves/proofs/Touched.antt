@@ -7,7 +7,7 @@ use Rattle.cha_board.specs.declared.men.Man.{Man}
 use Rattle.cha_board.specs.Men.{is_man}
 use Rattle.cha_board.specs.Board.{man_at}
 use Rattle.cha_board.specs.SquareSets.{set_of, has_square, empty_set, set_with}
-use Rattle.cha_board.specs.SetLaws.{has-set_of, same_set}
+use Rattle.cha_board.proofs.SetLaws.{has-set_of, same_set}
 use Rattle.cha_moves.specs.Step.{Move}
 use Rattle.cha_moves.specs.Moves.{touches}
 

@@ -10,7 +10,7 @@ use Rattle.cha_board.specs.Squares.{squares}
 use Rattle.cha_board.specs.Board.{Board, man_at, in_check}
 use Rattle.cha_board.specs.SquareSets.{set_of, has_square, squares_in, has_no_square}
 use Rattle.cha_board.proofs.Scans.{any_square_at}
-use Rattle.cha_board.specs.SetLaws.{has-set_of, same_set}
+use Rattle.cha_board.proofs.SetLaws.{has-set_of, same_set}
 use Rattle.cha_moves.specs.Step.{Move}
 use Rattle.cha_moves.specs.Moves.{goes, goes_as, may_enter, is_pseudo_legal, men_after, is_legal_in, moves_between, moves_from, all_moves, legal}
 use Rattle.cha_moves.specs.Ways.{is_way, legal_between}

@@ -1,8 +1,10 @@
+-- what public contracts say
 pub mod Step
 pub mod Moves
 pub mod Ends
 pub mod Standings
 pub mod MateLines
 pub mod Texts
+-- what only loops and lemmas use
 pub mod Ways
 pub mod Shields

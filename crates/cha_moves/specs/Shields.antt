@@ -35,18 +35,18 @@ pub record Unstopped (q : Board) (t : ℕ) : Type 0 where
   pub check : checks q q.men by ≡ true
   pub missed : stops (king_of q.men q.side) by t ≡ false
 
--- The answers are the squares that end every check; and without a man that is not among the pinned, only men attack its
+-- The answers are the squares that end every check; and without a man that is no screen, only men attack its
 -- king that give check already (this project).
-pub record AreShields (q : Board) (answers pinned : List Bool) : Type 0 where
+pub record AreShields (q : Board) (answers screens : List Bool) : Type 0 where
   pub stopped : (u t : ℕ) → u < 64 → t < 64 → checks q q.men u ≡ true → has_square answers t ≡ true → stops (king_of q.men q.side) u t ≡ true
   pub unstopped : (t : ℕ) → t < 64 → has_square answers t ≡ false → Unstopped q t
-  pub shielded : (s u : ℕ) → s < 64 → u < 64 → has_square pinned s ≡ false → checks q (men_less q s) u ≡ true → checks q q.men u ≡ true
+  pub shielded : (s u : ℕ) → s < 64 → u < 64 → has_square screens s ≡ false → checks q (men_less q s) u ≡ true → checks q q.men u ≡ true
 
--- A man that is no king and not pinned, and captures nothing en passant.
-pub record IsFree (q : Board) (pinned : List Bool) (s : ℕ) : Type 0 where
+-- A man that is no king and no screen, and captures nothing en passant.
+pub record IsFree (q : Board) (screens : List Bool) (s : ℕ) : Type 0 where
   pub no_king : is_man q.side King (man_at q.men s) ≡ false
   pub no_passing : (t : ℕ) → captures_en_passant q (man_at q.men s) s t ≡ false
-  pub unpinned : has_square pinned s ≡ false
+  pub no_screen : has_square screens s ≡ false
 
 -- there is some move
 abbrev pub some_move : List Move → Bool

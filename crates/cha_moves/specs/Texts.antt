@@ -1,13 +1,9 @@
 -- The text of a move.
-use Rattle.std.specs.Prelude.{ℕ, ◌+◌, List, [], ◌∷◌, ◌++◌, Option, Some}
+use Rattle.std.specs.Prelude.{ℕ, List, [], ◌∷◌, ◌++◌, Option, Some}
 use Rattle.cha_board.specs.declared.men.Kind.{Kind}
 use Rattle.cha_board.specs.declared.men.Kind.TheVariants.{Knight, Bishop, Rook, Queen}
-use Rattle.cha_board.specs.Squares.{file_of, rank_of}
+use Rattle.cha_board.specs.Letters.{square_text}
 use Rattle.cha_moves.specs.Step.{Move}
-
--- a file's letter and a rank's digit
-unfoldable pub square_text : ℕ → List ℕ
-square_text s = (file_of s + 97) ∷ (rank_of s + 49) ∷ []
 
 -- the letter of what a pawn becomes: q, r, b or n
 unfoldable pub promotion_text : Option Kind → List ℕ

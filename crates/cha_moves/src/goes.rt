@@ -6,10 +6,11 @@ ghost use Rattle.cha_moves.specs.Moves.{is_target, is_double_step, is_en_passant
 ghost use Rattle.cha_moves.specs.Moves.{promotes_well as promotes_well_on};
 ghost use Rattle.cha_moves.specs.Ways.{is_promoted};
 
-use crate::sides::{
-    double_step_rank, first_pawn_rank, home, long_right, promotion_rank, short_right,
+use crate::passing::passed_over;
+use crate::sides::{double_step_rank, first_pawn_rank, promotion_rank};
+use cha_board::{
+    Color, Kind, Position, Square, aims_at, attacks, files_between, home, long_right, short_right,
 };
-use cha_board::{Color, Kind, Position, Square, aims_at, attacks, files_between};
 
 /// Whether nothing stands on the square of a number from 0 to 63.
 fn is_empty_at(position: &Position, at: u8) -> bool
@@ -38,7 +39,7 @@ pub fn double_steps(position: &Position, s: Square, t: Square) -> bool
     files_between(s, t) == 0
         && s.rank() == first_pawn_rank(side)
         && t.rank() == double_step_rank(side)
-        && is_empty_at(position, (s.index() + t.index()) / 2)
+        && is_empty_at(position, passed_over(s, t).index())
         && is_empty_at(position, t.index())
 }
 

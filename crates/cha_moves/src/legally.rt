@@ -87,19 +87,19 @@ fn sifted(position: &Position, man: Man, from: Square, ways: SquareSet) -> Squar
 /// man that may be pinned.
 fn has_to_ask(position: &Position, shields: &Shields, man: Man, from: Square) -> bool
     requires man { man_at position.now.men from ≡ Some man }
-    ensures { OnFalse result (IsFree position.now shields.now.pinned from) }
+    ensures { OnFalse result (IsFree position.now shields.now.screens from) }
 {
     match man.kind {
         Kind::King => true,
-        Kind::Pawn => shields.pinned.has(from) || may_pass(position, from),
-        _ => shields.pinned.has(from),
+        Kind::Pawn => shields.screens.has(from) || may_pass(position, from),
+        _ => shields.screens.has(from),
     }
 }
 
 /// The squares to which the man on a square goes legally.
 pub fn legal_ways(position: &Position, shields: &Shields, man: Man, from: Square) -> SquareSet
     requires man { man_at position.now.men from ≡ Some man }
-    requires shields { AreShields position.now shields.now.answers shields.now.pinned }
+    requires shields { AreShields position.now shields.now.answers shields.now.screens }
     ensures { result ≡ set_of (goes_legally position.now from) }
 {
     // The ways of a man are told of valid positions.

@@ -1,17 +1,20 @@
 //! The moves of chess: which are legal, the position after each, and how a position stands (Laws of Chess, Articles 3 and 5).
 //!
-//! `step` has the move, `sides` what is a side's on the board, `goes` how men go, `ways` where they may go, `makes` what
-//! a move changes, `safety` which moves leave the king unattacked, `shields` what checks it and which men shield it,
-//! `legally` which ways are legal, `list` the legal moves and the position after one, `some` whether there is one, `ends`
-//! how a position stands, `lines` the lines that end in mate, and `text` the move's text.
+//! `step` has the move, `sides` the ranks of a side's pawns, `passing` what a pawn passes over or captures in passing,
+//! `goes` how men go, `ways` where they may go, `makes` what a move changes, `afterwards` the position after one, `safety` which
+//! moves leave the king unattacked, `shields` what checks it and which men shield it, `legally` which ways are legal,
+//! `list` the legal moves, `some` whether there is one, `ends` how a position stands, `lines` the lines that end in mate,
+//! and `text` the move's text.
 #![tactic(auto)]
 
+mod afterwards;
 mod ends;
 mod goes;
 mod legally;
 mod lines;
 mod list;
 mod makes;
+mod passing;
 mod safety;
 mod shields;
 mod sides;
@@ -22,10 +25,12 @@ mod tests;
 mod text;
 mod ways;
 
+pub use afterwards::after;
 pub use ends::{Standing, is_mate, state};
 pub use lines::{mate_lines_mate, replays};
-pub use list::{Moves, Positions, after, is_legal, legal};
-pub use sides::{double_step_rank, first_pawn_rank, home, long_right, promotion_rank, short_right};
+pub use list::{Moves, Positions, is_legal, legal};
+pub use passing::{captured_on, passed_over};
+pub use sides::{double_step_rank, first_pawn_rank, promotion_rank};
 pub use some::any_legal;
 pub use step::Move;
 pub use text::move_text;

@@ -7,8 +7,9 @@ ghost use Rattle.cha_moves.specs.Step.{Move as Step};
 ghost use Rattle.cha_moves.specs.Ends.{IsMatingLine};
 ghost use Rattle.cha_moves.specs.MateLines.{mate_lines};
 
+use crate::afterwards::after;
 use crate::ends::is_mate;
-use crate::list::{after, is_legal};
+use crate::list::is_legal;
 use crate::step::Move;
 use cha_board::{Color, Position};
 

@@ -1,15 +1,14 @@
-//! The list of the legal moves, and the position after one (Laws of Chess, Articles 3.9.2 and 3.10.1).
+//! The list of the legal moves (Laws of Chess, Articles 3.9.2 and 3.10.1).
 
 ghost use Rattle.std.specs.Prelude.{◌≡◌, ◌<◌, ◌↔◌, ◌++◌, [], ◌∷◌, filter, IsTrue, Some, OnOk, IfOk, Contains};
 ghost use Rattle.cha_board.specs.Board.{man_at};
 ghost use Rattle.cha_moves.specs.Moves.{is_legal_in, moves_from};
-ghost use Rattle.cha_moves.specs.Moves.{legal as legal_moves, after as position_after};
+ghost use Rattle.cha_moves.specs.Moves.{legal as legal_moves};
 ghost use Rattle.cha_board.specs.SquareSets.{set_of};
 ghost use Rattle.cha_moves.specs.Ways.{is_promoted, legal_between};
 ghost use Rattle.cha_moves.specs.Shields.{AreShields, goes_legally};
 
 use crate::legally::legal_ways;
-use crate::makes::{men_made, rights_made, target_made};
 use crate::safety::stays_safe;
 use crate::shields::{Shields, shields_of};
 use crate::step::Move;
@@ -99,7 +98,7 @@ fn add_from(
     moves: &mut Vec<Move>,
     from: Square,
 ) -> Result<(), NoMemory>
-    requires { AreShields position.now shields.now.answers shields.now.pinned }
+    requires { AreShields position.now shields.now.answers shields.now.screens }
     ensures { OnOk result (moves.new.items ≡ moves.old.items ++ filter (is_legal_in position.now) (moves_from from)) }
 {
     let Some(man) = position.man(from) else {
@@ -143,19 +142,4 @@ fn is_allowed(position: &Position, m: Move) -> bool
     ensures { result ≡ is_legal_in position.now m }
 {
     is_pseudo_legal(position, m) && stays_safe(position, m)
-}
-
-/// The position after a legal move.
-pub fn after(position: &Position, m: Move) -> Position
-    requires { Contains (legal_moves position.now) m }
-    ensures { result ≡ position_after position.now m }
-{
-    // The position is valid, and so is what a legal move leaves.
-    position.known();
-    Position::of_parts(
-        men_made(position, m),
-        position.side().other(),
-        rights_made(position.rights(), m),
-        target_made(position, m),
-    )
 }

@@ -1,15 +1,15 @@
 //! What a move changes: the men, the rights to castle, and the square that a pawn has passed over.
 
-ghost use Rattle.std.specs.Prelude.{◌≡◌, ◌<◌, not, ◌&&◌, IsTrue};
+ghost use Rattle.std.specs.Prelude.{◌≡◌, ◌<◌, not, ◌&&◌};
 ghost use Rattle.cha_board.specs.Men.{is_man};
 ghost use Rattle.cha_board.specs.Board.{man_at};
 ghost use Rattle.cha_board.specs.SquareSets.{set_of};
-ghost use Rattle.cha_moves.specs.Moves.{arriving, victim_of, moved, is_en_passant, touches, men_after, rights_after, target_after};
+ghost use Rattle.cha_moves.specs.Moves.{arriving, moved, touches, men_after, rights_after, target_after};
 
 use crate::goes::{castles_long, castles_short, double_steps, goes_en_passant};
-use crate::sides::home;
+use crate::passing::{captured_on, passed_over};
 use crate::step::Move;
-use cha_board::{Color, Kind, Man, Men, Position, Rights, Square, SquareSet, is_man_of};
+use cha_board::{Color, Kind, Man, Men, Position, Rights, Square, SquareSet, home, is_man_of};
 
 /// What arrives where this man goes and becomes that.
 fn arrives(man: Option<Man>, promotion: Option<Kind>) -> Option<Man>
@@ -24,20 +24,6 @@ fn arrives(man: Option<Man>, promotion: Option<Kind>) -> Option<Man>
                 kind,
             }),
         },
-    }
-}
-
-/// The number of the square of the pawn that a capture en passant removes.
-#[tactic(auto, unfolding(crate::specs::Moves::is_en_passant, cha_board::specs::Squares::aims_at, cha_board::specs::Squares::is_rank_ahead))]
-fn victim(position: &Position, s: Square, t: Square) -> u8
-    requires { IsTrue (is_en_passant position.now s t) }
-    ensures value { result ≡ victim_of position.now.side t }
-    ensures bound { result < 64 }
-{
-    let _ranks = (s.rank(), t.rank());
-    match position.side() {
-        Color::White => t.index() - 8,
-        Color::Black => t.index() + 8,
     }
 }
 
@@ -62,8 +48,9 @@ pub fn men_made(position: &Position, m: Move) -> Men
     let men = position.placement();
     let arrived = arrives(man, m.promotion);
     if is_man_of(man, side, Kind::Pawn) && goes_en_passant(position, m.from, m.to) {
-        let passed = Square::at(victim(position, m.from, m.to));
-        return shift(men, m.from, m.to, arrived).put(passed, None);
+        m.known();
+        let captured = captured_on(side, m.to);
+        return shift(men, m.from, m.to, arrived).put(captured, None);
     }
     let h = home(side);
     let rook = Some(Man {
@@ -127,7 +114,7 @@ pub fn target_made(position: &Position, m: Move) -> Option<Square>
     ensures { result ≡ target_after position.now m }
 {
     if is_own_pawn(position, m.from) && double_steps(position, m.from, m.to) {
-        Some(Square::at((m.from.index() + m.to.index()) / 2))
+        Some(passed_over(m.from, m.to))
     } else {
         None
     }

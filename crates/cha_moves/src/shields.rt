@@ -14,8 +14,9 @@ use cha_board::{Color, Kind, Position, Square, SquareSet, aims_alone, squares_be
 pub struct Shields {
     /// The squares onto which a man has to go to end every check: all squares where there is no check.
     pub answers: SquareSet,
-    /// Squares, among them that of each man without which the king would be attacked by more men than now.
-    pub pinned: SquareSet,
+    /// The squares of the men, of either colour, that alone stand between the king and a man of the other side that aims at
+    /// it over them: without another man the king is attacked by no more men than now.
+    pub screens: SquareSet,
 }
 
 /// The squares of the men of a side and a kind that aim at a square, over whatever squares.
@@ -57,14 +58,14 @@ fn lone(set: SquareSet) -> SquareSet
 
 /// The squares that end every check, and those of the men that shield the king.
 pub fn shields_of(position: &Position) -> Shields
-    ensures { AreShields position.now result.answers result.pinned }
+    ensures { AreShields position.now result.answers result.screens }
 {
     position.known();
     let side = position.side();
     let king = position.king(side);
     let occupied = position.occupied();
     let mut answers = SquareSet::from_bits(u64::MAX);
-    let mut pinned = SquareSet::empty();
+    let mut screens = SquareSet::empty();
     let mut left = aimers(position, side.other(), king);
     while let Some(by) = left.first() {
         left = left.without(by);
@@ -73,8 +74,8 @@ pub fn shields_of(position: &Position) -> Shields
         if way.is_empty() {
             answers = answers.common(line.with(by));
         } else {
-            pinned = pinned.joined(lone(way));
+            screens = screens.joined(lone(way));
         }
     }
-    Shields { answers, pinned }
+    Shields { answers, screens }
 }

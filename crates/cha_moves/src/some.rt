@@ -11,7 +11,7 @@ use cha_board::{Position, Square};
 
 /// Whether some move from a square is legal.
 fn any_from(position: &Position, shields: &Shields, from: Square) -> bool
-    requires { AreShields position.now shields.now.answers shields.now.pinned }
+    requires { AreShields position.now shields.now.answers shields.now.screens }
     ensures some { OnTrue result (filter (is_legal_in position.now) (moves_from from) ≢ []) }
     ensures none { OnFalse result (filter (is_legal_in position.now) (moves_from from) ≡ []) }
 {

@@ -1,20 +1,21 @@
 //! The text of a move, as `e2e4`.
 
 ghost use Rattle.std.specs.Prelude.{◌≡◌, ◌+◌, ◌≤◌, ◌++◌, length};
-ghost use Rattle.cha_moves.specs.Texts.{square_text, promotion_text, move_bytes};
+ghost use Rattle.cha_board.specs.Letters.{square_text};
+ghost use Rattle.cha_moves.specs.Texts.{promotion_text, move_bytes};
 
 use crate::step::Move;
 use arrayvec::ArrayString;
 use cha_board::{Kind, Square};
 
 /// Appends a square's file letter and rank digit.
-#[tactic(auto, unfolding(crate::specs::Texts::square_text))]
+#[tactic(auto, unfolding(cha_board::specs::Letters::square_text))]
 fn add_square(text: &mut ArrayString<5>, at: Square)
     requires { length text.old.bytes + 2 ≤ 5 }
     ensures { text.new.bytes ≡ text.old.bytes ++ square_text at }
 {
-    text.push(char::from(b'a' + at.file()));
-    text.push(char::from(b'1' + at.rank()));
+    text.push(char::from(at.file_letter()));
+    text.push(char::from(at.rank_digit()));
 }
 
 /// Appends the letter of what a pawn becomes, or nothing.
@@ -34,7 +35,7 @@ fn add_promotion(text: &mut ArrayString<5>, promotion: Option<Kind>)
 
 /// The text of a move: the squares that it leaves and enters, and for a promotion the letter `q`, `r`, `b` or `n`, as
 /// `e2e4` or `e7e8q`. Castling is the king's move, as `e1g1`.
-#[tactic(auto, unfolding(crate::specs::Texts::move_bytes, crate::specs::Texts::square_text))]
+#[tactic(auto, unfolding(crate::specs::Texts::move_bytes, cha_board::specs::Letters::square_text))]
 pub fn move_text(m: Move) -> ArrayString<5>
     ensures { result.bytes ≡ move_bytes m }
 {

@@ -9,9 +9,9 @@ ghost use Rattle.cha_moves.specs.Moves.{is_pseudo_legal as is_pseudo_legal_in};
 ghost use Rattle.cha_moves.specs.Ways.{ahead_of, is_way};
 
 use crate::goes::{castles_long, castles_short, promotes_well};
-use crate::sides::{first_pawn_rank, home, promotion_rank};
+use crate::sides::{first_pawn_rank, promotion_rank};
 use crate::step::Move;
-use cha_board::{Color, Kind, Man, Position, Square, SquareSet, aims};
+use cha_board::{Color, Kind, Man, Position, Square, SquareSet, aims, home};
 
 /// The squares that the side to move may not enter: those of its own men and that of the other king.
 fn barred(position: &Position) -> SquareSet

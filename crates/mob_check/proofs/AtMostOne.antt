@@ -5,7 +5,7 @@ use Rattle.std.proofs.lemmas.Bool.{and_parts, and_from, both_ways, cases_Bool, c
 use Rattle.std.proofs.lemmas.List.Elements.{filter_passes}
 use Rattle.cha_board.specs.Squares.{squares}
 use Rattle.cha_board.specs.SquareSets.{set_of, has_square, squares_in, set_without}
-use Rattle.cha_board.specs.SetLaws.{has-set_of, squares_from_first, no_first_square}
+use Rattle.cha_board.proofs.SetLaws.{has-set_of, squares_from_first, no_first_square}
 use Rattle.cha_board.proofs.Scans.{any_square_at}
 use Rattle.cha_board.proofs.Contents.{in_set_of}
 use Rattle.mob_check.specs.Scenes.{has_at_most_one}

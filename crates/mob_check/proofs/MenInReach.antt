@@ -10,7 +10,7 @@ use Rattle.cha_board.specs.declared.men.Man.{Man}
 use Rattle.cha_board.specs.Men.{same_kind, is_man, is_non_king}
 use Rattle.cha_board.specs.Board.{Board, man_at}
 use Rattle.cha_board.specs.SquareSets.{set_of, has_square}
-use Rattle.cha_board.specs.SetLaws.{has-set_of}
+use Rattle.cha_board.proofs.SetLaws.{has-set_of}
 use Rattle.mob_steps.specs.Grounds.{has_own}
 use Rattle.mob_law.specs.Threats.{KingOn, NonKingOn, HasAtMostOneMan}
 use Rattle.mob_sets.specs.Rows.{Row, SetRows, is_entry, has_entry, sets_of}

@@ -2,7 +2,7 @@
 use Rattle.std.proofs.Common.{◌≡◌, ℕ, ◌<◌, ◌==◌, Bool, not, ◌||◌, List, refl}
 use Rattle.cha_board.specs.Squares.{steps_apart}
 use Rattle.cha_board.specs.SquareSets.{set_of, has_square, set_joined, is_subset}
-use Rattle.cha_board.specs.SetLaws.{has-set_of}
+use Rattle.cha_board.proofs.SetLaws.{has-set_of}
 use Rattle.mob_check.specs.Nearness.{is_next_to, next_to}
 use Rattle.mob_check.specs.Mates.{keeps_from, is_shut}
 use Rattle.mob_check.proofs.Loops.{all_same}

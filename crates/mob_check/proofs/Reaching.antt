@@ -3,7 +3,7 @@ use Rattle.std.proofs.Common.{◌≡◌, ℕ, ◌+◌, ◌<◌, Bool, true, fals
 use Rattle.std.proofs.lemmas.List.Folds.{list_any_more}
 use Rattle.cha_board.specs.Board.{Board}
 use Rattle.cha_board.specs.SquareSets.{set_of, has_square, empty_set, set_joined}
-use Rattle.cha_board.specs.SetLaws.{has-set_of, same_set}
+use Rattle.cha_board.proofs.SetLaws.{has-set_of, same_set}
 use Rattle.mob_sets.specs.Rows.{Row}
 use Rattle.mob_check.specs.declared.groups.Group.{Group}
 use Rattle.mob_check.specs.Reaches.{is_row_of, reaches_by, reaches, reach_of}

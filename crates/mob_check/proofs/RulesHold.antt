@@ -9,12 +9,12 @@ use Rattle.cha_board.specs.declared.men.Man.{Man}
 use Rattle.cha_board.specs.Men.{is_non_king}
 use Rattle.cha_board.specs.Squares.{squares}
 use Rattle.cha_board.specs.SquareSets.{set_of, has_square, set_common, is_subset}
-use Rattle.cha_board.specs.SetLaws.{has-set_of, same_set}
+use Rattle.cha_board.proofs.SetLaws.{has-set_of, same_set}
 use Rattle.cha_board.specs.Board.{Board, man_at}
 use Rattle.cha_board.proofs.Scans.{any_square_at, all_squares_at, each_square}
 use Rattle.cha_board.proofs.Contents.{some_square, same_test, in_set_of, subset_at, subset_from}
 use Rattle.cha_moves.specs.Moves.{is_promotion}
-use Rattle.cha_moves.proofs.Identity.{on_board, some_inj}
+use Rattle.cha_board.proofs.Identity.{on_board, some_inj}
 use Rattle.mob_sets.specs.Mobility.{Sets}
 use Rattle.mob_sets.specs.Rows.{SetRows, kinds, sets_of}
 use Rattle.mob_sets.proofs.KindTests.{any_kind_at, some_kind, all_kinds_at, each_kind}

@@ -6,7 +6,7 @@ use Rattle.std.proofs.lemmas.List.{get_or_past}
 use Rattle.cha_board.specs.Men.{is_vacant}
 use Rattle.cha_board.specs.Squares.{between}
 use Rattle.cha_board.specs.SquareSets.{set_of, has_square, set_without}
-use Rattle.cha_board.specs.SetLaws.{length-set_of, has-set_of}
+use Rattle.cha_board.proofs.SetLaws.{length-set_of, has-set_of}
 use Rattle.cha_board.specs.Aims.{is_open as is_seen}
 use Rattle.cha_board.specs.Board.{Board, is_empty}
 use Rattle.mob_sets.specs.Mobility.{Sets}

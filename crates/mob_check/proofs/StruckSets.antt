@@ -7,7 +7,7 @@ use Rattle.cha_board.specs.declared.men.Kind.{Kind}
 use Rattle.cha_board.specs.Aims.{aims_over, aimed}
 use Rattle.cha_board.specs.Squares.{steps_apart}
 use Rattle.cha_board.specs.SquareSets.{set_of, empty_set, has_square, set_without, set_common}
-use Rattle.cha_board.specs.SetLaws.{has-set_of, same_set}
+use Rattle.cha_board.proofs.SetLaws.{has-set_of, same_set}
 use Rattle.mob_sets.specs.Rows.{kinds}
 use Rattle.mob_check.specs.declared.scene.Scene.{Scene}
 use Rattle.mob_check.specs.Nearness.{next_to}

@@ -11,7 +11,7 @@ use Rattle.cha_board.specs.Board.{Board}
 use Rattle.mob_law.proofs.Geometry.{aims_at_self}
 use Rattle.mob_steps.specs.Grounds.{has_own}
 use Rattle.cha_board.specs.SquareSets.{set_of, has_square, set_joined}
-use Rattle.cha_board.specs.SetLaws.{has-set_of}
+use Rattle.cha_board.proofs.SetLaws.{has-set_of}
 use Rattle.cha_board.proofs.Scans.{any_square_at, all_squares_at, each_square}
 use Rattle.mob_sets.specs.Mobility.{Sets}
 use Rattle.mob_law.specs.Threats.{KingOn, NonKingOn, HasAtMostOneMan, Checks, Attacks, Covered, Blocked, NextToKing, Attacked, Threat, HasNoMate}

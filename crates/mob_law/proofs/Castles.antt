@@ -10,7 +10,7 @@ use Rattle.cha_board.specs.Men.{same_kind, is_man}
 use Rattle.cha_board.specs.Board.{Board, man_at, home_of}
 use Rattle.cha_moves.specs.Step.{Move}
 use Rattle.cha_moves.specs.Moves.{is_short_castling, is_long_castling, arriving, moved, castles_short, castles_long, rook_of, men_after, after}
-use Rattle.cha_moves.proofs.Identity.{some_inj, man_of, is_man_from}
+use Rattle.cha_board.proofs.Identity.{some_inj, man_of, is_man_from}
 use Rattle.cha_moves.proofs.Made.{Step, moved_other, men_moved}
 use Rattle.cha_moves.proofs.Kept.{Castling, short_castling, long_castling, short_tests, long_tests, stays_man}
 use Rattle.cha_moves.proofs.Validity.{Castled, KingHere, RookHere, Others, castled, short_after, long_after}

@@ -11,7 +11,7 @@ use Rattle.cha_board.specs.Men.{other_color, is_man}
 use Rattle.cha_board.specs.Squares.{squares, files_apart, ranks_apart, steps_apart, is_straight, is_diagonal, is_rank_ahead, is_within, lies_between, between, aims_at}
 use Rattle.cha_board.specs.Board.{Board, man_at, home_of, has_short_right, has_long_right, are_at_home, rights_fit, IsValid}
 use Rattle.cha_board.proofs.Scans.{all_squares_at}
-use Rattle.cha_moves.proofs.Identity.{other_other, same_color_self, ManOf, man_of, is_man_from}
+use Rattle.cha_board.proofs.Identity.{other_other, same_color_self, ManOf, man_of, is_man_from}
 use Rattle.mob_law.specs.Reach.{is_fixed, is_guarded}
 use Rattle.mob_sets.specs.Mobility.{Sets}
 use Rattle.mob_law.specs.Closed.{Entry, EnemyReaches, Castles, IsClosed}

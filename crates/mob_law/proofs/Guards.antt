@@ -10,7 +10,7 @@ use Rattle.cha_board.specs.Men.{other_color, same_color, is_man}
 use Rattle.cha_board.specs.Squares.{squares, steps_apart, aims_at}
 use Rattle.cha_board.specs.Board.{Board, man_at, in_check, home_of, IsValid}
 use Rattle.cha_board.proofs.Scans.{all_squares_at}
-use Rattle.cha_moves.proofs.Identity.{same_color_equal, other_other, is_man_from}
+use Rattle.cha_board.proofs.Identity.{same_color_equal, other_other, is_man_from}
 use Rattle.mob_law.specs.Reach.{is_fixed, is_leaper, guards_as, guards_from, is_guarded}
 use Rattle.mob_sets.specs.Mobility.{Sets}
 use Rattle.mob_law.specs.Closed.{Entry, EnemyReaches}

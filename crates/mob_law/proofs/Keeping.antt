@@ -7,7 +7,7 @@ use Rattle.cha_board.specs.Men.{same_kind, is_man}
 use Rattle.cha_board.specs.Board.{Board, man_at, in_check, IsValid}
 use Rattle.cha_moves.specs.Step.{Move}
 use Rattle.cha_moves.specs.Moves.{is_pseudo_legal, is_short_castling, is_long_castling, is_en_passant, castles_short, castles_long, captures_en_passant, men_after, after, is_legal_in}
-use Rattle.cha_moves.proofs.Identity.{same_kind_equal, one_kind}
+use Rattle.cha_board.proofs.Identity.{same_kind_equal, one_kind}
 use Rattle.cha_moves.proofs.Made.{may_gives, Step, makes, Plainly, Passing, Shortly, Longly}
 use Rattle.mob_sets.specs.Mobility.{Sets}
 use Rattle.mob_law.specs.Closed.{IsClosed}

@@ -9,7 +9,7 @@ use Rattle.cha_board.specs.Squares.{steps_apart, aims_at}
 use Rattle.cha_board.specs.Board.{Board, man_at}
 use Rattle.cha_moves.specs.Step.{Move}
 use Rattle.cha_moves.specs.Moves.{goes, is_short_castling, is_long_castling, promotes_well, may_enter, is_pseudo_legal_as, is_en_passant, men_after}
-use Rattle.cha_moves.proofs.Identity.{same_color_self, one_kind}
+use Rattle.cha_board.proofs.Identity.{same_color_self, one_kind}
 use Rattle.cha_moves.proofs.Kept.{short_tests, long_tests}
 use Rattle.cha_moves.proofs.Made.{men_moved, makes, Plainly, Passing, Shortly, Longly}
 use Rattle.mob_law.proofs.Geometry.{king_aims_from, two_far}

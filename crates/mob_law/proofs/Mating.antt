@@ -11,7 +11,7 @@ use Rattle.cha_board.proofs.Sightings.{attacked_from}
 use Rattle.cha_moves.specs.Step.{Move}
 use Rattle.cha_moves.specs.Moves.{may_enter, is_pseudo_legal, moved, men_after, is_legal_in}
 use Rattle.cha_moves.specs.Ends.{IsMated}
-use Rattle.cha_moves.proofs.Identity.{other_other, same_color_self, same_color_equal, same_kind_equal, ManOf, man_of, is_man_from, none_some, some_inj, on_board}
+use Rattle.cha_board.proofs.Identity.{other_other, same_color_self, same_color_equal, same_kind_equal, ManOf, man_of, is_man_from, none_some, some_inj, on_board}
 use Rattle.cha_moves.proofs.Kept.{kings_kept}
 use Rattle.cha_moves.proofs.Made.{may_gives, length-moved, moved_to, moved_from, moved_other}
 use Rattle.cha_moves.proofs.Listed.{listed}

@@ -8,7 +8,7 @@ use Rattle.cha_board.specs.declared.men.Kind.TheVariants.{King}
 use Rattle.cha_board.specs.declared.men.Man.{Man}
 use Rattle.cha_board.specs.Men.{other_color, same_color, same_kind, is_man, is_non_king}
 use Rattle.cha_moves.specs.Moves.{may_enter}
-use Rattle.cha_moves.proofs.Identity.{one_color, same_kind_equal, same_kind_self}
+use Rattle.cha_board.proofs.Identity.{one_color, same_kind_equal, same_kind_self}
 
 -- a colour is a side's or the other's
 pub either_color : (a c : Color) → (a ≡ c) ⊎ (a ≡ other_color c)

@@ -11,7 +11,7 @@ use Rattle.cha_board.specs.Squares.{rank_of, files_apart, is_rank_ahead, aims_at
 use Rattle.cha_board.specs.Board.{Board, man_at, is_empty}
 use Rattle.cha_moves.specs.Step.{Move}
 use Rattle.cha_moves.specs.Moves.{second_rank, fourth_rank, last_rank, middle, is_step, is_double_step, is_pawn_capture, is_target, is_en_passant, goes, promotes_well, arriving, victim_of}
-use Rattle.cha_moves.proofs.Identity.{same_color_self, same_color_equal, some_inj, man_of}
+use Rattle.cha_board.proofs.Identity.{same_color_self, same_color_equal, some_inj, man_of}
 use Rattle.cha_moves.proofs.Made.{Step}
 use Rattle.cha_moves.proofs.Kept.{Target, target_of, promoted}
 use Rattle.cha_moves.proofs.Validity.{step_tests, double_step, pawn_way, Steps, DoubleSteps, Captures, Passes}

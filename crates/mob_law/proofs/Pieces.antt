@@ -11,7 +11,7 @@ use Rattle.cha_board.specs.Board.{Board, man_at, is_clear, in_check, king_of, ha
 use Rattle.cha_board.proofs.Sightings.{attacked_from}
 use Rattle.cha_moves.specs.Step.{Move}
 use Rattle.cha_moves.specs.Moves.{goes, is_short_castling, is_long_castling, may_enter, arriving, is_en_passant, castles_short, castles_long, captures_en_passant, men_after}
-use Rattle.cha_moves.proofs.Identity.{other_other, same_color_equal, same_kind_equal, some_inj, man_of, is_man_from}
+use Rattle.cha_board.proofs.Identity.{other_other, same_color_equal, same_kind_equal, some_inj, man_of, is_man_from}
 use Rattle.cha_moves.proofs.Made.{Step, length-moved, moved_to, moved_other, men_moved}
 use Rattle.cha_moves.proofs.Kept.{stays_man, kings_kept}
 use Rattle.mob_law.specs.Reach.{is_fixed, is_open, is_leaper, guards_as, guards_from, is_guarded}

@@ -16,7 +16,7 @@ use Rattle.mob_law.specs.Closed.{Entry}
 use Rattle.mob_law.specs.Threats.{KingOn, NonKingOn}
 use Rattle.cha_moves.proofs.Kept.{Becomes}
 use Rattle.mob_law.proofs.Facts.{Facts}
-use Rattle.cha_moves.proofs.Identity.{man_of, is_man_from, on_board}
+use Rattle.cha_board.proofs.Identity.{man_of, is_man_from, on_board}
 use Rattle.mob_law.proofs.Men.{is_non_king_from}
 
 -- a test that follows from another, over a list

@@ -3,7 +3,7 @@ use Rattle.std.proofs.Common.{◌≡◌, ◌≢◌, ℕ, zero, suc, ◌<◌, ◌
 use Rattle.std.proofs.lemmas.Bool.{cases_eq, cases_order, both_ways, false_from_ne_true}
 use Rattle.cha_board.specs.declared.men.Kind.{Kind}
 use Rattle.cha_board.specs.SquareSets.{empty_set, has_square}
-use Rattle.cha_board.specs.SetLaws.{length-set_of, same_squares}
+use Rattle.cha_board.proofs.SetLaws.{length-set_of, same_squares}
 use Rattle.mob_sets.specs.Rows.{Row, SetRows, is_entry, has_entry, sets_of, place_of, row_place}
 use Rattle.mob_sets.specs.Tidy.{AreTidy, IsFull}
 use Rattle.mob_sets.proofs.Order.{place_tells}

@@ -9,7 +9,7 @@ use Rattle.cha_board.specs.declared.men.Kind.TheVariants.{Pawn}
 use Rattle.cha_board.specs.Men.{same_kind}
 use Rattle.cha_board.specs.Squares.{squares}
 use Rattle.cha_board.specs.SquareSets.{empty_set, has_square, set_with, set_joined, has_no_square}
-use Rattle.cha_board.specs.SetLaws.{length-set_of, same_squares}
+use Rattle.cha_board.proofs.SetLaws.{length-set_of, same_squares}
 use Rattle.cha_board.proofs.Scans.{any_square_at, no_square}
 use Rattle.mob_sets.specs.Rows.{Row, is_entry, has_entry, entries_joined, sets_with, sets_joined, row_joined, place_of, row_place}
 use Rattle.mob_sets.specs.Tidy.{AreTidy, IsFull, IsThere, IsMissing}

@@ -5,7 +5,7 @@ use Rattle.std.proofs.lemmas.Bool.{and_left}
 use Rattle.cha_board.specs.declared.men.Color.{Color}
 use Rattle.cha_board.specs.Men.{is_non_king}
 use Rattle.cha_board.specs.SquareSets.{set_of, has_square}
-use Rattle.cha_board.specs.SetLaws.{has-set_of}
+use Rattle.cha_board.proofs.SetLaws.{has-set_of}
 use Rattle.cha_board.specs.Board.{Board, man_at}
 use Rattle.mob_sets.specs.Mobility.{Sets}
 use Rattle.mob_sets.specs.Rows.{kinds}

@@ -8,7 +8,7 @@ use Rattle.cha_board.specs.declared.men.Kind.TheVariants.{Pawn}
 use Rattle.cha_board.specs.Men.{other_color, same_kind}
 use Rattle.cha_board.specs.Squares.{squares}
 use Rattle.cha_board.specs.SquareSets.{set_of, empty_set, has_square, set_with, set_joined, has_no_square}
-use Rattle.cha_board.specs.SetLaws.{has-set_of, same_set}
+use Rattle.cha_board.proofs.SetLaws.{has-set_of, same_set}
 use Rattle.cha_board.specs.Shifts.{is_ahead}
 use Rattle.cha_board.proofs.Scans.{any_square_at, no_square}
 use Rattle.cha_board.proofs.Contents.{some_square, in_empty, in_single, single_has, same_test}

@@ -8,7 +8,7 @@ use Rattle.cha_board.specs.declared.men.Kind.{Kind}
 use Rattle.cha_board.specs.declared.men.Man.{Man}
 use Rattle.cha_board.specs.Men.{other_color, same_color, is_non_king}
 use Rattle.cha_board.specs.SquareSets.{has_square}
-use Rattle.cha_board.specs.SetLaws.{has-set_of}
+use Rattle.cha_board.proofs.SetLaws.{has-set_of}
 use Rattle.cha_board.specs.Board.{Board, man_at}
 use Rattle.cha_moves.specs.Moves.{is_target}
 use Rattle.mob_law.specs.Reach.{is_fixed, is_guarded}

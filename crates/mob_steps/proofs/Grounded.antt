@@ -13,7 +13,7 @@ use Rattle.cha_board.specs.SquareSets.{set_of, has_square}
 use Rattle.cha_board.specs.Shifts.{is_ahead}
 use Rattle.cha_board.specs.Board.{Board, man_at}
 use Rattle.cha_moves.specs.Moves.{last_rank, is_target, is_promotion, victim_of}
-use Rattle.cha_moves.proofs.Identity.{same_color_equal, same_kind_equal}
+use Rattle.cha_board.proofs.Identity.{same_color_equal, same_kind_equal}
 use Rattle.mob_law.specs.Reach.{is_fixed, is_open, is_leaper, is_guarded}
 use Rattle.mob_sets.specs.Mobility.{Sets, IsWithin}
 use Rattle.mob_law.specs.Closed.{has_fixed_enemy, Entry, Enters, IsClosed}

@@ -9,12 +9,12 @@ use Rattle.cha_board.specs.declared.men.Man.{Man}
 use Rattle.cha_board.specs.Men.{same_color, same_kind, is_of, is_kind, is_man, is_non_king}
 use Rattle.cha_board.specs.Squares.{squares, aims_at, steps_apart}
 use Rattle.cha_board.specs.SquareSets.{set_of, empty_set, has_square, set_with, set_joined, set_common, set_minus}
-use Rattle.cha_board.specs.SetLaws.{has-set_of, same_set}
+use Rattle.cha_board.proofs.SetLaws.{has-set_of, same_set}
 use Rattle.cha_board.specs.Board.{Board, man_at, is_empty}
 use Rattle.cha_board.proofs.Scans.{any_square_at, any_alike}
 use Rattle.cha_board.proofs.Contents.{some_square, same_test, in_empty}
 use Rattle.cha_moves.specs.Moves.{is_target}
-use Rattle.cha_moves.proofs.Identity.{same_kind_equal, same_kind_self}
+use Rattle.cha_board.proofs.Identity.{same_kind_equal, same_kind_self}
 use Rattle.mob_sets.specs.Mobility.{Sets}
 use Rattle.mob_sets.specs.Rows.{kinds}
 use Rattle.mob_sets.proofs.KindTests.{any_kind_at, some_kind}

@@ -9,7 +9,7 @@ use Rattle.cha_board.specs.declared.men.Kind.TheVariants.{Pawn, Knight, Bishop, 
 use Rattle.cha_board.specs.Squares.{squares, file_of, rank_of, files_apart, ranks_apart, steps_apart, is_straight, is_diagonal, is_line, is_rank_ahead, aims_at}
 use Rattle.cha_board.specs.SquareSets.{set_of, has_square, set_of_bits, set_joined}
 use Rattle.std.specs.Int.{bit_at}
-use Rattle.cha_board.specs.SetLaws.{length-set_of, has-set_of, same_squares}
+use Rattle.cha_board.proofs.SetLaws.{length-set_of, has-set_of, same_squares}
 use Rattle.cha_board.proofs.Scans.{any_square_at, no_square, all_squares_at}
 use Rattle.cha_board.proofs.Contents.{some_square, same_test}
 use Rattle.mob_steps.specs.Steps.{steps_to, is_stepped_to, spread_of}

@@ -10,7 +10,7 @@ use Rattle.cha_board.specs.Men.{other_color, same_kind}
 use Rattle.cha_board.specs.Squares.{squares, rank_of}
 use Rattle.cha_board.specs.Shifts.{is_ahead}
 use Rattle.cha_board.specs.SquareSets.{set_of, has_square}
-use Rattle.cha_board.specs.SetLaws.{has-set_of}
+use Rattle.cha_board.proofs.SetLaws.{has-set_of}
 use Rattle.cha_board.proofs.Scans.{any_square_at}
 use Rattle.cha_board.proofs.Contents.{some_square, in_set_of}
 use Rattle.cha_moves.specs.Moves.{is_promotion}

@@ -1,6 +1,6 @@
 use Rattle.std.proofs.Common.{◌==◌, length, ap, ◌∙◌}
 use Rattle.std.specs.Int.{bit_at}
-use Rattle.cha_board.specs.SetLaws.{length-set_of}
+use Rattle.cha_board.proofs.SetLaws.{length-set_of}
 use Rattle.cert_text.proofs.leaves.set_of.Goals as goal
 
 pub returns-clause-width : goal.returns-clause-width

@@ -1,11 +1,9 @@
-use Rattle.std.proofs.Common.{◌<◌, sym, ◌∙◌, arith}
-use Rattle.cha_board.proofs.Builds.{pawn_at, pawn_nowhere}
+use Rattle.std.proofs.Common.{not, ap, ◌∙◌}
+use Rattle.cha_board.proofs.Counting.{pawns_at_ends}
 use Rattle.cha_board.proofs.build.pawn_at_end.Goals as goal
 
-pub returns-then-pawn_ends_on : goal.returns-then-pawn_ends_on
-returns-then-pawn_ends_on c =
-    let small : c.at.result < 64 = omega arith in
-    sym (pawn_at c.args.men.now c.at.result small (sym c.pawn_ends_on.ensures ∙ c.if-pawn_ends_on.true))
-
 pub returns : goal.returns
-returns c = sym (pawn_nowhere _ (λ s small. c.loop-index.invariant s (omega arith)))
+returns c =
+    ap not c.is_empty.ensures
+    ∙ pawns_at_ends c.args.men.now c.all_of_kind.result c.of_rank.result c.of_rank-2.result c.joined-ends.result c.common.result
+    c.all_of_kind.ensures c.of_rank.ensures c.of_rank-2.ensures c.joined-ends.ensures c.common.ensures

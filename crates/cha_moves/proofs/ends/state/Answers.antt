@@ -2,7 +2,7 @@
 use Rattle.std.proofs.Common.{rules, sym, ap, ◌∙◌}
 use Rattle.cha_board.specs.Men.{other_color}
 use Rattle.cha_moves.specs.declared.ends.Standing.TheVariants.{Mate, Stalemate, Running}
-use Rattle.cha_moves.proofs.Identity.{other_other}
+use Rattle.cha_board.proofs.Identity.{other_other}
 use Rattle.cha_moves.proofs.Mated.{standing_is, stalemated}
 use Rattle.cha_moves.proofs.ends.state.Goals as goal
 

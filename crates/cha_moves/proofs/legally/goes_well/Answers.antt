@@ -4,7 +4,7 @@ use Rattle.cha_board.specs.Men.{other_color}
 use Rattle.cha_board.specs.Squares.{aims_at}
 use Rattle.cha_board.specs.Board.{attacked}
 use Rattle.cha_moves.specs.Shields.{men_less}
-use Rattle.cha_moves.proofs.Identity.{same_kind_equal}
+use Rattle.cha_board.proofs.Identity.{same_kind_equal}
 use Rattle.cha_moves.proofs.Arriving.{Going}
 use Rattle.cha_moves.proofs.GoingLegally.{king_goes}
 use Rattle.cha_moves.proofs.SafeCastling.{castling_goes}

@@ -10,4 +10,4 @@ returns-else-has_to_ask c =
     let small : c.args.from < 64 = omega arith in
     let free = OnFalse_at c.if-has_to_ask.false c.has_to_ask.ensures in
     c.common.ensures ∙ ap (λ x. set_common x c.args.shields.now.answers) c.ways_of-ways.ensures
-    ∙ free_ways q c.args.from c.args.man c.args.shields.now.answers c.args.shields.now.pinned c.known.ensures small c.requires.man c.requires.shields free
+    ∙ free_ways q c.args.from c.args.man c.args.shields.now.answers c.args.shields.now.screens c.known.ensures small c.requires.man c.requires.shields free

@@ -1,5 +1,5 @@
 use Rattle.std.proofs.Common.{◌<◌, sym, ◌∙◌, arith}
-use Rattle.cha_board.specs.SetLaws.{squares_from_first, no_first_square}
+use Rattle.cha_board.proofs.SetLaws.{squares_from_first, no_first_square}
 use Rattle.cha_moves.proofs.WayLaws.{fewer}
 use Rattle.cha_moves.proofs.Facing.{first_in}
 use Rattle.cha_moves.proofs.GoingLegally.{unsifted, sifted_one, all_sifted}

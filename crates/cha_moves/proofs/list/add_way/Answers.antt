@@ -1,6 +1,6 @@
 use Rattle.std.proofs.Common.{◌≡◌, ◌<◌, true, false, sym, ap, ◌∙◌, arith}
 use Rattle.cha_board.specs.SquareSets.{has_square}
-use Rattle.cha_board.specs.SetLaws.{has-set_of}
+use Rattle.cha_board.proofs.SetLaws.{has-set_of}
 use Rattle.cha_moves.specs.Ways.{is_promoted}
 use Rattle.cha_moves.proofs.Arriving.{Going, moves_plain, moves_promoted}
 use Rattle.cha_moves.proofs.GoingLegally.{goes_a_way, goes_plain, goes_promoted}

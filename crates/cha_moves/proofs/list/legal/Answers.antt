@@ -3,7 +3,7 @@ use Rattle.std.specs.List.{filter, flat_map}
 use Rattle.cha_board.specs.Men.{is_of}
 use Rattle.cha_board.specs.Board.{man_at}
 use Rattle.cha_board.specs.SquareSets.{set_of, squares_in}
-use Rattle.cha_board.specs.SetLaws.{squares_from_first, no_first_square}
+use Rattle.cha_board.proofs.SetLaws.{squares_from_first, no_first_square}
 use Rattle.cha_moves.specs.Moves.{is_legal_in, moves_from, legal}
 use Rattle.cha_moves.proofs.WayLaws.{legal_by_men, filter_next, fewer}
 use Rattle.cha_moves.proofs.list.legal.Goals as goal

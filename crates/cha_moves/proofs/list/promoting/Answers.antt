@@ -2,7 +2,7 @@ use Rattle.std.proofs.Common.{sym, ap, ◌∙◌}
 use Rattle.cha_board.specs.declared.men.Kind.TheVariants.{Pawn}
 use Rattle.cha_board.specs.SquareSets.{set_of}
 use Rattle.cha_moves.specs.Ways.{is_promoted}
-use Rattle.cha_moves.proofs.Identity.{same_kind_equal}
+use Rattle.cha_board.proofs.Identity.{same_kind_equal}
 use Rattle.cha_moves.proofs.GoingLegally.{none_promoted, white_promoted, black_promoted}
 use Rattle.cha_moves.proofs.list.promoting.Goals as goal
 

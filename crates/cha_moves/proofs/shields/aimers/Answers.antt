@@ -4,7 +4,7 @@ use Rattle.cha_board.specs.declared.men.Kind.TheVariants.{Pawn, Knight, Bishop, 
 use Rattle.cha_board.specs.Men.{is_man}
 use Rattle.cha_board.specs.Squares.{aims_at}
 use Rattle.cha_board.specs.Board.{man_at}
-use Rattle.cha_board.specs.SetLaws.{same_set}
+use Rattle.cha_board.proofs.SetLaws.{same_set}
 use Rattle.cha_moves.specs.Shields.{aims_as}
 use Rattle.cha_moves.proofs.Facing.{joined_of, six_kinds}
 use Rattle.cha_moves.proofs.shields.aimers.Goals as goal

@@ -1,7 +1,7 @@
 use Rattle.std.proofs.Common.{◌<◌, sym, ◌∙◌, arith}
 use Rattle.std.proofs.lemmas.Bool.{both_ways}
 use Rattle.cha_board.specs.SquareSets.{has_no_square}
-use Rattle.cha_board.specs.SetLaws.{squares_from_first}
+use Rattle.cha_board.proofs.SetLaws.{squares_from_first}
 use Rattle.cha_moves.proofs.Facing.{one_alone}
 use Rattle.cha_moves.proofs.shields.lone.Goals as goal
 

@@ -3,7 +3,7 @@ use Rattle.cha_board.specs.Men.{other_color}
 use Rattle.cha_board.specs.Squares.{lies_between}
 use Rattle.cha_board.specs.Board.{man_at, king_of}
 use Rattle.cha_board.specs.SquareSets.{set_of, has_square, has_no_square, set_common}
-use Rattle.cha_board.specs.SetLaws.{squares_from_first, no_first_square}
+use Rattle.cha_board.proofs.SetLaws.{squares_from_first, no_first_square}
 use Rattle.cha_moves.specs.Shields.{aims_as}
 use Rattle.cha_moves.proofs.WayLaws.{fewer}
 use Rattle.cha_moves.proofs.Facing.{way_from, none_faced, all_faced, way_is_clear, check_faced, pin_faced, first_in, none_left, answered, pinned_too, lone_there, every_square}
@@ -39,7 +39,7 @@ loop-by-preserved-then-is_empty c =
     let line : c.squares_between-line.result ≡ set_of (lies_between k u) = c.squares_between-line.ensures ∙ ap (λ x. set_of (lies_between x u)) king in
     let way : c.common-way.result ≡ way_from q u = c.common-way.ensures ∙ rw (line, c.occupied-occupied.ensures) refl in
     let clear = sym (way_is_clear q u small small') ∙ ap has_no_square (sym way) ∙ sym c.is_empty.ensures ∙ c.if-is_empty.true in
-    rw c.without-left.ensures (check_faced q c.loop-by.left c.loop-by.answers c.loop-by.pinned c.common-answers.result u small here clear (λ t small''. ap (λ (x : List Bool). has_square x t) (c.common-answers.ensures ∙ ap (set_common c.loop-by.answers) c.with.ensures) ∙ answered c.loop-by.answers c.squares_between-line.result k u t line small'') c.loop-by.invariant)
+    rw c.without-left.ensures (check_faced q c.loop-by.left c.loop-by.answers c.loop-by.screens c.common-answers.result u small here clear (λ t small''. ap (λ (x : List Bool). has_square x t) (c.common-answers.ensures ∙ ap (set_common c.loop-by.answers) c.with.ensures) ∙ answered c.loop-by.answers c.squares_between-line.result k u t line small'') c.loop-by.invariant)
 
 pub loop-by-preserved : goal.loop-by-preserved
 loop-by-preserved c =
@@ -55,7 +55,7 @@ loop-by-preserved c =
     let line : c.squares_between-line.result ≡ set_of (lies_between k u) = c.squares_between-line.ensures ∙ ap (λ x. set_of (lies_between x u)) king in
     let way : c.common-way.result ≡ way_from q u = c.common-way.ensures ∙ rw (line, c.occupied-occupied.ensures) refl in
     let barred = ap has_no_square (sym way) ∙ sym c.is_empty.ensures ∙ c.if-is_empty.false in
-    rw c.without-left.ensures (pin_faced q c.loop-by.left c.loop-by.answers c.loop-by.pinned c.joined-pinned.result c.lone.result u small small' barred (lone_there q u c.common-way.result c.lone.result way barred c.lone.ensures) (λ s small''. ap (λ (x : List Bool). has_square x s) c.joined-pinned.ensures ∙ pinned_too c.loop-by.pinned c.lone.result s small'') c.loop-by.invariant)
+    rw c.without-left.ensures (pin_faced q c.loop-by.left c.loop-by.answers c.loop-by.screens c.joined-screens.result c.lone.result u small small' barred (lone_there q u c.common-way.result c.lone.result way barred c.lone.ensures) (λ s small''. ap (λ (x : List Bool). has_square x s) c.joined-screens.ensures ∙ pinned_too c.loop-by.screens c.lone.result s small'') c.loop-by.invariant)
 
 pub returns : goal.returns
-returns c = all_faced c.args.position.now c.loop-by.left c.loop-by.answers c.loop-by.pinned c.loop-by.invariant (none_left c.loop-by.left (no_first_square c.loop-by.left (sym c.first.ensures ∙ c.in_default.is)))
+returns c = all_faced c.args.position.now c.loop-by.left c.loop-by.answers c.loop-by.screens c.loop-by.invariant (none_left c.loop-by.left (no_first_square c.loop-by.left (sym c.first.ensures ∙ c.in_default.is)))

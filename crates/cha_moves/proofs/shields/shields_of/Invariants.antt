@@ -8,4 +8,4 @@ decreases-loop-by l = length (squares_in l.left)
 
 -- what is known of the men that were looked at
 abbrev pub invariant-loop-by : goal.invariant-loop-by
-invariant-loop-by l = Faced l.position l.left l.answers l.pinned
+invariant-loop-by l = Faced l.position l.left l.answers l.screens

@@ -2,7 +2,7 @@ use Rattle.std.proofs.Common.{refl, sym, ap, ◌∙◌}
 use Rattle.std.specs.List.{filter, flat_map}
 use Rattle.cha_board.specs.Men.{is_of}
 use Rattle.cha_board.specs.SquareSets.{squares_in}
-use Rattle.cha_board.specs.SetLaws.{squares_from_first, no_first_square}
+use Rattle.cha_board.proofs.SetLaws.{squares_from_first, no_first_square}
 use Rattle.cha_moves.specs.Moves.{is_legal_in, moves_between, moves_from}
 use Rattle.cha_moves.proofs.Contained.{Contains-cons_here}
 use Rattle.cha_moves.proofs.WayLaws.{no_own_move, between_found}

@@ -4,7 +4,7 @@ use Rattle.cha_board.specs.declared.men.Kind.TheVariants.{Pawn, King}
 use Rattle.cha_board.specs.Men.{same_kind}
 use Rattle.cha_board.specs.SquareSets.{set_of}
 use Rattle.cha_moves.specs.Moves.{goes}
-use Rattle.cha_moves.proofs.Identity.{same_kind_equal}
+use Rattle.cha_board.proofs.Identity.{same_kind_equal}
 use Rattle.cha_moves.proofs.Pushes.{pawn_goes_to, others_go}
 use Rattle.cha_moves.proofs.ways.kind_ways.Goals as goal
 

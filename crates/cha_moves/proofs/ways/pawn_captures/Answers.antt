@@ -3,7 +3,7 @@ use Rattle.cha_board.specs.declared.men.Kind.TheVariants.{Pawn}
 use Rattle.cha_board.specs.Squares.{aims_at}
 use Rattle.cha_board.specs.Board.{is_empty}
 use Rattle.cha_board.specs.SquareSets.{set_of}
-use Rattle.cha_board.specs.SetLaws.{has-set_of}
+use Rattle.cha_board.proofs.SetLaws.{has-set_of}
 use Rattle.cha_moves.proofs.Goings.{pawn_aimed, common_of, captures_plain, captures_passing, where_is}
 use Rattle.cha_moves.proofs.ways.pawn_captures.Goals as goal
 

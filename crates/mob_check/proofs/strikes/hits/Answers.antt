@@ -1,7 +1,7 @@
 use Rattle.std.proofs.Common.{◌<◌, List, Bool, ap, ◌∙◌, arith}
 use Rattle.cha_board.specs.Aims.{aims_over, aimed}
 use Rattle.cha_board.specs.SquareSets.{has_square}
-use Rattle.cha_board.specs.SetLaws.{has-set_of}
+use Rattle.cha_board.proofs.SetLaws.{has-set_of}
 use Rattle.mob_check.proofs.strikes.hits.Goals as goal
 
 pub returns : goal.returns

@@ -1,7 +1,7 @@
 use Rattle.std.proofs.Common.{◌≡◌, ◌<◌, ◌≤◌, ℕ, Bool, List, sym, ap, ◌∙◌, arith}
 use Rattle.std.specs.List.{list_any}
 use Rattle.cha_board.specs.SquareSets.{has_square, set_without}
-use Rattle.cha_board.specs.SetLaws.{has-set_of}
+use Rattle.cha_board.proofs.SetLaws.{has-set_of}
 use Rattle.mob_sets.specs.Rows.{kinds}
 use Rattle.mob_steps.proofs.Gathering.{gathers_none, gathers_joined, gathers_skipped, gathers_all}
 use Rattle.mob_check.specs.Scenes.{all_in_reach}

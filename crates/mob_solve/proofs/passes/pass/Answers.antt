@@ -1,4 +1,4 @@
-use Rattle.cha_moves.proofs.Identity.{on_board}
+use Rattle.cha_board.proofs.Identity.{on_board}
 use Rattle.mob_solve.specs.Reaching.{sets_in}
 use Rattle.mob_steps.proofs.Grounded.{all_forced}
 use Rattle.mob_steps.proofs.Closing.{rules_close}

@@ -1,6 +1,6 @@
 use Rattle.std.proofs.Common.{◌≡◌, ◌==◌, ℕ, List, Bool, length, ap, ◌∙◌}
 use Rattle.std.specs.Int.{bit_at}
-use Rattle.cha_board.specs.SetLaws.{length-set_of}
+use Rattle.cha_board.proofs.SetLaws.{length-set_of}
 use Rattle.cha_board.proofs.Contents.{set_is}
 use Rattle.mob_solve.specs.Reaching.{sets_in}
 use Rattle.mob_solve.proofs.reached.ground_of.Goals as goal

@@ -1,6 +1,6 @@
 use Rattle.std.proofs.Common.{◌≡◌, ◌<◌, ◌≤◌, ℕ, Bool, sym, ap, ◌∙◌, arith}
 use Rattle.cha_board.specs.SquareSets.{has_square}
-use Rattle.cha_board.specs.SetLaws.{has-set_of}
+use Rattle.cha_board.proofs.SetLaws.{has-set_of}
 use Rattle.mob_steps.specs.Grounds.{reaches_from, is_reached, has_own}
 use Rattle.mob_solve.specs.Reaching.{sets_in}
 use Rattle.mob_steps.proofs.Gathering.{gathers_none, gathers_joined, gathers_skipped, gathers_all}

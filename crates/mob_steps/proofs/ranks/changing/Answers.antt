@@ -1,6 +1,6 @@
 use Rattle.std.proofs.Common.{ℕ, ◌==◌, ap, sym, ◌∙◌, List, Bool}
 use Rattle.cha_board.specs.Squares.{rank_of}
-use Rattle.cha_board.specs.SetLaws.{has-set_of}
+use Rattle.cha_board.proofs.SetLaws.{has-set_of}
 use Rattle.cha_board.specs.SquareSets.{has_square}
 use Rattle.cha_board.proofs.Contents.{in_empty}
 use Rattle.mob_steps.proofs.Going.{pawn_changes, piece_stays_on}

@@ -1,6 +1,6 @@
 use Rattle.std.proofs.Common.{sym, ◌∙◌, ap}
 use Rattle.cha_board.specs.SquareSets.{bits_of_set}
-use Rattle.cha_board.specs.SetLaws.{bits_of_set-set_of_bits}
+use Rattle.cha_board.proofs.SetLaws.{bits_of_set-set_of_bits}
 use Rattle.cha_board.proofs.sets.SquareSet.bits.Goals as goal
 
 pub returns-clause-value : goal.returns-clause-value

@@ -1,6 +1,6 @@
 use Rattle.std.proofs.Common.{◌<◌, List, Bool, ap, ◌∙◌, arith}
 use Rattle.cha_board.specs.SquareSets.{has_square}
-use Rattle.cha_board.specs.SetLaws.{has-set_of}
+use Rattle.cha_board.proofs.SetLaws.{has-set_of}
 use Rattle.mob_sets.specs.Rows.{sets_of}
 use Rattle.mob_sets.proofs.sets.Sets.has.Goals as goal
 

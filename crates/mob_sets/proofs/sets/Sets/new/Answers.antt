@@ -1,5 +1,5 @@
 use Rattle.std.proofs.Common.{false}
-use Rattle.cha_board.specs.SetLaws.{length-set_of}
+use Rattle.cha_board.proofs.SetLaws.{length-set_of}
 use Rattle.mob_sets.proofs.Keeping.{none_tidy}
 use Rattle.mob_sets.proofs.sets.Sets.new.Goals as goal
 

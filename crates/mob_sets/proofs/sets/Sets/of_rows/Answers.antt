@@ -1,6 +1,6 @@
 use Rattle.std.proofs.Common.{◌==◌, length, ap, ◌∙◌}
 use Rattle.std.specs.Int.{bit_at}
-use Rattle.cha_board.specs.SetLaws.{length-set_of}
+use Rattle.cha_board.proofs.SetLaws.{length-set_of}
 use Rattle.mob_sets.proofs.sets.Sets.of_rows.Goals as goal
 
 pub invariant_of-result : goal.invariant_of-result

@@ -1,0 +1,4 @@
+mod Keying
+mod Rowing
+mod Storing
+mod Lasting

@@ -1,10 +1,9 @@
 //! The squares on which some man of a group is in reach.
 
 ghost use Rattle.std.specs.Prelude.{◌≡◌};
-ghost use Rattle.cha_board.specs.Men.{is_non_king};
 ghost use Rattle.mob_check.specs.Reaches.{is_row_of, reach_of};
 
-use cha_board::{Color, Kind, Man, Position, SquareSet, is_man_of};
+use cha_board::{Color, Kind, Position, SquareSet, is_man_of, is_man_other_than_king};
 use mob_sets::SetRow;
 
 /// Some entries of mobility sets.
@@ -41,15 +40,5 @@ fn is_of(position: &Position, group: Group, row: SetRow) -> bool
         Group::KingOf(side) => row.kind.is(Kind::King) && is_man_of(man, side, Kind::King),
         Group::MenOf(side) => is_man_other_than_king(man, side),
         Group::MenAs(side, kind) => row.kind.is(kind) && is_man_other_than_king(man, side),
-    }
-}
-
-/// Whether what stands on a square is a man of a side other than its king.
-pub fn is_man_other_than_king(found: Option<Man>, side: Color) -> bool
-    ensures { result ≡ is_non_king side found }
-{
-    match found {
-        None => false,
-        Some(man) => man.color.is(side) && !man.kind.is(Kind::King),
     }
 }

@@ -8,7 +8,7 @@
 mod comments;
 mod kinds;
 mod pieces;
-mod places;
+mod order;
 mod reading;
 mod rules;
 mod tag_values;
@@ -18,5 +18,5 @@ mod tests;
 mod words;
 
 pub use kinds::{Placed, Token};
-pub use places::tokens_stand_in_order;
+pub use order::tokens_stand_in_order;
 pub use reading::tokens_of;

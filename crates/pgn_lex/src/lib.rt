@@ -1,7 +1,7 @@
 //! The tokens of a text of chess games in PGN, of any bytes whatever.
 //!
 //! `kinds` has the tokens, `reading` goes from piece to piece, `rules` is the table of what begins a piece, and
-//! `comments`, `words`, `tags` and `tag_values` have one function for each rule; `pieces` has what these give, and `places`
+//! `comments`, `words`, `tags` and `tag_values` have one function for each rule; `pieces` has what these give, and `order`
 //! the law of the places of tokens.
 #![tactic(auto)]
 

@@ -16,9 +16,9 @@ use Rattle.cha_board.specs.declared.men.Kind.TheVariants.{Pawn, Knight, Bishop, 
 use Rattle.cha_board.specs.Board.{Board, IsValid}
 use Rattle.cha_board.specs.SquareSets.{has_square, set_of_bits, bits_of_set}
 use Rattle.cha_board.proofs.SetLaws.{one_if, length-set_of, has-set_of, same_squares, bit_at-bits_of_set}
-use Rattle.cha_fen.specs.Placement.{kind_of}
+use Rattle.cha_board.specs.Letters.{kind_of}
 use Rattle.cha_fen.specs.Fen.{fen}
-use Rattle.cha_fen.specs.Written.{kind_letter}
+use Rattle.cha_board.specs.Letters.{kind_letter}
 use Rattle.cha_fen.proofs.WrittenRead.{written_is_read}
 use Rattle.mob_sets.specs.Rows.{Row}
 use Rattle.cert_text.specs.Digits.{hex_digit, hex_digits, value_of}

@@ -13,7 +13,8 @@ use Rattle.cha_board.specs.declared.men.Man.{Man}
 use Rattle.cha_board.specs.Squares.{file_of, rank_of}
 use Rattle.cha_board.specs.Board.{Board}
 use Rattle.cha_board.specs.SquareSets.{bits_of_set}
-use Rattle.cha_fen.specs.Written.{kind_letter, row_text_after, rank_men, ranks_text, side_text, rights_text, target_text, fen_text}
+use Rattle.cha_board.specs.Letters.{kind_letter, square_text}
+use Rattle.cha_fen.specs.Written.{row_text_after, rank_men, ranks_text, side_text, rights_text, target_text, fen_text}
 use Rattle.cha_fen.proofs.RoundTrip.{above, row_above}
 use Rattle.mob_sets.specs.Rows.{Row}
 use Rattle.cha_cert.specs.declared.nodes.Node.{Node}
@@ -77,7 +78,7 @@ rights_plain_at false false false true = refl
 rights_plain_at false false false false = refl
 
 target_plain : (t : Option ℕ) → list_all plain (target_text t) ≡ true
-unfolding target_text
+unfolding target_text square_text
 target_plain None = refl
 target_plain (Some s) = one_plain (s % 8 + 97) ((s / 8 + 49) ∷ []) (omega arith) (one_plain (s / 8 + 49) [] (omega arith) refl)
 

@@ -6,7 +6,8 @@ use Rattle.cha_board.specs.declared.men.Color.TheVariants.{White, Black}
 use Rattle.cha_board.specs.Squares.{file_of, rank_of}
 use Rattle.cha_board.specs.Board.{Board}
 use Rattle.cha_board.specs.SquareSets.{bits_of_set}
-use Rattle.cha_fen.specs.Written.{kind_letter, fen_text}
+use Rattle.cha_board.specs.Letters.{kind_letter}
+use Rattle.cha_fen.specs.Written.{fen_text}
 use Rattle.mob_sets.specs.Rows.{Row}
 use Rattle.cha_cert.specs.declared.nodes.Node.{Node}
 use Rattle.cha_cert.specs.declared.nodes.Part.{Part}

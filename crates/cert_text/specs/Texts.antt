@@ -9,7 +9,7 @@ use Rattle.cha_board.specs.declared.men.Kind.{Kind}
 use Rattle.cha_board.specs.Board.{Board}
 use Rattle.cha_board.specs.SquareSets.{set_of_bits, bits_of_set}
 use Rattle.cha_fen.specs.declared.faults.FenFault.{FenFault}
-use Rattle.cha_fen.specs.Placement.{kind_of}
+use Rattle.cha_board.specs.Letters.{kind_of}
 use Rattle.cha_fen.specs.Fen.{fen}
 use Rattle.mob_sets.specs.Rows.{Row, row_place}
 use Rattle.cha_cert.specs.declared.nodes.Node.{Node}

@@ -1,7 +1,7 @@
 //! The lines behind a leaf's line: its loose origins and its rows.
 
 ghost use Rattle.std.specs.Prelude.{◌≤◌, drop, length, ◌≡◌, ◌≢◌, ◌<◌, [], Err, IsTrue, IfOk, IfErr, IfSome};
-ghost use Rattle.cha_fen.specs.Placement.{kind_of};
+ghost use Rattle.cha_board.specs.Letters.{kind_of};
 ghost use Rattle.std.specs.Prelude.{nat_lt};
 ghost use Rattle.std.specs.List.{list_all};
 ghost use Rattle.cha_board.specs.SquareSets.{set_of_bits};
@@ -70,7 +70,7 @@ fn square(file: u8, rank: u8) -> Option<Square>
 }
 
 /// The kind of a letter.
-#[tactic(auto, unfolding(cha_fen::specs::Placement::kind_of))]
+#[tactic(auto, unfolding(cha_board::specs::Letters::kind_of))]
 fn kind(letter: u8) -> Option<Kind>
     ensures { result ≡ kind_of letter }
 {

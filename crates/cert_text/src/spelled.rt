@@ -2,7 +2,7 @@
 
 ghost use Rattle.std.specs.Prelude.{◌≡◌, ◌<◌, ◌≤◌, ◌^◌, ◌++◌, [], ◌∷◌, Ok, length, map, OnOk, IfOk};
 ghost use Rattle.std.specs.List.{All, flat_map};
-ghost use Rattle.cha_fen.specs.Written.{kind_letter};
+ghost use Rattle.cha_board.specs.Letters.{kind_letter};
 ghost use Rattle.mob_sets.specs.Tidy.{AreTidy};
 ghost use Rattle.cert_text.specs.Spelled.{header_line, winner_line, count_line, loose_line, row_line, inner_line, leaf_line, node_lines, lines_text, cert_text};
 ghost use Rattle.cert_text.specs.Texts.{cert_of};

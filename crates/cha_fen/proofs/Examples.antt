@@ -8,9 +8,11 @@ use Rattle.cha_board.specs.Build.{build_fault, kept_rights, kept_target, built}
 use Rattle.cha_fen.specs.declared.faults.FenFault.{FenFault}
 use Rattle.cha_fen.specs.declared.faults.FenFault.TheVariants.{Shape, Kings, PawnRank, OpponentInCheck}
 use Rattle.cha_fen.specs.Fields.{fields_after}
-use Rattle.cha_fen.specs.Placement.{rows, kind_of, man_of, squares_of, row_squares, men_upward, men_of_rows}
+use Rattle.cha_board.specs.Letters.{kind_of, man_of, square_text}
+use Rattle.cha_fen.specs.Placement.{rows, squares_of, row_squares, men_upward, men_of_rows}
 use Rattle.cha_fen.specs.Fen.{side_of, are_rights, rights_of, target_of, are_clocks, parts_of, fen}
-use Rattle.cha_fen.specs.Written.{letter_of, row_text_after, ranks_text, rights_text, target_text, fen_text}
+use Rattle.cha_board.specs.Letters.{letter_of}
+use Rattle.cha_fen.specs.Written.{row_text_after, ranks_text, rights_text, target_text, fen_text}
 
 -- what is written of a position that was read, or the fault
 abbrev text_again : Result Board FenFault → Result (List ℕ) FenFault
@@ -20,7 +22,7 @@ text_again (Err fault) = Err fault
 rewritten : List ℕ → Result (List ℕ) FenFault
 unfolding fen parts_of fields_after in_class rows kind_of man_of squares_of row_squares men_upward men_of_rows side_of are_rights rights_of target_of are_clocks
     build_fault has_one_king has_pawn_at_end is_pawn_at_end in_check king_of attacked attacks_as is_clear between lies_between is_within aims_at is_rank_ahead is_line is_straight is_diagonal steps_apart files_apart ranks_apart squares
-    built kept_rights kept_target are_at_home target_fits fen_text ranks_text row_text_after letter_of rights_text target_text
+    built kept_rights kept_target are_at_home target_fits fen_text ranks_text row_text_after letter_of rights_text target_text square_text
 rewritten bytes = text_again (fen bytes)
 
 -- The position at the beginning of a game (PGN standard, 16.1.4).

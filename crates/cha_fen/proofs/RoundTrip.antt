@@ -12,9 +12,11 @@ use Rattle.cha_board.specs.declared.men.Kind.{Kind}
 use Rattle.cha_board.specs.declared.men.Kind.TheVariants.{Pawn, Knight, Bishop, Rook, Queen, King}
 use Rattle.cha_board.specs.declared.men.Man.{Man}
 use Rattle.cha_board.specs.declared.position.Rights.{Rights}
-use Rattle.cha_fen.specs.Placement.{rows, kind_of, man_of, squares_of, row_squares, if_size, men_upward, men_of_rows, placement_of}
+use Rattle.cha_board.specs.Letters.{kind_of, man_of, square_text}
+use Rattle.cha_fen.specs.Placement.{rows, squares_of, row_squares, if_size, men_upward, men_of_rows, placement_of}
 use Rattle.cha_fen.specs.Fen.{side_of, are_rights, rights_of, target_of}
-use Rattle.cha_fen.specs.Written.{letter_of, run_text, row_text_after, rank_men, ranks_text, side_text, rights_text, target_text}
+use Rattle.cha_board.specs.Letters.{letter_of}
+use Rattle.cha_fen.specs.Written.{run_text, row_text_after, rank_men, ranks_text, side_text, rights_text, target_text}
 
 -- Every byte of a field is above the slash.
 unfoldable pub above : ℕ → Bool
@@ -179,7 +181,7 @@ square_tests s small =
     (and_from (nat_le 49 (s / 8 + 49)) (nat_le (s / 8 + 49) 56) (grind (arith, nat_tests)) (grind (arith, nat_tests)))
 
 pub target_read : (t : Option ℕ) → ((s : ℕ) → t ≡ Some s → s < 64) → target_of (target_text t) ≡ Some t
-unfolding target_of target_text
+unfolding target_of target_text square_text
 target_read None small = refl
 target_read (Some s) small =
     let back : (s % 8 + 97 - 97) + 8 * (s / 8 + 49 - 49) ≡ s = omega arith in

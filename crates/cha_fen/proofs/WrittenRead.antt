@@ -13,6 +13,7 @@ use Rattle.cha_board.specs.declared.position.Rights.{Rights}
 use Rattle.cha_board.specs.Board.{Board, IsValid, has_one_king, has_pawn_at_end, in_check, are_at_home, rights_fit, target_is_good, target_fits}
 use Rattle.cha_board.specs.Men.{other_color}
 use Rattle.cha_board.specs.Build.{build_fault, built, kept_rights, kept_target}
+use Rattle.cha_board.specs.Letters.{square_text}
 use Rattle.cha_fen.specs.Fields.{fields_after, fields}
 use Rattle.cha_fen.specs.Fen.{parts_of, are_clocks, fen}
 use Rattle.cha_fen.specs.Written.{row_text_after, rank_men, ranks_text, side_text, rights_text, target_text, fen_text}
@@ -132,12 +133,12 @@ rights_some_at false false false true = omega arith
 rights_some_at false false false false = omega arith
 
 target_seen : (t : Option ℕ) → list_all seen (target_text t) ≡ true
-unfolding target_text seen
+unfolding target_text square_text seen
 target_seen None = refl
 target_seen (Some s) = and_from (nat_lt 32 (s % 8 + 97)) (nat_lt 32 (s / 8 + 49) && true) (far (s % 8 + 97) (omega arith)) (and_from (nat_lt 32 (s / 8 + 49)) true (far (s / 8 + 49) (omega arith)) refl)
 
 target_some : (t : Option ℕ) → 0 < length (target_text t)
-unfolding target_text
+unfolding target_text square_text
 target_some None = omega arith
 target_some (Some s) = omega arith
 

@@ -1,8 +1,8 @@
 -- The position of a text (PGN standard, 16.1).
-use Rattle.std.specs.Prelude.{ℕ, ◌+◌, ◌-◌, ◌*◌, ◌==◌, Bool, true, false, ◌&&◌, if◌then◌else◌, List, [], ◌∷◌, length, Option, Some, None, Result, Ok, Err, nat_le}
+use Rattle.std.specs.Prelude.{ℕ, ◌+◌, ◌==◌, Bool, true, false, ◌&&◌, if◌then◌else◌, List, [], ◌∷◌, length, Option, Some, None, Result, Ok, Err, nat_le}
 use Rattle.std.specs.List.{list_all, count_by}
 use Rattle.cha_list.specs.declared.classes.Class.TheVariants.{Digit}
-use Rattle.cha_list.specs.Bytes.{in_class, is_from}
+use Rattle.cha_list.specs.Bytes.{in_class}
 use Rattle.cha_board.specs.declared.men.Color.{Color}
 use Rattle.cha_board.specs.declared.men.Color.TheVariants.{White, Black}
 use Rattle.cha_board.specs.declared.men.Man.{Man}
@@ -10,6 +10,7 @@ use Rattle.cha_board.specs.declared.position.Rights.{Rights}
 use Rattle.cha_board.specs.declared.build.BuildFault.{BuildFault}
 use Rattle.cha_board.specs.declared.build.BuildFault.TheVariants as breaks
 use Rattle.cha_board.specs.Board.{Board}
+use Rattle.cha_board.specs.Letters.{square_of}
 use Rattle.cha_board.specs.Build.{build_fault, built}
 use Rattle.cha_fen.specs.declared.faults.FenFault.{FenFault}
 use Rattle.cha_fen.specs.declared.faults.FenFault.TheVariants.{Shape, Kings, PawnRank, OpponentInCheck}
@@ -51,10 +52,15 @@ rights_of bytes =
       black_queen = count_of 113 bytes == 1;
     }) else None)
 
+-- a square as a target, if there is one
+abbrev pub target_on : Option ℕ → Option (Option ℕ)
+target_on None = None
+target_on (Some s) = Some (Some s)
+
 -- the square that a pawn has passed over: -, or a file's letter and a rank's digit (PGN standard, 16.1.3.4)
 unfoldable pub target_of : List ℕ → Option (Option ℕ)
 target_of (b ∷ []) = if b == 45 then Some None else None
-target_of (b ∷ c ∷ []) = if is_from 97 104 b && is_from 49 56 c then Some (Some ((b - 97) + 8 * (c - 49))) else None
+target_of (b ∷ c ∷ []) = target_on (square_of b c)
 target_of _ = None
 
 -- none, one or two clocks, of digits (PGN standard, 16.1.3.5 and 16.1.3.6; that they may be left out: this project)

@@ -1,5 +1,7 @@
+-- what public contracts say
 pub mod Fields
 pub mod Placement
 pub mod Fen
-pub mod Adding
 pub mod Written
+-- what only loops and lemmas use
+pub mod Adding

@@ -1,11 +1,8 @@
 -- The first field: what stands on the squares (PGN standard, 16.1.3.1).
-use Rattle.std.specs.Prelude.{ℕ, ◌-◌, ◌==◌, if◌then◌else◌, List, [], ◌∷◌, ◌++◌, length, replicate, Option, Some, None, nat_le}
+use Rattle.std.specs.Prelude.{ℕ, ◌-◌, ◌==◌, if◌then◌else◌, List, [], ◌∷◌, ◌++◌, length, replicate, Option, Some, None}
 use Rattle.cha_list.specs.Bytes.{is_from}
-use Rattle.cha_board.specs.declared.men.Color.{Color}
-use Rattle.cha_board.specs.declared.men.Color.TheVariants.{White, Black}
-use Rattle.cha_board.specs.declared.men.Kind.{Kind}
-use Rattle.cha_board.specs.declared.men.Kind.TheVariants.{Pawn, Knight, Bishop, Rook, Queen, King}
 use Rattle.cha_board.specs.declared.men.Man.{Man}
+use Rattle.cha_board.specs.Letters.{man_of}
 
 -- a byte in front of the first row
 abbrev pub onto_first : ℕ → List (List ℕ) → List (List ℕ)
@@ -16,25 +13,6 @@ onto_first b (row ∷ rows) = (b ∷ row) ∷ rows
 unfoldable pub rows : List ℕ → List (List ℕ)
 rows [] = [] ∷ []
 rows (b ∷ bs) = if b == 47 then [] ∷ rows bs else onto_first b (rows bs)
-
--- the kind of an upper-case letter: P N B R Q K
-unfoldable pub kind_of : ℕ → Option Kind
-kind_of b =
-    if b == 80 then Some Pawn
-    else (if b == 78 then Some Knight
-    else (if b == 66 then Some Bishop
-    else (if b == 82 then Some Rook
-    else (if b == 81 then Some Queen
-    else (if b == 75 then Some King else None)))))
-
--- the man of a colour and a kind, if there is a kind
-abbrev pub man_if : Color → Option Kind → Option Man
-man_if color None = None
-man_if color (Some kind) = Some (record { color = color; kind = kind })
-
--- the man of a letter: White's in upper case, Black's in lower case
-unfoldable pub man_of : ℕ → Option Man
-man_of b = if nat_le 97 b then man_if Black (kind_of (b - 32)) else man_if White (kind_of b)
 
 -- the one square on which a man stands, if there is a man
 abbrev pub one_square : Option Man → Option (List (Option Man))

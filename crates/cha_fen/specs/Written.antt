@@ -2,30 +2,10 @@
 use Rattle.std.specs.Prelude.{ℕ, zero, suc, ◌+◌, ◌*◌, ◌==◌, Bool, if◌then◌else◌, List, [], ◌∷◌, ◌++◌, take, drop, Option, Some, None}
 use Rattle.cha_board.specs.declared.men.Color.{Color}
 use Rattle.cha_board.specs.declared.men.Color.TheVariants.{White, Black}
-use Rattle.cha_board.specs.declared.men.Kind.{Kind}
-use Rattle.cha_board.specs.declared.men.Kind.TheVariants.{Pawn, Knight, Bishop, Rook, Queen, King}
 use Rattle.cha_board.specs.declared.men.Man.{Man}
 use Rattle.cha_board.specs.declared.position.Rights.{Rights}
-use Rattle.cha_board.specs.Squares.{file_of, rank_of}
 use Rattle.cha_board.specs.Board.{Board}
-
--- the upper-case letter of a kind
-abbrev pub kind_letter : Kind → ℕ
-kind_letter Pawn = 80
-kind_letter Knight = 78
-kind_letter Bishop = 66
-kind_letter Rook = 82
-kind_letter Queen = 81
-kind_letter King = 75
-
--- how far the letters of a side are behind those in upper case
-abbrev pub case_of : Color → ℕ
-case_of White = 0
-case_of Black = 32
-
--- the letter of a man: White's in upper case, Black's in lower case
-unfoldable pub letter_of : Man → ℕ
-letter_of man = kind_letter man.kind + case_of man.color
+use Rattle.cha_board.specs.Letters.{letter_of, square_text}
 
 -- the digit of a run of empty squares, if it has any
 abbrev pub run_text : ℕ → List ℕ
@@ -73,7 +53,7 @@ rights_text r =
 -- a square by the letter of its file and the digit of its rank, or -
 unfoldable pub target_text : Option ℕ → List ℕ
 target_text None = 45 ∷ []
-target_text (Some s) = (file_of s + 97) ∷ (rank_of s + 49) ∷ []
+target_text (Some s) = square_text s
 
 -- the text of a position: four fields with a space between them (that the clocks are left out: this project)
 unfoldable pub fen_text : Board → List ℕ

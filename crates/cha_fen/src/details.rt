@@ -75,13 +75,10 @@ pub fn target_named(field: &[u8]) -> Option<Option<Square>>
 {
     match field {
         [b'-'] => Some(None),
-        [file, rank] => {
-            if b'a' <= *file && *file <= b'h' && b'1' <= *rank && *rank <= b'8' {
-                Some(Some(Square::at((*file - b'a') + 8 * (*rank - b'1'))))
-            } else {
-                None
-            }
-        }
+        [file, rank] => match Square::of_text(*file, *rank) {
+            Some(at) => Some(Some(at)),
+            None => None,
+        },
         _ => None,
     }
 }

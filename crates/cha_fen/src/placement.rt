@@ -3,42 +3,12 @@
 ghost use Rattle.std.specs.Prelude.{◌≡◌, ◌+◌, ◌*◌, ◌≤◌, ◌++◌, Option, None, length, replicate};
 ghost use Rattle.std.specs.Bool.{OnTrue};
 ghost use Rattle.cha_board.specs.declared.men.Man.{Man};
-ghost use Rattle.cha_fen.specs.Placement.{kind_of, man_of, squares_of, if_size, row_squares, rows, men_of_rows, placement_of};
+ghost use Rattle.cha_fen.specs.Placement.{squares_of, if_size, row_squares, rows, men_of_rows, placement_of};
 ghost use Rattle.cha_fen.specs.Adding.{Adds, if_room};
 
 use arrayvec::ArrayVec;
-use cha_board::{Color, Kind, Man};
+use cha_board::Man;
 use cha_list::{Class, run_of};
-
-/// The kind of an upper-case letter.
-#[tactic(auto, unfolding(crate::specs::Placement::kind_of))]
-fn kind_named(byte: u8) -> Option<Kind>
-    ensures { result ≡ kind_of byte }
-{
-    match byte {
-        b'P' => Some(Kind::Pawn),
-        b'N' => Some(Kind::Knight),
-        b'B' => Some(Kind::Bishop),
-        b'R' => Some(Kind::Rook),
-        b'Q' => Some(Kind::Queen),
-        b'K' => Some(Kind::King),
-        _ => None,
-    }
-}
-
-/// The man of a letter.
-#[tactic(auto, unfolding(crate::specs::Placement::man_of))]
-fn man_named(byte: u8) -> Option<Man>
-    ensures { result ≡ man_of byte }
-{
-    let (color, upper) = if byte >= b'a' {
-        (Color::Black, byte - 32)
-    } else {
-        (Color::White, byte)
-    };
-    let kind = kind_named(upper)?;
-    Some(Man { color, kind })
-}
 
 /// Adds empty squares.
 fn add_empty(count: u8, men: &mut ArrayVec<Option<Man>, 64>)
@@ -66,7 +36,7 @@ fn add_squares(byte: u8, room: usize, men: &mut ArrayVec<Option<Man>, 64>) -> bo
         add_empty(count, men);
         return true;
     }
-    match man_named(byte) {
+    match Man::of_letter(byte) {
         None => false,
         Some(man) => {
             if room == 0 {

@@ -3,30 +3,11 @@
 ghost use Rattle.std.specs.Prelude.{◌≡◌, ◌≤◌, ◌++◌, Ok, length, IfOk, OnOk};
 ghost use Rattle.cha_board.specs.Board.{Board, IsValid};
 ghost use Rattle.cha_fen.specs.Fen.{fen};
-ghost use Rattle.cha_fen.specs.Written.{letter_of, run_text, row_text_after, ranks_text, side_text, letter_if, rights_text, target_text, fen_text};
+ghost use Rattle.cha_fen.specs.Written.{run_text, row_text_after, ranks_text, side_text, letter_if, rights_text, target_text, fen_text};
 
-use cha_board::{Color, Kind, Man, Position, Rights, Square};
+use cha_board::{Color, Man, Position, Rights, Square};
 use cha_list::{NoMemory, Text};
 use std::alloc::Global;
-
-/// The letter of a man.
-#[tactic(auto, unfolding(crate::specs::Written::letter_of))]
-fn letter(man: Man) -> u8
-    ensures { result ≡ letter_of man }
-{
-    let upper = match man.kind {
-        Kind::Pawn => b'P',
-        Kind::Knight => b'N',
-        Kind::Bishop => b'B',
-        Kind::Rook => b'R',
-        Kind::Queen => b'Q',
-        Kind::King => b'K',
-    };
-    match man.color {
-        Color::White => upper,
-        Color::Black => upper + 32,
-    }
-}
 
 /// Writes the digit of a run of empty squares.
 fn put_run(count: u8, text: &mut Text) -> Result<(), NoMemory>
@@ -51,7 +32,7 @@ fn put_row(men: &[Option<Man>], text: &mut Text) -> Result<(), NoMemory>
             None => empty += 1,
             Some(man) => {
                 put_run(empty, text)?;
-                text.push(letter(*man))?;
+                text.push(man.letter())?;
                 empty = 0;
             }
         }
@@ -111,15 +92,15 @@ fn put_rights(rights: Rights, text: &mut Text) -> Result<(), NoMemory>
 }
 
 /// Writes the target.
-#[tactic(auto, unfolding(crate::specs::Written::target_text))]
+#[tactic(auto, unfolding(crate::specs::Written::target_text, cha_board::specs::Letters::square_text))]
 fn put_target(target: Option<Square>, text: &mut Text) -> Result<(), NoMemory>
     ensures { OnOk result (text.new ≡ text.old ++ target_text target) }
 {
     match target {
         None => text.push(b'-')?,
         Some(at) => {
-            text.push(at.file() + b'a')?;
-            text.push(at.rank() + b'1')?;
+            text.push(at.file_letter())?;
+            text.push(at.rank_digit())?;
         }
     }
     Ok(())

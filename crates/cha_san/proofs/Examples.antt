@@ -6,10 +6,11 @@ use Rattle.cha_board.specs.declared.men.Kind.TheVariants.{Pawn, Knight, Queen}
 use Rattle.cha_san.specs.declared.forms.Form.{Form}
 use Rattle.cha_san.specs.declared.forms.Form.TheVariants.{Long, Plain}
 use Rattle.cha_san.specs.Backwards.{last, front, before, without}
-use Rattle.cha_san.specs.Forms.{kind_named, promotion_named, file_named, rank_named, promotion_at, file_at, rank_at, unpromoted, square_at, kind_at, parts, stem, is_short, is_long, unsigned_form, form_of}
+use Rattle.cha_board.specs.Letters.{kind_of}
+use Rattle.cha_san.specs.Forms.{promotion_named, file_named, rank_named, promotion_at, file_at, rank_at, unpromoted, square_at, kind_at, parts, stem, is_short, is_long, unsigned_form, form_of}
 
 said : List ℕ → Option Form
-unfolding unsigned_form stem in_class is_short is_long parts kind_at square_at unpromoted rank_at file_at promotion_at rank_named file_named promotion_named kind_named without before front last
+unfolding unsigned_form stem in_class is_short is_long parts kind_at square_at unpromoted rank_at file_at promotion_at rank_named file_named promotion_named kind_of without before front last
 said word = form_of word
 
 -- A pawn's move: the target alone (PGN standard, 8.2.3.2).

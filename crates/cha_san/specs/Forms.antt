@@ -6,21 +6,12 @@ use Rattle.std.specs.Str.{bytes_eq}
 use Rattle.cha_list.specs.declared.classes.Class.TheVariants.{Sign}
 use Rattle.cha_list.specs.Bytes.{in_class, is_from}
 use Rattle.cha_board.specs.declared.men.Kind.{Kind}
-use Rattle.cha_board.specs.declared.men.Kind.TheVariants.{Pawn, Knight, Bishop, Rook, Queen, King}
+use Rattle.cha_board.specs.declared.men.Kind.TheVariants.{Pawn, Knight, Bishop, Rook, Queen}
+use Rattle.cha_board.specs.Letters.{kind_of}
 use Rattle.cha_san.specs.declared.forms.Form.{Form}
 use Rattle.cha_san.specs.declared.forms.Form.TheVariants.{Short, Long, Plain}
 use Rattle.cha_san.specs.declared.forms.Parts.{Parts}
 use Rattle.cha_san.specs.Backwards.{last, front, before, without}
-
--- the kind of man that a capital letter names: K, Q, R, B, N or P (PGN standard, 8.2.3.2)
-unfoldable pub kind_named : ℕ → Option Kind
-kind_named b =
-    if b == 75 then Some King
-    else (if b == 81 then Some Queen
-    else (if b == 82 then Some Rook
-    else (if b == 66 then Some Bishop
-    else (if b == 78 then Some Knight
-    else (if b == 80 then Some Pawn else None)))))
 
 -- what a pawn becomes by its letter: Q, R, B or N (PGN standard, 8.2.3.3)
 unfoldable pub promotion_named : ℕ → Option Kind
@@ -64,7 +55,7 @@ square_at word = square_of (file_at (front word)) (rank_at word)
 -- the kind of man that the front of a word names: no letter means a pawn (PGN standard, 8.2.3.2), and so does P
 unfoldable pub kind_at : List ℕ → Option Kind
 kind_at [] = Some Pawn
-kind_at (b ∷ []) = kind_named b
+kind_at (b ∷ []) = kind_of b
 kind_at _ = None
 
 -- the parts, if there are a kind and a target

@@ -1,3 +1,4 @@
+-- what public contracts say
 pub mod Backwards
 pub mod Forms
 pub mod Fitting

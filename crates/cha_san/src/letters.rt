@@ -1,25 +1,9 @@
 //! What the letters and digits of a move word mean (PGN standard, 8.2.3.1 to 8.2.3.3).
 
 ghost use Rattle.std.specs.Prelude.{◌≡◌, ◌<◌, IfSome};
-ghost use Rattle.cha_san.specs.Forms.{kind_named, promotion_named, file_named, rank_named};
+ghost use Rattle.cha_san.specs.Forms.{promotion_named, file_named, rank_named};
 
 use cha_board::Kind;
-
-/// The kind of man that a letter names.
-#[tactic(auto, unfolding(crate::specs::Forms::kind_named))]
-pub fn kind_of(letter: u8) -> Option<Kind>
-    ensures { result ≡ kind_named letter }
-{
-    match letter {
-        b'K' => Some(Kind::King),
-        b'Q' => Some(Kind::Queen),
-        b'R' => Some(Kind::Rook),
-        b'B' => Some(Kind::Bishop),
-        b'N' => Some(Kind::Knight),
-        b'P' => Some(Kind::Pawn),
-        _ => None,
-    }
-}
 
 /// What a pawn becomes by a letter.
 #[tactic(auto, unfolding(crate::specs::Forms::promotion_named))]

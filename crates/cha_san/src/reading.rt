@@ -6,7 +6,7 @@ ghost use Rattle.cha_san.specs.Forms.{kind_at, unpromoted, parts as parts_read, 
 
 use crate::backwards::{all_but_last, before, last_byte, without};
 use crate::forms::{Form, Parts};
-use crate::letters::{file_of, kind_of, promotion_of, rank_of};
+use crate::letters::{file_of, promotion_of, rank_of};
 use cha_board::{Kind, Square};
 use cha_list::{Class, run_back};
 
@@ -77,7 +77,7 @@ fn kind_in_front(word: &[u8]) -> Option<Kind>
 {
     match word {
         [] => Some(Kind::Pawn),
-        [letter] => kind_of(*letter),
+        [letter] => Kind::of_letter(*letter),
         _ => None,
     }
 }

@@ -1,14 +1,14 @@
 //! The tokens of a text of chess games in PGN, of any bytes whatever.
 //!
 //! `kinds` has the tokens, `reading` goes from piece to piece, `rules` is the table of what begins a piece, and
-//! `comments`, `words`, `tags` and `tag_values` have one function for each rule; `pieces` has what these give, and `places`
+//! `comments`, `words`, `tags` and `tag_values` have one function for each rule; `pieces` has what these give, and `order`
 //! the law of the places of tokens.
 #![tactic(auto)]
 
 mod comments;
 mod kinds;
 mod pieces;
-mod places;
+mod order;
 mod reading;
 mod rules;
 mod tag_values;
@@ -18,5 +18,5 @@ mod tests;
 mod words;
 
 pub use kinds::{Placed, Token};
-pub use places::tokens_stand_in_order;
+pub use order::tokens_stand_in_order;
 pub use reading::tokens_of;

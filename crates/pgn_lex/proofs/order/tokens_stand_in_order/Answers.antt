@@ -1,5 +1,5 @@
 use Rattle.pgn_lex.proofs.InOrder.{places_inside, places_rise}
-use Rattle.pgn_lex.proofs.places.tokens_stand_in_order.Goals as goal
+use Rattle.pgn_lex.proofs.order.tokens_stand_in_order.Goals as goal
 
 pub returns-clause-inside : goal.returns-clause-inside
 returns-clause-inside c = places_inside

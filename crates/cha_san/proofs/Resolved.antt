@@ -50,9 +50,6 @@ only_one [] = tt
 only_one (m ∷ []) = refl
 only_one (m ∷ n ∷ rest) = tt
 
-pub answers_says : (q : Board) (word : List ℕ) (form : Form) (r : Result Move SanFault) → Answers q word form r → (r ≡ Err NotSan) → ⊥
-answers_says q word form r h e = only_says (filter (fits q form) (legal q)) (sym h.chosen ∙ e)
-
 pub answers_none : (q : Board) (word : List ℕ) (form : Form) (r : Result Move SanFault) → Answers q word form r → r ≡ Err NoSuchMove → fitting q word ≡ []
 answers_none q word form r h e = fitting_are q word form r h ∙ only_none (filter (fits q form) (legal q)) (sym h.chosen ∙ e)
 

@@ -17,18 +17,6 @@ module _ (slice : List Placed) where
   abbrev pub has_cut : Bool
   has_cut = list_any (λ t. is_cut t.token) slice
 
-  pub bad_first : (offset : ℕ) → first_bad slice ≡ Some offset → Some (BadToken offset) ≡ fault_of slice
-  unfolding fault_of
-  bad_first offset e = rw e refl
-
-  pub open_next : first_bad slice ≡ None → is_open slice ≡ true → Some Unclosed ≡ fault_of slice
-  unfolding fault_of
-  open_next e f = rw (e, f) refl
-
-  pub cut_next : first_bad slice ≡ None → is_open slice ≡ false → has_cut ≡ true → Some ValueTooLong ≡ fault_of slice
-  unfolding fault_of
-  cut_next e f g = rw (e, f, g) refl
-
   pub variant_next : first_bad slice ≡ None → is_open slice ≡ false → has_cut ≡ false → other_game ≡ true → Some Variant ≡ fault_of slice
   unfolding fault_of
   variant_next e f g h = rw (e, f, g, h) refl

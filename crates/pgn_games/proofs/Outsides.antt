@@ -132,10 +132,6 @@ pub no_word_inside : (depth : ℕ) (t : Placed) (words rest : List (List ℕ)) �
 no_word_inside depth t words rest deep =
     ap (λ ts. take 12001 (words ++ (filter_map (λ t. move_word t.token) ts ++ rest))) (sym (inside_none depth t deep))
 
-pub a_word : (depth : ℕ) (t : Placed) (w : List ℕ) (words words' rest : List (List ℕ)) → depth ≡ 0 → Some w ≡ move_word t.token → words' ≡ words ++ w ∷ []
-    → take 12001 (words' ++ rest) ≡ take 12001 (words ++ (words_at depth t ++ rest))
-a_word depth t w words words' rest top e added = rw (top, added, ← e) (ap (take 12001) (append_assoc words (w ∷ []) rest))
-
 no_word_by : (top : Bool) (t : Placed) → None ≡ move_word t.token → filter_map (λ t. move_word t.token) (if top then t ∷ [] else []) ≡ []
 no_word_by true t e = rw (← e) refl
 no_word_by false t e = refl

@@ -36,9 +36,6 @@ keeps_no_more kept front more b h large =
       has_more = sym (above (length (front ++ b ∷ [])) (omega arith));
     }
 
-pub keeps_none : Keeps [] false []
-keeps_none = record { first_bytes = refl; has_more = refl }
-
 onto_both : (a b : List ℕ) (o : Option Read) → onto_all a (onto_all b o) ≡ onto_all (a ++ b) o
 onto_both a b None = refl
 onto_both a b (Some r) = ap (λ x. Some (record { text = x; rest = r.rest })) (sym (append_assoc a b r.text))

@@ -13,7 +13,7 @@ use Rattle.cert_text.specs.declared.reader.Certificate.{Certificate}
 use Rattle.cert_text.specs.Texts.{cert_of}
 use Rattle.adjudicate.specs.declared.checking.Answer.{Answer}
 use Rattle.adjudicate.specs.declared.orders.Order.TheVariants.{CheckCert}
-use Rattle.adjudicate.specs.Checks.{IsAnswerTo, IsTextOf, IsValidAtFirst}
+use Rattle.adjudicate.specs.Checks.{IsAnswerTo, IsReadAs, IsValidAtFirst}
 use Rattle.adjudicate.specs.Report.{IsReport, HasBegun, HasWholeBlocks}
 use Rattle.adjudicate.specs.Runs.{Grew}
 
@@ -32,17 +32,12 @@ cut_answer bytes line shown old new n is same added =
 
 -- what is found of a certificate holds of its text
 pub of_text : (r : Result Answer NoMemory) (bytes : List ℕ) (c : Certificate) (P : Certificate → Type 0) → cert_of bytes ≡ Ok c → IfOk r (λ answer. IsTrue answer.accepted ↔ P c)
-    → IfOk r (λ answer. IsTrue answer.accepted ↔ IsTextOf P bytes)
+    → IfOk r (λ answer. IsTrue answer.accepted ↔ IsReadAs P bytes)
 of_text (Ok answer) bytes c P e h = ((λ t. (c, e, h.0 t)), (λ text. h.1 (let same : text.0 ≡ c = let f = sym text.1 ∙ e in cc in subst P same text.2)))
 of_text (Err refused) bytes c P e h = tt
 
-pub law_of_text : (r : Result Answer NoMemory) (bytes : List ℕ) (c : Certificate) (P : Certificate → Type 0) → cert_of bytes ≡ Ok c → IfOk r (λ answer. IsTrue answer.accepted → P c)
-    → IfOk r (λ answer. IsTrue answer.accepted → IsTextOf P bytes)
-law_of_text (Ok answer) bytes c P e h = λ t. (c, e, h t)
-law_of_text (Err refused) bytes c P e h = tt
-
 -- a text that is none of a certificate
-pub no_text : (bytes : List ℕ) (fault : CertFault) (P : Certificate → Type 0) → cert_of bytes ≡ Err fault → IsTextOf P bytes → ⊥
+pub no_text : (bytes : List ℕ) (fault : CertFault) (P : Certificate → Type 0) → cert_of bytes ≡ Err fault → IsReadAs P bytes → ⊥
 no_text bytes fault P e text = let f = sym text.1 ∙ e in cc
 
 -- a certificate begins at one position

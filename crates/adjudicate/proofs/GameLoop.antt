@@ -1,5 +1,5 @@
 -- What is written so far of the games of a source.
-use Rattle.std.proofs.Common.{◌≡◌, ℕ, zero, suc, ◌+◌, ◌^◌, ◌<◌, ◌≤◌, Bool, true, false, if◌then◌else◌, List, [], ◌∷◌, ◌++◌, length, map, take, drop, Option, Some, Result, Ok, slice_get, refl, sym, ap, ◌∙◌, arith, subst, take-append-drop}
+use Rattle.std.proofs.Common.{◌≡◌, ◌↔◌, ◌⊎◌, inl, inr, ℕ, zero, suc, ◌+◌, ◌^◌, ◌<◌, ◌≤◌, Bool, true, false, if◌then◌else◌, List, [], ◌∷◌, ◌++◌, length, map, take, drop, Option, Some, Result, Ok, slice_get, refl, sym, ap, ◌∙◌, arith, subst, take-append-drop}
 use Rattle.std.specs.Io.KnownBytes.{Appends, Consumes, IsAtEnd}
 use Rattle.std.proofs.lemmas.List.{length-map, drop_all}
 use Rattle.std.proofs.Math.Seq.{take-append_seam}
@@ -11,18 +11,25 @@ use Rattle.pgn_games.specs.Reading.{Takes, gives_game}
 use Rattle.flag_report.specs.declared.totals.Summary.{Summary}
 use Rattle.flag_report.specs.Totals.{game_summary_text}
 use Rattle.adjudicate.specs.declared.judging.Judged.{Judged}
-use Rattle.adjudicate.specs.declared.writing.Reported.{Reported}
-use Rattle.adjudicate.specs.declared.writing.Reported.TheVariants.{Whole, Refused, SourceFailed, TooLong, SinkFailed, NoMemory}
+use Rattle.adjudicate.specs.declared.endings.Status.{Status}
+use Rattle.adjudicate.specs.declared.endings.Status.TheVariants.{Done, ReadFault, WriteFault, TooLong, NoMemory}
+use Rattle.adjudicate.specs.Statuses.{status_of_end}
+use Rattle.cha_verdict.specs.Bounds.{Bounds}
+use Rattle.cha_outside.specs.Faults.{Rose}
+use Rattle.cha_outside.specs.declared.gathering.ReadEnd.TheVariants as ends
+use Rattle.adjudicate.specs.declared.orders.Order.{Order}
 use Rattle.adjudicate.specs.declared.orders.Order.TheVariants.{AdjudicateGames}
 use Rattle.adjudicate.specs.Outcomes.{Item, game_item, game_items}
-use Rattle.adjudicate.specs.Runs.{Reports, Begins, BeginsWhole}
+use Rattle.adjudicate.specs.Report.{HasWholeBlocksOn}
+use Rattle.adjudicate.specs.Runs.{Outside, outside, Grew, BeginsWhole, IsRun}
 use Rattle.adjudicate.specs.Steps.{Judges, HasRoom}
+use Rattle.adjudicate.proofs.RunEndings.{short_run, long_run, taken_few}
 use Rattle.adjudicate.proofs.Progress.{WroteUpTo, nothing_written, one_more, cut_block, whole_blocks, finished, cut_summary, room_for_one, one_counted}
 
 -- So many games of the bytes taken were judged, and their blocks written: where a source and a sink began and stand, the
 -- bytes taken, the number of games given, and the totals.
-pub record IsAt (certs : Bool) (left left' old now : Option (List ℕ)) (taken : List ℕ) (given : ℕ) (s : Summary) : Type 0 where
-  pub written : WroteUpTo certs (game_items taken) (drop given (game_items taken)) old now s
+pub record IsAt (limits : Bounds) (certs : Bool) (left left' old now : Option (List ℕ)) (taken : List ℕ) (given : ℕ) (s : Summary) : Type 0 where
+  pub written : WroteUpTo limits certs (game_items taken) (drop given (game_items taken)) old now s
   pub number : s.items ≡ given
   pub consumed : Consumes left left' taken
 
@@ -38,85 +45,139 @@ next_is (g ∷ gs) zero game e = let same : g ≡ game = cc in ap (λ x. game_it
 next_is (g ∷ gs) (suc n) game e = let more : suc n + 1 ≡ suc (n + 1) = omega arith in rw more (next_is gs n game e)
 
 -- more bytes may be taken
-retake : (certs : Bool) (all all' : List Item) (g : ℕ) (old now : Option (List ℕ)) (s : Summary) → s.items ≡ g → WroteUpTo certs all (drop g all) old now s → take g all' ≡ take g all → WroteUpTo certs all' (drop g all') old now s
-retake certs all all' g old now s number w same =
+retake : (limits : Bounds) (certs : Bool) (all all' : List Item) (g : ℕ) (old now : Option (List ℕ)) (s : Summary) → s.items ≡ g → WroteUpTo limits certs all (drop g all) old now s → take g all' ≡ take g all → WroteUpTo limits certs all' (drop g all') old now s
+retake limits certs all all' g old now s number w same =
     let done = w.0 in
     let outcomes = w.2.0 in
     let size : length done ≡ g = sym (ap length w.2.1) ∙ length-map outcomes (λ o. o.item) ∙ sym (ap (λ t. t.items) w.2.4) ∙ number in
     let front : take g all ≡ done = ap (take g) w.1 ∙ ap (λ n. take n (done ++ drop g all)) (sym size) ∙ take-append_seam done (drop g all) in
     (done, sym (take-append-drop g all') ∙ ap (λ x. x ++ drop g all') (same ∙ front), w.2)
 
-pub retook : (certs : Bool) (left left' left'' old now : Option (List ℕ)) (taken taken' : List ℕ) (given : ℕ) (s : Summary) → IsAt certs left left' old now taken given s → Takes left' left'' taken taken'
-    → take given (games taken') ≡ take given (games taken) → IsAt certs left left'' old now taken' given s
-retook certs left left' left'' old now taken taken' given s at took same = record {
-  written = retake certs (game_items taken) (game_items taken') given old now s at.number at.written
+pub retook : (limits : Bounds) (certs : Bool) (left left' left'' old now : Option (List ℕ)) (taken taken' : List ℕ) (given : ℕ) (s : Summary) → IsAt limits certs left left' old now taken given s → Takes left' left'' taken taken'
+    → take given (games taken') ≡ take given (games taken) → IsAt limits certs left left'' old now taken' given s
+retook limits certs left left' left'' old now taken taken' given s at took same = record {
+  written = retake limits certs (game_items taken) (game_items taken') given old now s at.number at.written
       (take-map game_item given (games taken') ∙ ap (map game_item) same ∙ sym (take-map game_item given (games taken)));
   number = at.number;
   consumed = subst (Consumes left left'') (sym took.2) (consumes_more left left' left'' taken took.0 at.consumed took.1);
 }
 
-pub at_first : (certs : Bool) (left old : Option (List ℕ)) (s : Summary) → s ≡ record { items = 0; bad = 0; third = 0; undecided = 0 } → Consumes left left [] → IsAt certs left left old old [] 0 s
-at_first certs left old s e consumed = record {
-  written = subst (λ t. WroteUpTo certs (game_items []) (game_items []) old old t) (sym e) (nothing_written certs (game_items []) old);
+pub at_first : (limits : Bounds) (certs : Bool) (left old : Option (List ℕ)) (s : Summary) → s ≡ record { items = 0; bad = 0; third = 0; undecided = 0 } → Consumes left left [] → IsAt limits certs left left old old [] 0 s
+at_first limits certs left old s e consumed = record {
+  written = subst (λ t. WroteUpTo limits certs (game_items []) (game_items []) old old t) (sym e) (nothing_written limits certs (game_items []) old);
   number = ap (λ t. t.items) e;
   consumed = consumed;
 }
 
-pub gave : (certs : Bool) (left left' old now next : Option (List ℕ)) (taken : List ℕ) (given given' : ℕ) (s : Summary) (game : Game) (judged : Judged) → IsAt certs left left' old now taken given s
-    → slice_get (games taken) given ≡ Some game → Judges certs (game_item game) s judged → Appends now next judged.block → given' ≡ given + 1 → IsAt certs left left' old next taken given' judged.totals
-gave certs left left' old now next taken given given' s game judged at found j added e = record {
-  written = subst (λ n. WroteUpTo certs (game_items taken) (drop n (game_items taken)) old next judged.totals) (sym e)
-      (one_more certs (game_items taken) (drop given (game_items taken)) (drop (given + 1) (game_items taken)) (game_item game) old now next s judged at.written (next_is (games taken) given game found) j added);
-  number = one_counted certs (game_item game) s judged j ∙ ap (λ n. n + 1) at.number ∙ sym e;
+pub gave : (limits : Bounds) (certs : Bool) (left left' old now next : Option (List ℕ)) (taken : List ℕ) (given given' : ℕ) (s : Summary) (game : Game) (judged : Judged) → IsAt limits certs left left' old now taken given s
+    → slice_get (games taken) given ≡ Some game → Judges limits certs (game_item game) s judged → Appends now next judged.block → given' ≡ given + 1 → IsAt limits certs left left' old next taken given' judged.totals
+gave limits certs left left' old now next taken given given' s game judged at found j added e = record {
+  written = subst (λ n. WroteUpTo limits certs (game_items taken) (drop n (game_items taken)) old next judged.totals) (sym e)
+      (one_more limits certs (game_items taken) (drop given (game_items taken)) (drop (given + 1) (game_items taken)) (game_item game) old now next s judged at.written (next_is (games taken) given game found) j added);
+  number = one_counted limits certs (game_item game) s judged j ∙ ap (λ n. n + 1) at.number ∙ sym e;
   consumed = at.consumed;
 }
 
-pub begun : (certs : Bool) (left left' old now : Option (List ℕ)) (taken : List ℕ) (given : ℕ) (s : Summary) → IsAt certs left left' old now taken given s → BeginsWhole (AdjudicateGames certs) left left' old now
-begun certs left left' old now taken given s at =
-    (taken, at.consumed, whole_blocks certs (game_items taken) (drop given (game_items taken)) old now s at.written)
+pub not_more : (n most : ℕ) → (most < n → ⊥) → n ≤ most
+not_more n most h = omega arith
 
-pub cut_game : (certs : Bool) (left left' old now next : Option (List ℕ)) (taken : List ℕ) (given : ℕ) (s : Summary) (game : Game) (judged : Judged) (n : ℕ) → IsAt certs left left' old now taken given s
-    → slice_get (games taken) given ≡ Some game → Judges certs (game_item game) s judged → Appends now next (take n judged.block) → Begins (AdjudicateGames certs) left left' old next
-cut_game certs left left' old now next taken given s game judged n at found j added =
-    (taken, at.consumed, cut_block certs game_summary_text (game_items taken) (drop given (game_items taken)) (drop (given + 1) (game_items taken)) (game_item game) old now next s judged n at.written (next_is (games taken) given game found) j added)
+-- so far whole blocks were written
+pub begun : (limits : Bounds) (certs : Bool) (left left' old now : Option (List ℕ)) (f f' g g' : ℕ) (taken : List ℕ) (given : ℕ) (s : Summary) → IsAt limits certs left left' old now taken given s
+    → BeginsWhole (AdjudicateGames limits certs) (outside left f old g) (outside left' f' now g')
+begun limits certs left left' old now f f' g g' taken given s at =
+    (taken, at.consumed, whole_blocks limits certs (game_items taken) (drop given (game_items taken)) old now s at.written)
 
-none_left : (certs : Bool) (left left' old now : Option (List ℕ)) (taken : List ℕ) (given : ℕ) (s : Summary) → IsAt certs left left' old now taken given s → length (games taken) ≤ given → WroteUpTo certs (game_items taken) [] old now s
-none_left certs left left' old now taken given s at few =
+none_left : (limits : Bounds) (certs : Bool) (left left' old now : Option (List ℕ)) (taken : List ℕ) (given : ℕ) (s : Summary) → IsAt limits certs left left' old now taken given s → length (games taken) ≤ given → WroteUpTo limits certs (game_items taken) [] old now s
+none_left limits certs left left' old now taken given s at few =
     let none : drop given (game_items taken) ≡ [] = drop_all given (game_items taken) (omega (arith, length-map (games taken) game_item)) in
-    subst (λ x. WroteUpTo certs (game_items taken) x old now s) none at.written
+    subst (λ x. WroteUpTo limits certs (game_items taken) x old now s) none at.written
 
-pub ended : (certs : Bool) (left left' old now next : Option (List ℕ)) (taken : List ℕ) (given : ℕ) (s : Summary) → IsAt certs left left' old now taken given s → length (games taken) ≤ given → IsAtEnd left'
-    → Appends now next (game_summary_text s) → Reports (AdjudicateGames certs) left left' old next
-ended certs left left' old now next taken given s at few end added =
-    (taken, at.consumed, end, tt, finished certs game_summary_text (game_items taken) old now next s (game_summary_text s) (none_left certs left left' old now taken given s at few) refl added)
+-- How a run over games ends, where so many games were judged: what was taken is no more than an input may have, but where it
+-- was too long.
+module _ (limits : Bounds) (certs : Bool) (left left' old now : Option (List ℕ)) (f f' g g' : ℕ) (taken : List ℕ) (given : ℕ) (s : Summary)
+    (at : IsAt limits certs left left' old now taken given s) (source_later : f ≤ f') where
+  -- it could not be read to its end
+  pub not_read : (end : ReadEnd) (status : Status) → status ≡ status_of_end end → g ≤ g' → (end ≡ ends.ReadFault → Rose f f') → ((end ≡ ends.TooLong) ↔ (268435456 < length taken)) → length taken ≤ 268435456 + 4096
+      → IsRun (AdjudicateGames limits certs) status (outside left f old g) (outside left' f' now g')
+  not_read end status is later cause long few =
+      subst (λ x. IsRun (AdjudicateGames limits certs) x (outside left f old g) (outside left' f' now g')) (sym is) (by_end end refl)
+    where
+      o : Order
+      o = AdjudicateGames limits certs
 
-pub cut_end : (certs : Bool) (left left' old now next : Option (List ℕ)) (taken : List ℕ) (given : ℕ) (s : Summary) → IsAt certs left left' old now taken given s → length (games taken) ≤ given
-    → (n : ℕ) × Appends now next (take n (game_summary_text s)) → Begins (AdjudicateGames certs) left left' old next
-cut_end certs left left' old now next taken given s at few added =
-    (taken, at.consumed, cut_summary certs game_summary_text (game_items taken) old now next s (game_summary_text s) added.0 (none_left certs left left' old now taken given s at few) refl added.1)
+      b : Outside
+      b = outside left f old g
 
-pub room_at : (certs : Bool) (left left' old now : Option (List ℕ)) (taken : List ℕ) (given : ℕ) (s : Summary) → IsAt certs left left' old now taken given s → given < 2 ^ 63 → HasRoom s
-room_at certs left left' old now taken given s at few = room_for_one certs (game_items taken) (drop given (game_items taken)) old now s at.written (omega (arith, at.number))
+      n : Outside
+      n = outside left' f' now g'
+
+      whole : BeginsWhole o b n
+      whole = begun limits certs left left' old now f f' g g' taken given s at
+
+      by_end : (e : ReadEnd) → end ≡ e → IsRun o (status_of_end e) b n
+      by_end ends.ReadFault e = short_run o b n source_later later ReadFault whole (λ _. cause e) (λ h. cc) (λ h. cc) (taken, at.consumed, not_more _ 268435456 (λ more. let t = sym e ∙ long.1 more in cc))
+      by_end ends.TooLong e =
+          long_run o b n source_later later whole (taken, at.consumed, (long.0 e, few))
+          (λ bytes told small. let had = taken_few left left' taken bytes at.consumed told in let more = long.0 e in omega (arith, had, more, small))
+      by_end ends.NoMemory e = short_run o b n source_later later NoMemory whole (λ h. cc) (λ h. cc) (λ h. cc) (taken, at.consumed, not_more _ 268435456 (λ more. let t = sym e ∙ long.1 more in cc))
+
+  -- memory was refused
+  pub no_memory : g ≤ g' → length taken ≤ 268435456 → IsRun (AdjudicateGames limits certs) NoMemory (outside left f old g) (outside left' f' now g')
+  no_memory later few =
+      short_run (AdjudicateGames limits certs) (outside left f old g) (outside left' f' now g') source_later later NoMemory (begun limits certs left left' old now f f' g g' taken given s at) (λ h. cc) (λ h. cc) (λ h. cc) (taken, at.consumed, few)
+
+  -- the block of the next game was cut
+  pub cut_game : (next : Option (List ℕ)) (game : Game) (judged : Judged) (n : ℕ) → g ≤ g' → Rose g g' → length taken ≤ 268435456
+      → slice_get (games taken) given ≡ Some game → Judges limits certs (game_item game) s judged → Appends now next (take n judged.block)
+      → IsRun (AdjudicateGames limits certs) WriteFault (outside left f old g) (outside left' f' next g')
+  cut_game next game judged n later rose few found j added =
+      short_run (AdjudicateGames limits certs) (outside left f old g) (outside left' f' next g') source_later later WriteFault
+      (taken, at.consumed, cut_block limits certs game_summary_text (game_items taken) (drop given (game_items taken)) (drop (given + 1) (game_items taken)) (game_item game) old now next s judged n at.written (next_is (games taken) given game found) j added)
+      (λ h. cc) (λ _. rose) (λ h. cc) (taken, at.consumed, few)
+
+  -- all games were judged, and the summary was written or not
+  pub all_judged : (status : Status) (next : Option (List ℕ)) → g ≤ g' → length taken ≤ 268435456 → length (games taken) ≤ given → IsAtEnd left'
+      → (status ≡ Done → Appends now next (game_summary_text s)) → (status ≡ WriteFault → (n : ℕ) × Appends now next (take n (game_summary_text s))) → (status ≡ NoMemory → next ≡ now)
+      → (status ≡ WriteFault → Rose g g') → (status ≡ Done) ⊎ ((status ≡ WriteFault) ⊎ (status ≡ NoMemory))
+      → IsRun (AdjudicateGames limits certs) status (outside left f old g) (outside left' f' next g')
+  all_judged status next later few all end done cut refused cause either =
+      let all_written = none_left limits certs left left' old now taken given s at all in
+      elim either [
+        | inl is ↦ (
+            let run : IsRun o Done b n =
+            short_run o b n source_later later Done (taken, at.consumed, end, tt, finished limits certs game_summary_text (game_items taken) old now next s (game_summary_text s) all_written refl (done is))
+            (λ h. cc) (λ h. cc) (λ h. cc) (taken, at.consumed, few) in
+            subst (λ x. IsRun o x b n) (sym is) run)
+        | inr (inl is) ↦ (
+            let part = cut is in
+            let run : IsRun o WriteFault b n =
+            short_run o b n source_later later WriteFault (taken, at.consumed, cut_summary limits certs game_summary_text (game_items taken) old now next s (game_summary_text s) part.0 all_written refl part.1)
+            (λ h. cc) (λ _. cause is) (λ h. cc) (taken, at.consumed, few) in
+            subst (λ x. IsRun o x b n) (sym is) run)
+        | inr (inr is) ↦ (
+            let whole = whole_blocks limits certs (game_items taken) (drop given (game_items taken)) old now s at.written in
+            let run : IsRun o NoMemory b n =
+            short_run o b n source_later later NoMemory (taken, at.consumed, subst (λ w. Grew old w (HasWholeBlocksOn limits certs (game_items taken))) (sym (refused is)) whole)
+            (λ h. cc) (λ h. cc) (λ h. cc) (taken, at.consumed, few) in
+            subst (λ x. IsRun o x b n) (sym is) run)
+      ]
+    where
+      o : Order
+      o = AdjudicateGames limits certs
+
+      b : Outside
+      b = outside left f old g
+
+      n : Outside
+      n = outside left' f' next g'
+
+pub room_at : (limits : Bounds) (certs : Bool) (left left' old now : Option (List ℕ)) (taken : List ℕ) (given : ℕ) (s : Summary) → IsAt limits certs left left' old now taken given s → given < 2 ^ 63 → HasRoom s
+room_at limits certs left left' old now taken given s at few = room_for_one limits certs (game_items taken) (drop given (game_items taken)) old now s at.written (omega (arith, at.number))
 
 -- a source that has ended has nothing left
 pub at_end : (was now : Bool) (l l' : Option (List ℕ)) → (was ≡ true → IsAtEnd l) → (was ≡ true → l' ≡ l) → (was ≡ false → now ≡ true → IsAtEnd l') → now ≡ true → IsAtEnd l'
 at_end true now l l' before same end h = subst IsAtEnd (sym (same refl)) (before refl)
 at_end false now l l' before same end h = end refl h
 
-pub not_more : (n most : ℕ) → (most < n → ⊥) → n ≤ most
-not_more n most h = omega arith
-
 pub given_more : (r : Result (Option Game) ReadEnd) (game : Game) (g g' : ℕ) → r ≡ Ok (Some game) → g' ≡ (if gives_game r then g + 1 else g) → g' ≡ g + 1
 given_more r game g g' e h = rw e at h
-
-pub only_memory : (r : Reported) → (r ≡ Whole → ⊥) → (r ≡ Refused → ⊥) → (r ≡ SinkFailed → ⊥) → (r ≡ SourceFailed → ⊥) → (r ≡ TooLong → ⊥) → r ≡ NoMemory
-only_memory Whole a r b c d = absurd (a refl)
-only_memory Refused a r b c d = absurd (r refl)
-only_memory SourceFailed a r b c d = absurd (c refl)
-only_memory TooLong a r b c d = absurd (d refl)
-only_memory SinkFailed a r b c d = absurd (b refl)
-only_memory NoMemory a r b c d = refl
-
-pub begun_still : (certs : Bool) (left left' old now now' : Option (List ℕ)) (taken : List ℕ) (given : ℕ) (s : Summary) → IsAt certs left left' old now taken given s → now' ≡ now → BeginsWhole (AdjudicateGames certs) left left' old now'
-begun_still certs left left' old now now' taken given s at same =
-    subst (λ w. BeginsWhole (AdjudicateGames certs) left left' old w) (sym same) (begun certs left left' old now taken given s at)

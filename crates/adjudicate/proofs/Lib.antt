@@ -1,7 +1,8 @@
 pub mod Items
 pub mod LineEnds
-pub mod Printing
 pub mod Progress
+pub mod RunEndings
 pub mod Answering
 pub mod PlayedGames
 pub mod GameLoop
+pub mod LineLoop

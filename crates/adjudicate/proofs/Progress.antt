@@ -5,28 +5,24 @@ use Rattle.std.specs.Io.KnownBytes.{Appends}
 use Rattle.std.proofs.lemmas.List.Sums.{sum_by-append, count_by-le-length}
 use Rattle.std.proofs.lemmas.List.{map-append}
 use Rattle.cha_outside.proofs.Adding.{appends_nothing, appends_more}
-use Rattle.cha_outside.specs.Gathering.{Took}
+use Rattle.cha_verdict.specs.Bounds.{Bounds}
 use Rattle.flag_report.specs.declared.totals.Summary.{Summary}
 use Rattle.adjudicate.specs.declared.judging.Judged.{Judged}
-use Rattle.adjudicate.specs.declared.writing.Reported.{Reported}
-use Rattle.adjudicate.specs.declared.writing.Reported.TheVariants.{Whole, Refused, SourceFailed, TooLong, SinkFailed, NoMemory}
-use Rattle.adjudicate.specs.declared.orders.Order.{Order}
-use Rattle.adjudicate.specs.declared.orders.Order.TheVariants.{AdjudicateGames, JudgePositions, CheckCert}
-use Rattle.adjudicate.specs.Outcomes.{Item, Outcome, IsSoundOutcome, AllSound, block_of, block, blocks, summary_of, is_bad, is_third, is_open, game_items, position_items}
-use Rattle.adjudicate.specs.Report.{IsReportOn, HasBegunOn, HasWholeBlocksOn, HasWholeBlocks}
-use Rattle.adjudicate.specs.Runs.{Grew, Reports, Begins, BeginsWhole}
+use Rattle.adjudicate.specs.Outcomes.{Item, Outcome, IsSoundOutcome, AllSound, block_of, block, blocks, summary_of, is_bad, is_third, is_open}
+use Rattle.adjudicate.specs.Report.{IsReportOn, HasBegunOn, HasWholeBlocksOn}
+use Rattle.adjudicate.specs.Runs.{Grew}
 use Rattle.adjudicate.specs.Steps.{one_if, Judges, HasRoom, counted}
 
 -- of all items, those before these have sound outcomes whose blocks were written and whose totals are these
-abbrev pub WroteUpTo : Bool → List Item → List Item → Option (List ℕ) → Option (List ℕ) → Summary → Type 0
-WroteUpTo certs all later old new s =
+abbrev pub WroteUpTo : Bounds → Bool → List Item → List Item → Option (List ℕ) → Option (List ℕ) → Summary → Type 0
+WroteUpTo limits certs all later old new s =
     (done : List Item) × (all ≡ done ++ later)
-    × ((os : List Outcome) × (map (λ o. o.item) os ≡ done) × AllSound os × Appends old new (blocks certs 1 os) × (s ≡ summary_of os))
+    × ((os : List Outcome) × (map (λ o. o.item) os ≡ done) × AllSound limits os × Appends old new (blocks certs 1 os) × (s ≡ summary_of os))
 
 -- one more outcome
-sound_more : (os : List Outcome) (o : Outcome) → AllSound os → IsSoundOutcome o → AllSound (os ++ o ∷ [])
-sound_more [] o all one = (one, tt)
-sound_more (first ∷ os) o all one = (all.0, sound_more os o all.1 one)
+sound_more : (limits : Bounds) (os : List Outcome) (o : Outcome) → AllSound limits os → IsSoundOutcome limits o → AllSound limits (os ++ o ∷ [])
+sound_more limits [] o all one = (one, tt)
+sound_more limits (first ∷ os) o all one = (all.0, sound_more limits os o all.1 one)
 
 blocks_more : (certs : Bool) (n : ℕ) (os : List Outcome) (o : Outcome) → blocks certs n (os ++ o ∷ []) ≡ blocks certs n os ++ block certs (n + length os) o
 unfolding blocks
@@ -48,14 +44,14 @@ summary_more os o = λ i. record {
 }
 
 -- before the first item
-pub nothing_written : (certs : Bool) (all : List Item) (a : Option (List ℕ)) → WroteUpTo certs all all a a (record { items = 0; bad = 0; third = 0; undecided = 0 })
+pub nothing_written : (limits : Bounds) (certs : Bool) (all : List Item) (a : Option (List ℕ)) → WroteUpTo limits certs all all a a (record { items = 0; bad = 0; third = 0; undecided = 0 })
 unfolding blocks
-nothing_written certs all a = ([], refl, ([], refl, tt, appends_nothing a, refl))
+nothing_written limits certs all a = ([], refl, ([], refl, tt, appends_nothing a, refl))
 
 -- the block of the next item is written whole
-pub one_more : (certs : Bool) (all here later : List Item) (item : Item) (old now next : Option (List ℕ)) (s : Summary) (judged : Judged) → WroteUpTo certs all here old now s → here ≡ item ∷ later → Judges certs item s judged
-    → Appends now next judged.block → WroteUpTo certs all later old next judged.totals
-one_more certs all here later item old now next s judged w here_is j added =
+pub one_more : (limits : Bounds) (certs : Bool) (all here later : List Item) (item : Item) (old now next : Option (List ℕ)) (s : Summary) (judged : Judged) → WroteUpTo limits certs all here old now s → here ≡ item ∷ later → Judges limits certs item s judged
+    → Appends now next judged.block → WroteUpTo limits certs all later old next judged.totals
+one_more limits certs all here later item old now next s judged w here_is j added =
     let os = w.2.0 in
     let o : Outcome = record { item = item; decision = j.0 } in
     let number : s.items ≡ length os = ap (λ t. t.items) w.2.4 in
@@ -67,16 +63,16 @@ one_more certs all here later item old now next s judged w here_is j added =
       (
         os ++ o ∷ [],
         map-append (λ x. x.item) os (o ∷ []) ∙ ap (λ x. x ++ item ∷ []) w.2.1,
-        sound_more os o w.2.2 j.1,
+        sound_more limits os o w.2.2 j.1,
         subst (λ x. Appends old next x) whole out,
         j.3 ∙ ap (λ t. counted t o) w.2.4 ∙ summary_more os o,
       ),
     )
 
 -- the block of the next item is written in part
-pub cut_block : (certs : Bool) (summary : Summary → List ℕ) (items here later : List Item) (item : Item) (old now next : Option (List ℕ)) (s : Summary) (judged : Judged) (n : ℕ) → WroteUpTo certs items here old now s
-    → here ≡ item ∷ later → Judges certs item s judged → Appends now next (take n judged.block) → Grew old next (HasBegunOn certs summary items)
-cut_block certs summary items here later item old now next s judged n w here_is j added =
+pub cut_block : (limits : Bounds) (certs : Bool) (summary : Summary → List ℕ) (items here later : List Item) (item : Item) (old now next : Option (List ℕ)) (s : Summary) (judged : Judged) (n : ℕ) → WroteUpTo limits certs items here old now s
+    → here ≡ item ∷ later → Judges limits certs item s judged → Appends now next (take n judged.block) → Grew old next (HasBegunOn limits certs summary items)
+cut_block limits certs summary items here later item old now next s judged n w here_is j added =
     let os = w.2.0 in
     let number : s.items ≡ length os = ap (λ t. t.items) w.2.4 in
     let text : block_of certs (length os + 1) item j.0 ≡ take n judged.block ++ drop n judged.block =
@@ -95,15 +91,15 @@ cut_block certs summary items here later item old now next s judged n w here_is 
     )
 
 -- nothing of the next item is written
-pub whole_blocks : (certs : Bool) (items here : List Item) (old now : Option (List ℕ)) (s : Summary) → WroteUpTo certs items here old now s → Grew old now (HasWholeBlocksOn certs items)
-whole_blocks certs items here old now s w =
+pub whole_blocks : (limits : Bounds) (certs : Bool) (items here : List Item) (old now : Option (List ℕ)) (s : Summary) → WroteUpTo limits certs items here old now s → Grew old now (HasWholeBlocksOn limits certs items)
+whole_blocks limits certs items here old now s w =
     let os = w.2.0 in
     (blocks certs 1 os, w.2.3, (os, here, w.1 ∙ ap (λ x. x ++ here) (sym w.2.1), w.2.2, refl))
 
 -- no item is left, and the summary is written whole
-pub finished : (certs : Bool) (summary : Summary → List ℕ) (items : List Item) (old now next : Option (List ℕ)) (s : Summary) (last : List ℕ) → WroteUpTo certs items [] old now s → last ≡ summary s
-    → Appends now next last → Grew old next (IsReportOn certs summary items)
-finished certs summary items old now next s last w last_is added =
+pub finished : (limits : Bounds) (certs : Bool) (summary : Summary → List ℕ) (items : List Item) (old now next : Option (List ℕ)) (s : Summary) (last : List ℕ) → WroteUpTo limits certs items [] old now s → last ≡ summary s
+    → Appends now next last → Grew old next (IsReportOn limits certs summary items)
+finished limits certs summary items old now next s last w last_is added =
     let os = w.2.0 in
     let all : map (λ o. o.item) os ≡ items = w.2.1 ∙ sym (w.1 ∙ append-nil w.0) in (
       blocks certs 1 os ++ last,
@@ -112,9 +108,9 @@ finished certs summary items old now next s last w last_is added =
     )
 
 -- no item is left, and the summary is written in part
-pub cut_summary : (certs : Bool) (summary : Summary → List ℕ) (items : List Item) (old now next : Option (List ℕ)) (s : Summary) (last : List ℕ) (n : ℕ) → WroteUpTo certs items [] old now s → last ≡ summary s
-    → Appends now next (take n last) → Grew old next (HasBegunOn certs summary items)
-cut_summary certs summary items old now next s last n w last_is added =
+pub cut_summary : (limits : Bounds) (certs : Bool) (summary : Summary → List ℕ) (items : List Item) (old now next : Option (List ℕ)) (s : Summary) (last : List ℕ) (n : ℕ) → WroteUpTo limits certs items [] old now s → last ≡ summary s
+    → Appends now next (take n last) → Grew old next (HasBegunOn limits certs summary items)
+cut_summary limits certs summary items old now next s last n w last_is added =
     let os = w.2.0 in
     let all : items ≡ map (λ o. o.item) os ++ [] = w.1 ∙ ap (λ x. x ++ []) (sym w.2.1) in
     let text : summary (summary_of os) ≡ take n last ++ drop n last = sym (last_is ∙ ap summary w.2.4) ∙ sym (take-append-drop n last) in (
@@ -124,8 +120,8 @@ cut_summary certs summary items old now next s last n w last_is added =
     )
 
 -- one more item can be counted
-pub room_for_one : (certs : Bool) (all here : List Item) (old now : Option (List ℕ)) (s : Summary) → WroteUpTo certs all here old now s → s.items < 2 ^ 63 → HasRoom s
-room_for_one certs all here old now s w few =
+pub room_for_one : (limits : Bounds) (certs : Bool) (all here : List Item) (old now : Option (List ℕ)) (s : Summary) → WroteUpTo limits certs all here old now s → s.items < 2 ^ 63 → HasRoom s
+room_for_one limits certs all here old now s w few =
     let os = w.2.0 in
     let number : s.items ≡ length os = ap (λ t. t.items) w.2.4 in
     let bad : s.bad ≤ length os = rw (ap (λ t. t.bad) w.2.4) (count_by-le-length is_bad os) in
@@ -133,35 +129,5 @@ room_for_one certs all here old now s w few =
     let undecided : s.undecided ≤ length os = rw (ap (λ t. t.undecided) w.2.4) (count_by-le-length is_open os) in
     record { few_items = few; few_bad = omega arith; few_third = omega arith; few_undecided = omega arith }
 
-pub one_counted : (certs : Bool) (item : Item) (s : Summary) (judged : Judged) → Judges certs item s judged → judged.totals.items ≡ s.items + 1
-one_counted certs item s judged j = ap (λ t. t.items) j.3
-
--- bytes were taken, and nothing was written
-nothing_yet : (order : Order) (bytes : List ℕ) → HasWholeBlocks order bytes []
-unfolding blocks
-nothing_yet (AdjudicateGames certs) bytes = ([], game_items bytes, refl, tt, refl)
-nothing_yet (JudgePositions certs) bytes = ([], position_items bytes, refl, tt, refl)
-nothing_yet CheckCert bytes = refl
-
-pub nothing_begun : (order : Order) (left left' a : Option (List ℕ)) (P : List ℕ → Type 0) → Took left left' P → BeginsWhole order left left' a a
-nothing_begun order left left' a P took = (took.0, took.1, ([], appends_nothing a, nothing_yet order took.0))
-
--- what is said of one name of an order holds of another
-pub reports_as : (a b : Order) (left left' old now : Option (List ℕ)) → a ≡ b → Reports a left left' old now → Reports b left left' old now
-reports_as a b left left' old now e h = subst (λ o. Reports o left left' old now) e h
-
-pub begins_as : (a b : Order) (left left' old now : Option (List ℕ)) → a ≡ b → Begins a left left' old now → Begins b left left' old now
-begins_as a b left left' old now e h = subst (λ o. Begins o left left' old now) e h
-
-pub begins_whole_as : (a b : Order) (left left' old now : Option (List ℕ)) → a ≡ b → BeginsWhole a left left' old now → BeginsWhole b left left' old now
-begins_whole_as a b left left' old now e h = subst (λ o. BeginsWhole o left left' old now) e h
-
--- how a report ended, one way or another
-pub source_failed : (r : Reported) → r ≡ SourceFailed → (r ≡ Whole → ⊥) × (r ≡ Refused → ⊥) × (r ≡ SinkFailed → ⊥)
-source_failed r e = ((λ h. let f = sym e ∙ h in cc), (λ h. let f = sym e ∙ h in cc), (λ h. let f = sym e ∙ h in cc))
-
-pub was_too_long : (r : Reported) → r ≡ TooLong → (r ≡ Whole → ⊥) × (r ≡ Refused → ⊥) × (r ≡ SinkFailed → ⊥)
-was_too_long r e = ((λ h. let f = sym e ∙ h in cc), (λ h. let f = sym e ∙ h in cc), (λ h. let f = sym e ∙ h in cc))
-
-pub lacked_memory : (r : Reported) → r ≡ NoMemory → (r ≡ Whole → ⊥) × (r ≡ Refused → ⊥) × (r ≡ SinkFailed → ⊥)
-lacked_memory r e = ((λ h. let f = sym e ∙ h in cc), (λ h. let f = sym e ∙ h in cc), (λ h. let f = sym e ∙ h in cc))
+pub one_counted : (limits : Bounds) (certs : Bool) (item : Item) (s : Summary) (judged : Judged) → Judges limits certs item s judged → judged.totals.items ≡ s.items + 1
+one_counted limits certs item s judged j = ap (λ t. t.items) j.3

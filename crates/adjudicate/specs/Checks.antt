@@ -1,13 +1,14 @@
 -- What is found about the text of a certificate (this project).
 use Rattle.std.specs.Prelude.{◌≡◌, ℕ, List, Result, Ok, Err, ⊤}
 use Rattle.cha_board.specs.declared.men.Color.{Color}
-use Rattle.cha_board.specs.Board.{Board}
+use Rattle.cha_board.specs.Board.{Board, IsValid}
 use Rattle.cha_moves.specs.Ends.{IsUnwinnable}
 use Rattle.cha_cert.specs.declared.checking.Checked.{Checked}
 use Rattle.cha_cert.specs.declared.checking.Checked.TheVariants.{Accepted, Fails}
 use Rattle.cha_cert.specs.Certificates.{BeginsAt, IsValidCert, Answers}
 use Rattle.cert_text.specs.declared.faults.CertFault.{CertFault}
 use Rattle.cert_text.specs.declared.reader.Certificate.{Certificate}
+use Rattle.cert_text.specs.Spelled.{cert_text}
 use Rattle.cert_text.specs.Texts.{cert_of}
 use Rattle.flag_report.specs.Checks.{accepted_text, misfit_text, failing_text}
 use Rattle.adjudicate.specs.declared.orders.Order.{Order}
@@ -29,17 +30,21 @@ IsAnswerTo (Err fault) out = out ≡ misfit_text fault
 abbrev pub IsValidAtFirst : Certificate → Type 0
 IsValidAtFirst c = (p : Board) × IsValidCert p c.winner c.cert
 
--- no series of legal moves from the position of a certificate's first node mates for its side
+-- no series of legal moves from the position of a certificate's first node, which is a valid one, mates for its side
 abbrev pub IsUnwinnableAtFirst : Certificate → Type 0
-IsUnwinnableAtFirst c = (p : Board) × BeginsAt p c.cert × IsUnwinnable p c.winner
+IsUnwinnableAtFirst c = (p : Board) × BeginsAt p c.cert × IsValid p × IsUnwinnable p c.winner
 
 -- the bytes are the text of a certificate that is such
 abbrev pub IsTextOf : (Certificate → Type 0) → List ℕ → Type 0
-IsTextOf P bytes = (c : Certificate) × (cert_of bytes ≡ Ok c) × P c
+IsTextOf P bytes = (c : Certificate) × (cert_text c.winner c.cert ≡ bytes) × P c
 
--- What an order asks of its input: of a certificate that the bytes are its text and that it is valid. Of games and positions
+-- the bytes are read as a certificate that is such
+abbrev pub IsReadAs : (Certificate → Type 0) → List ℕ → Type 0
+IsReadAs P bytes = (c : Certificate) × (cert_of bytes ≡ Ok c) × P c
+
+-- What an order asks of its input: of a certificate that the bytes are read as one and that it is valid. Of games and positions
 -- nothing is asked.
 abbrev pub Passes : Order → List ℕ → Type 0
-Passes (AdjudicateGames certs) bytes = ⊤
-Passes (JudgePositions certs) bytes = ⊤
-Passes CheckCert bytes = IsTextOf IsValidAtFirst bytes
+Passes (AdjudicateGames limits certs) bytes = ⊤
+Passes (JudgePositions limits certs) bytes = ⊤
+Passes CheckCert bytes = IsReadAs IsValidAtFirst bytes

@@ -18,13 +18,14 @@ use Rattle.flag_report.specs.declared.reasons.Unreadable.{Unreadable}
 use Rattle.flag_report.specs.declared.reasons.Unreadable.TheVariants.{Tokens, Moves}
 use Rattle.flag_report.specs.declared.rulings.Judgment.{Judgment}
 use Rattle.flag_report.specs.declared.totals.Summary.{Summary}
-use Rattle.flag_report.specs.Verdicts.{is_undecided}
+use Rattle.cha_verdict.specs.Verdicts.{is_undecided}
 use Rattle.cha_moves.specs.Standings.{standing_of}
 use Rattle.flag_report.specs.Rulings.{ruling_of, first_of, is_changed}
 use Rattle.flag_report.specs.Blocks.{has_dead_status, position_text, refused_text}
 use Rattle.flag_report.specs.Games.{game_text, unreadable_text}
-use Rattle.cha_decide.specs.declared.decided.Decision.{Decision}
-use Rattle.cha_decide.specs.Sound.{IsSound}
+use Rattle.cha_verdict.specs.declared.decisions.Decision.{Decision}
+use Rattle.cha_verdict.specs.Bounds.{Bounds}
+use Rattle.cha_verdict.specs.Sound.{IsSound}
 use Rattle.adjudicate.specs.Lines.{lines}
 
 -- an item of an input: a line that is a position, a line that is none, a game that was played to a position, with its
@@ -86,23 +87,23 @@ pub record Outcome : Type 0 where
   pub decision : Option Decision
 
 -- The verdicts are true of the item's position, and there are none where it has no position.
-abbrev pub IsSoundFor : Item → Option Decision → Type 0
-IsSoundFor (PositionLine q) (Some d) = IsSound q White d
-IsSoundFor (PositionLine q) None = ⊥
-IsSoundFor (RefusedLine fault) (Some d) = ⊥
-IsSoundFor (RefusedLine fault) None = ⊤
-IsSoundFor (PlayedGame q recorded forfeit) (Some d) = IsSound q (first_of recorded) d
-IsSoundFor (PlayedGame q recorded forfeit) None = ⊥
-IsSoundFor (UnreadableGame why) (Some d) = ⊥
-IsSoundFor (UnreadableGame why) None = ⊤
+abbrev pub IsSoundFor : Bounds → Item → Option Decision → Type 0
+IsSoundFor limits (PositionLine q) (Some d) = IsSound q White limits d
+IsSoundFor limits (PositionLine q) None = ⊥
+IsSoundFor limits (RefusedLine fault) (Some d) = ⊥
+IsSoundFor limits (RefusedLine fault) None = ⊤
+IsSoundFor limits (PlayedGame q recorded forfeit) (Some d) = IsSound q (first_of recorded) limits d
+IsSoundFor limits (PlayedGame q recorded forfeit) None = ⊥
+IsSoundFor limits (UnreadableGame why) (Some d) = ⊥
+IsSoundFor limits (UnreadableGame why) None = ⊤
 
-abbrev pub IsSoundOutcome : Outcome → Type 0
-IsSoundOutcome o = IsSoundFor o.item o.decision
+abbrev pub IsSoundOutcome : Bounds → Outcome → Type 0
+IsSoundOutcome limits o = IsSoundFor limits o.item o.decision
 
 -- each outcome is sound
-abbrev pub AllSound : List Outcome → Type 0
-AllSound [] = ⊤
-AllSound (o ∷ os) = IsSoundOutcome o × AllSound os
+abbrev pub AllSound : Bounds → List Outcome → Type 0
+AllSound limits [] = ⊤
+AllSound limits (o ∷ os) = IsSoundOutcome limits o × AllSound limits os
 
 -- the result of a game, by its final position and the verdicts on it
 abbrev pub judgment_of : Board → ResultMark → Bool → Decision → Judgment
@@ -110,10 +111,10 @@ judgment_of q recorded forfeit d = ruling_of (standing_of q) recorded forfeit d.
 
 -- the block of an item under a number, with or without certificates
 unfoldable pub block_of : Bool → ℕ → Item → Option Decision → List ℕ
-block_of certs number (PositionLine q) (Some d) = position_text number q d.white d.black certs
+block_of certs number (PositionLine q) (Some d) = position_text number q (standing_of q) d.white d.black certs
 block_of certs number (PositionLine q) None = []
 block_of certs number (RefusedLine fault) d = refused_text number fault
-block_of certs number (PlayedGame q recorded forfeit) (Some d) = game_text number q recorded d.white d.black (judgment_of q recorded forfeit d) certs
+block_of certs number (PlayedGame q recorded forfeit) (Some d) = game_text number q (standing_of q) recorded d.white d.black (judgment_of q recorded forfeit d) certs
 block_of certs number (PlayedGame q recorded forfeit) None = []
 block_of certs number (UnreadableGame why) d = unreadable_text number why
 
@@ -134,7 +135,7 @@ is_bad_item (UnreadableGame why) = true
 
 -- a position whose state is dead, or a game whose result changes
 abbrev pub is_third_item : Item → Option Decision → Bool
-is_third_item (PositionLine q) (Some d) = has_dead_status q d.white d.black
+is_third_item (PositionLine q) (Some d) = has_dead_status (standing_of q) d.white d.black
 is_third_item (PositionLine q) None = false
 is_third_item (RefusedLine fault) d = false
 is_third_item (PlayedGame q recorded forfeit) (Some d) = is_changed recorded (judgment_of q recorded forfeit d).mark

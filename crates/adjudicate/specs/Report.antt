@@ -2,7 +2,8 @@
 use Rattle.std.specs.Prelude.{◌≡◌, ℕ, ◌+◌, Bool, List, [], ◌∷◌, ◌++◌, length, map, Option}
 use Rattle.flag_report.specs.declared.totals.Summary.{Summary}
 use Rattle.flag_report.specs.Totals.{game_summary_text, position_summary_text}
-use Rattle.cha_decide.specs.declared.decided.Decision.{Decision}
+use Rattle.cha_verdict.specs.declared.decisions.Decision.{Decision}
+use Rattle.cha_verdict.specs.Bounds.{Bounds}
 use Rattle.cert_text.specs.Texts.{cert_of}
 use Rattle.adjudicate.specs.declared.orders.Order.{Order}
 use Rattle.adjudicate.specs.declared.orders.Order.TheVariants.{AdjudicateGames, JudgePositions, CheckCert}
@@ -10,14 +11,14 @@ use Rattle.adjudicate.specs.Outcomes.{Item, Outcome, IsSoundFor, AllSound, block
 use Rattle.adjudicate.specs.Checks.{IsAnswerTo}
 
 -- there is one sound outcome for each item, in order, and the output is their blocks, numbered from 1, and their summary
-abbrev pub IsReportOn : Bool → (Summary → List ℕ) → List Item → List ℕ → Type 0
-IsReportOn certs summary items out =
-    (os : List Outcome) × (map (λ o. o.item) os ≡ items) × AllSound os × (out ≡ blocks certs 1 os ++ summary (summary_of os))
+abbrev pub IsReportOn : Bounds → Bool → (Summary → List ℕ) → List Item → List ℕ → Type 0
+IsReportOn limits certs summary items out =
+    (os : List Outcome) × (map (λ o. o.item) os ≡ items) × AllSound limits os × (out ≡ blocks certs 1 os ++ summary (summary_of os))
 
 -- what an order has written for an input: of games and positions a report, of a certificate the answer of its check
 abbrev pub IsReport : Order → List ℕ → List ℕ → Type 0
-IsReport (AdjudicateGames certs) bytes out = IsReportOn certs game_summary_text (game_items bytes) out
-IsReport (JudgePositions certs) bytes out = IsReportOn certs position_summary_text (position_items bytes) out
+IsReport (AdjudicateGames limits certs) bytes out = IsReportOn limits certs game_summary_text (game_items bytes) out
+IsReport (JudgePositions limits certs) bytes out = IsReportOn limits certs position_summary_text (position_items bytes) out
 IsReport CheckCert bytes out = IsAnswerTo (cert_of bytes) out
 
 -- a list is the front of another
@@ -25,30 +26,30 @@ abbrev pub IsFront : List ℕ → List ℕ → Type 0
 IsFront front whole = (rest : List ℕ) × (whole ≡ front ++ rest)
 
 -- a front of the block of the next item, or of the summary where no item is left
-abbrev pub IsPart : Bool → (Summary → List ℕ) → List Outcome → List Item → List ℕ → Type 0
-IsPart certs summary os [] part = IsFront part (summary (summary_of os))
-IsPart certs summary os (item ∷ later) part =
-    (d : Option Decision) × IsSoundFor item d × IsFront part (block_of certs (length os + 1) item d)
+abbrev pub IsPart : Bounds → Bool → (Summary → List ℕ) → List Outcome → List Item → List ℕ → Type 0
+IsPart limits certs summary os [] part = IsFront part (summary (summary_of os))
+IsPart limits certs summary os (item ∷ later) part =
+    (d : Option Decision) × IsSoundFor limits item d × IsFront part (block_of certs (length os + 1) item d)
 
 -- the output is the blocks of sound outcomes of the first items, and a part of what comes next
-abbrev pub HasBegunOn : Bool → (Summary → List ℕ) → List Item → List ℕ → Type 0
-HasBegunOn certs summary items out =
+abbrev pub HasBegunOn : Bounds → Bool → (Summary → List ℕ) → List Item → List ℕ → Type 0
+HasBegunOn limits certs summary items out =
     (os : List Outcome) × (later : List Item) × (part : List ℕ)
-    × (items ≡ map (λ o. o.item) os ++ later) × AllSound os × (out ≡ blocks certs 1 os ++ part) × IsPart certs summary os later part
+    × (items ≡ map (λ o. o.item) os ++ later) × AllSound limits os × (out ≡ blocks certs 1 os ++ part) × IsPart limits certs summary os later part
 
 -- the output is the front of what an order has written
 abbrev pub HasBegun : Order → List ℕ → List ℕ → Type 0
-HasBegun (AdjudicateGames certs) bytes out = HasBegunOn certs game_summary_text (game_items bytes) out
-HasBegun (JudgePositions certs) bytes out = HasBegunOn certs position_summary_text (position_items bytes) out
+HasBegun (AdjudicateGames limits certs) bytes out = HasBegunOn limits certs game_summary_text (game_items bytes) out
+HasBegun (JudgePositions limits certs) bytes out = HasBegunOn limits certs position_summary_text (position_items bytes) out
 HasBegun CheckCert bytes out = (whole : List ℕ) × IsAnswerTo (cert_of bytes) whole × IsFront out whole
 
 -- the output is the blocks of sound outcomes of the first items
-abbrev pub HasWholeBlocksOn : Bool → List Item → List ℕ → Type 0
-HasWholeBlocksOn certs items out =
-    (os : List Outcome) × (later : List Item) × (items ≡ map (λ o. o.item) os ++ later) × AllSound os × (out ≡ blocks certs 1 os)
+abbrev pub HasWholeBlocksOn : Bounds → Bool → List Item → List ℕ → Type 0
+HasWholeBlocksOn limits certs items out =
+    (os : List Outcome) × (later : List Item) × (items ≡ map (λ o. o.item) os ++ later) × AllSound limits os × (out ≡ blocks certs 1 os)
 
 -- the output is whole blocks of what an order has written; of the answer on a certificate nothing is
 abbrev pub HasWholeBlocks : Order → List ℕ → List ℕ → Type 0
-HasWholeBlocks (AdjudicateGames certs) bytes out = HasWholeBlocksOn certs (game_items bytes) out
-HasWholeBlocks (JudgePositions certs) bytes out = HasWholeBlocksOn certs (position_items bytes) out
+HasWholeBlocks (AdjudicateGames limits certs) bytes out = HasWholeBlocksOn limits certs (game_items bytes) out
+HasWholeBlocks (JudgePositions limits certs) bytes out = HasWholeBlocksOn limits certs (position_items bytes) out
 HasWholeBlocks CheckCert bytes out = out ≡ []

@@ -1,8 +1,16 @@
--- What the judging of one item gives.
-use Rattle.std.specs.Prelude.{◌≡◌, ℕ, ◌+◌, ◌^◌, ◌<◌, Bool, if◌then◌else◌, Option}
+-- What the judging of one item and the writing of a report give.
+use Rattle.std.specs.Prelude.{◌≡◌, ◌≢◌, ℕ, ◌+◌, ◌^◌, ◌<◌, ◌≤◌, Bool, if◌then◌else◌, List, Option}
+use Rattle.cha_outside.specs.Faults.{Rose}
 use Rattle.flag_report.specs.declared.totals.Summary.{Summary}
-use Rattle.cha_decide.specs.declared.decided.Decision.{Decision}
+use Rattle.cha_verdict.specs.declared.decisions.Decision.{Decision}
+use Rattle.cha_verdict.specs.Bounds.{Bounds}
 use Rattle.adjudicate.specs.declared.judging.Judged.{Judged}
+use Rattle.adjudicate.specs.declared.orders.Order.{Order}
+use Rattle.adjudicate.specs.declared.endings.Status.{Status}
+use Rattle.adjudicate.specs.declared.endings.Status.TheVariants.{Done, Usage, ReadFault, WriteFault, TooLong, NoMemory, NotAccepted}
+use Rattle.adjudicate.specs.Checks.{Passes}
+use Rattle.adjudicate.specs.Report.{IsReport, HasBegun, HasWholeBlocks}
+use Rattle.adjudicate.specs.Runs.{Grew}
 use Rattle.adjudicate.specs.Outcomes.{Item, Outcome, IsSoundFor, block_of, is_bad, is_third, is_open}
 
 abbrev pub one_if : Bool → ℕ
@@ -29,6 +37,20 @@ pub record HasRoom (s : Summary) : Type 0 where
   pub few_undecided : s.undecided < 2 ^ 63
 
 -- the block of an item with sound verdicts, under the next number, and the totals with it
-abbrev pub Judges : Bool → Item → Summary → Judged → Type 0
-Judges certs item s judged =
-    (d : Option Decision) × IsSoundFor item d × (judged.block ≡ block_of certs (s.items + 1) item d) × (judged.totals ≡ counted s (record { item = item; decision = d }))
+abbrev pub Judges : Bounds → Bool → Item → Summary → Judged → Type 0
+Judges limits certs item s judged =
+    (d : Option Decision) × IsSoundFor limits item d × (judged.block ≡ block_of certs (s.items + 1) item d) × (judged.totals ≡ counted s (record { item = item; decision = d }))
+
+-- how the writing of the answer on a certificate ended, where all of it was written
+abbrev pub ended_by : Bool → Status
+ended_by accepted = if accepted then Done else NotAccepted
+
+-- what was written for an order whose whole input is at hand, by the status: what a sink took and how often it failed, before and
+-- after
+pub record IsWritten (order : Order) (bytes : List ℕ) (status : Status) (old : Option (List ℕ)) (faults : ℕ) (new : Option (List ℕ)) (faults' : ℕ) : Type 0 where
+  pub done : status ≡ Done → Passes order bytes × Grew old new (IsReport order bytes)
+  pub not_accepted : status ≡ NotAccepted → (Passes order bytes → ⊥) × Grew old new (IsReport order bytes)
+  pub cut : status ≡ WriteFault → Rose faults faults' × Grew old new (HasBegun order bytes)
+  pub no_memory : status ≡ NoMemory → Grew old new (HasWholeBlocks order bytes)
+  pub no_other : (status ≢ Usage) × (status ≢ ReadFault) × (status ≢ TooLong)
+  pub later : faults ≤ faults'

@@ -1,7 +1,9 @@
 //! How a run ends.
 
 ghost use Rattle.std.specs.Prelude.{◌≡◌};
-ghost use Rattle.adjudicate.specs.Statuses.{number_of};
+ghost use Rattle.adjudicate.specs.Statuses.{number_of, status_of_end};
+
+use cha_outside::ReadEnd;
 
 /// How a run ended.
 #[derive(Clone, Copy, Debug, PartialEq, Eq)]
@@ -35,6 +37,19 @@ impl Status {
             Status::TooLong => 4,
             Status::NoMemory => 5,
             Status::NotAccepted => 6,
+        }
+    }
+}
+
+impl From<ReadEnd> for Status {
+    ghost from_gives = { λ end status. status ≡ status_of_end end };
+
+    /// How a run ends that could not read its input.
+    fn from(end: ReadEnd) -> Status {
+        match end {
+            ReadEnd::ReadFault => Status::ReadFault,
+            ReadEnd::TooLong => Status::TooLong,
+            ReadEnd::NoMemory => Status::NoMemory,
         }
     }
 }

@@ -1,16 +1,17 @@
 //! A whole input of games.
 
-ghost use Rattle.std.specs.Prelude.{◌≡◌, ◌≢◌, ◌≤◌, ◌<◌, ◌+◌, ℕ, List, length, take, Some};
+ghost use Rattle.std.specs.Prelude.{◌≡◌, ◌≤◌, ◌⊎◌, ℕ, take};
 ghost use Rattle.std.specs.Io.KnownBytes.{Appends};
 ghost use Rattle.cha_outside.specs.Faults.{Rose};
-ghost use Rattle.cha_outside.specs.Gathering.{Took};
 ghost use Rattle.adjudicate.specs.declared.orders.Order.TheVariants.{AdjudicateGames};
 ghost use Rattle.flag_report.specs.Totals.{game_summary_text};
-ghost use Rattle.adjudicate.specs.Runs.{Reports, Begins, BeginsWhole};
+ghost use Rattle.adjudicate.specs.Runs.{IsRun, outside};
 
+use crate::endings::Status;
 use crate::playing::judge_game;
-use crate::writing::{Reported, finish, put};
-use cha_outside::{MOST_BYTES, ReadEnd, Sink, Source, Wrote};
+use crate::writing::{finish, put};
+use cha_outside::{Sink, Source, Wrote};
+use cha_verdict::Limits;
 use flag_report::{Summary, game_summary};
 use pgn_games::Reader;
 use std::alloc::Global;
@@ -19,58 +20,46 @@ use std::alloc::Global;
 /// of sides that cannot mate are written too.
 pub fn adjudicate_games<S: Source, K: Sink>(
     alloc: Global,
+    limits: &Limits,
     certs: bool,
     source: &mut S,
     sink: &mut K,
-) -> Reported
-    ensures done { result ≡ Reported.Whole → Reports (AdjudicateGames certs) (S.left source.old) (S.left source.new) (K.written sink.old) (K.written sink.new) }
-    ensures cut { result ≡ Reported.SinkFailed → Begins (AdjudicateGames certs) (S.left source.old) (S.left source.new) (K.written sink.old) (K.written sink.new) }
-    ensures whole { result ≢ Reported.Whole → result ≢ Reported.SinkFailed → BeginsWhole (AdjudicateGames certs) (S.left source.old) (S.left source.new) (K.written sink.old) (K.written sink.new) }
-    ensures never_refused { result ≢ Reported.Refused }
-    ensures read_fault { result ≡ Reported.SourceFailed → Rose (S.faults source.old) (S.faults source.new) }
-    ensures write_fault { result ≡ Reported.SinkFailed → Rose (K.faults sink.old) (K.faults sink.new) }
-    ensures too_long { result ≡ Reported.TooLong → Took (S.left source.old) (S.left source.new) (λ taken. (MOST_BYTES < length taken) × (length taken ≤ MOST_BYTES + 4096)) }
-    ensures not_too_long { result ≢ Reported.TooLong → Took (S.left source.old) (S.left source.new) (λ taken. length taken ≤ MOST_BYTES) }
-    ensures never_too_long { (bytes : List ℕ) → S.left source.old ≡ Some bytes → length bytes ≤ MOST_BYTES → result ≢ Reported.TooLong }
-    ensures source_later { S.faults source.old ≤ S.faults source.new }
-    ensures sink_later { K.faults sink.old ≤ K.faults sink.new }
+) -> Status
+    ensures { IsRun (AdjudicateGames limits.now certs) result (outside (S.left source.old) (S.faults source.old) (K.written sink.old) (K.faults sink.old)) (outside (S.left source.new) (S.faults source.new) (K.written sink.new) (K.faults sink.new)) }
 {
     let mut totals = Summary::new();
     let Ok(mut reader) = Reader::new(alloc) else {
-        return Reported::NoMemory;
+        return Status::NoMemory;
     };
     loop {
         let found = match reader.next(source) {
             Ok(found) => found,
-            Err(ReadEnd::ReadFault) => return Reported::SourceFailed,
-            Err(ReadEnd::TooLong) => return Reported::TooLong,
-            Err(ReadEnd::NoMemory) => return Reported::NoMemory,
+            Err(end) => return Status::from(end),
         };
         let Some(game) = found else {
             return end_games(alloc, &totals, sink);
         };
-        let Ok(judged) = judge_game(alloc, game, certs, &totals) else {
-            return Reported::NoMemory;
+        let Ok(judged) = judge_game(alloc, game, limits, certs, &totals) else {
+            return Status::NoMemory;
         };
         match put(sink, judged.block.items()) {
             Wrote::All => totals = judged.totals,
-            Wrote::Failed(_) => return Reported::SinkFailed,
+            Wrote::Failed(_) => return Status::WriteFault,
         }
     }
 }
 
 /// Writes the last line of a report of games.
-fn end_games<K: Sink>(alloc: Global, totals: &Summary, sink: &mut K) -> Reported
-    ensures whole { result ≡ Reported.Whole → Appends (K.written sink.old) (K.written sink.new) (game_summary_text totals.now) }
-    ensures cut { result ≡ Reported.SinkFailed → (n : ℕ) × Appends (K.written sink.old) (K.written sink.new) (take n (game_summary_text totals.now)) }
-    ensures refused { result ≡ Reported.NoMemory → (K.written sink.new ≡ K.written sink.old) }
-    ensures cause { result ≡ Reported.SinkFailed → Rose (K.faults sink.old) (K.faults sink.new) }
-    ensures never_refused { result ≢ Reported.Refused }
-    ensures reading { (result ≢ Reported.SourceFailed) × (result ≢ Reported.TooLong) }
+fn end_games<K: Sink>(alloc: Global, totals: &Summary, sink: &mut K) -> Status
+    ensures whole { result ≡ Status.Done → Appends (K.written sink.old) (K.written sink.new) (game_summary_text totals.now) }
+    ensures cut { result ≡ Status.WriteFault → (n : ℕ) × Appends (K.written sink.old) (K.written sink.new) (take n (game_summary_text totals.now)) }
+    ensures refused { result ≡ Status.NoMemory → (K.written sink.new ≡ K.written sink.old) }
+    ensures cause { result ≡ Status.WriteFault → Rose (K.faults sink.old) (K.faults sink.new) }
+    ensures either { (result ≡ Status.Done) ⊎ ((result ≡ Status.WriteFault) ⊎ (result ≡ Status.NoMemory)) }
     ensures later { K.faults sink.old ≤ K.faults sink.new }
 {
     let Ok(summary) = game_summary(alloc, &totals) else {
-        return Reported::NoMemory;
+        return Status::NoMemory;
     };
     finish(sink, summary.items())
 }

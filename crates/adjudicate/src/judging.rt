@@ -1,7 +1,8 @@
 //! What is found about one item of the input.
 
 ghost use Rattle.std.specs.Prelude.{◌≡◌, ◌||◌, Bool, IfOk};
-ghost use Rattle.flag_report.specs.Verdicts.{is_undecided as is_undecided_verdict};
+ghost use Rattle.cha_verdict.specs.Verdicts.{is_undecided as is_undecided_verdict};
+ghost use Rattle.cha_verdict.specs.Bounds.{Bounds};
 ghost use Rattle.adjudicate.specs.Outcomes.{line_item};
 ghost use Rattle.adjudicate.specs.Outcomes.Item.{PositionLine, RefusedLine};
 ghost use Rattle.adjudicate.specs.Steps.{Judges, HasRoom, counted_as};
@@ -10,7 +11,9 @@ use cha_board::{Color, Position};
 use cha_decide::decide;
 use cha_fen::{FenFault, read};
 use cha_list::{NoMemory, Text};
-use flag_report::{Summary, Verdict, has_dead_state, is_undecided, position_block, refused_block};
+use cha_moves::state;
+use cha_verdict::{Limits, Verdict, is_undecided};
+use flag_report::{Summary, has_dead_state, position_block, refused_block};
 use std::alloc::Global;
 
 /// The block of an item, and what it adds to the last line.
@@ -27,17 +30,18 @@ const MOST_LINE_BYTES: usize = 4096;
 pub fn judge_line(
     alloc: Global,
     line: &[u8],
+    limits: &Limits,
     certs: bool,
     totals: &Summary,
 ) -> Result<Judged, NoMemory>
     requires { HasRoom totals.now }
-    ensures { IfOk result (Judges certs (line_item line.now) totals.now) }
+    ensures { IfOk result (Judges limits.now certs (line_item line.now) totals.now) }
 {
     if line.len() > MOST_LINE_BYTES {
         return refuse(alloc, FenFault::Shape, totals);
     }
     match read(line) {
-        Ok(position) => judge_position(alloc, &position, certs, totals),
+        Ok(position) => judge_position(alloc, &position, limits, certs, totals),
         Err(fault) => refuse(alloc, fault, totals),
     }
 }
@@ -46,17 +50,27 @@ pub fn judge_line(
 fn judge_position(
     alloc: Global,
     position: &Position,
+    limits: &Limits,
     certs: bool,
     totals: &Summary,
 ) -> Result<Judged, NoMemory>
     requires { HasRoom totals.now }
-    ensures { IfOk result (Judges certs (PositionLine position.now) totals.now) }
+    ensures { IfOk result (Judges limits.now certs (PositionLine position.now) totals.now) }
 {
-    let decision = decide(alloc, position, Color::White)?;
+    let decision = decide(alloc, position, Color::White, limits)?;
+    let standing = state(position);
     let white = &decision.white;
     let black = &decision.black;
-    let block = position_block(alloc, totals.items + 1, position, white, black, certs)?;
-    let dead = has_dead_state(position, white, black);
+    let block = position_block(
+        alloc,
+        totals.items + 1,
+        position,
+        standing,
+        white,
+        black,
+        certs,
+    )?;
+    let dead = has_dead_state(standing, white, black);
     Ok(Judged {
         block,
         totals: with_one(totals, false, dead, some_undecided(white, black)),
@@ -73,7 +87,7 @@ pub fn some_undecided(white: &Verdict, black: &Verdict) -> bool
 /// Refuses a line that is no position.
 fn refuse(alloc: Global, fault: FenFault, totals: &Summary) -> Result<Judged, NoMemory>
     requires { HasRoom totals.now }
-    ensures { (certs : Bool) → IfOk result (Judges certs (RefusedLine fault) totals.now) }
+    ensures { (limits : Bounds) (certs : Bool) → IfOk result (Judges limits certs (RefusedLine fault) totals.now) }
 {
     Ok(Judged {
         block: refused_block(alloc, totals.items + 1, fault)?,

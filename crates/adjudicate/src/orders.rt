@@ -1,18 +1,24 @@
 //! The language of the command words.
 
 ghost use Rattle.std.specs.Prelude.{◌≡◌};
-ghost use Rattle.adjudicate.specs.Words.{order, order_of_word, order_with_certs};
+ghost use Rattle.adjudicate.specs.Words.{order, order_of_word, order_with_certs, usual_limits as usual_limits_bounds};
+
+use cha_verdict::Limits;
 
 /// What the words order.
 #[derive(Clone, Copy, Debug, PartialEq, Eq)]
 pub enum Order {
     /// `adjudicate`: judge each game of the input, which is in PGN.
     AdjudicateGames {
+        /// What a search may spend on a side.
+        limits: Limits,
         /// Whether the certificates of sides that cannot mate are printed.
         certs: bool,
     },
     /// `position`: judge each line of the input as a position in FEN.
     JudgePositions {
+        /// What a search may spend on a side.
+        limits: Limits,
         /// Whether the certificates of sides that cannot mate are printed.
         certs: bool,
     },
@@ -39,14 +45,27 @@ pub fn ordered(words: &[String]) -> Option<Order>
     }
 }
 
+/// What a search may spend where the words do not say it.
+fn usual_limits() -> Limits
+    ensures { result ≡ usual_limits_bounds }
+{
+    Limits::new(20_000, 2, 1, 4_096)
+}
+
 /// What one word orders.
 fn ordered_by(word: &str) -> Option<Order>
     ensures { result ≡ order_of_word word.now }
 {
     if word == "adjudicate" {
-        Some(Order::AdjudicateGames { certs: false })
+        Some(Order::AdjudicateGames {
+            limits: usual_limits(),
+            certs: false,
+        })
     } else if word == "position" {
-        Some(Order::JudgePositions { certs: false })
+        Some(Order::JudgePositions {
+            limits: usual_limits(),
+            certs: false,
+        })
     } else if word == "check" {
         Some(Order::CheckCert)
     } else {
@@ -59,9 +78,15 @@ fn ordered_with_certs(word: &str) -> Option<Order>
     ensures { result ≡ order_with_certs word.now }
 {
     if word == "adjudicate" {
-        Some(Order::AdjudicateGames { certs: true })
+        Some(Order::AdjudicateGames {
+            limits: usual_limits(),
+            certs: true,
+        })
     } else if word == "position" {
-        Some(Order::JudgePositions { certs: true })
+        Some(Order::JudgePositions {
+            limits: usual_limits(),
+            certs: true,
+        })
     } else {
         None
     }

@@ -5,6 +5,7 @@ ghost use Rattle.adjudicate.specs.Outcomes.{game_item, played_item, stopped_by};
 ghost use Rattle.flag_report.specs.Reasons.{IsOfGame, IsOfWord};
 ghost use Rattle.std.specs.Bool.{OnTrue, OnFalse};
 ghost use Rattle.cha_san.specs.Playing.{positions};
+ghost use Rattle.cha_verdict.specs.Bounds.{Bounds};
 ghost use Rattle.adjudicate.specs.Outcomes.Item.{PlayedGame, UnreadableGame};
 ghost use Rattle.adjudicate.specs.Steps.{Judges, HasRoom};
 
@@ -14,9 +15,9 @@ use cha_decide::decide;
 use cha_list::{NoMemory, Text, text_of};
 use cha_moves::state;
 use cha_san::{PlayFault, SanFault, play};
+use cha_verdict::Limits;
 use flag_report::{
-    Summary, Unreadable, changes_result, first_examined, game_block, ruling,
-    unreadable_block,
+    Summary, Unreadable, changes_result, first_examined, game_block, ruling, unreadable_block,
 };
 use pgn_games::{Game, ResultMark};
 use std::alloc::Global;
@@ -26,16 +27,17 @@ use std::alloc::Global;
 pub fn judge_game(
     alloc: Global,
     game: Game,
+    limits: &Limits,
     certs: bool,
     totals: &Summary,
 ) -> Result<Judged, NoMemory>
     requires room { HasRoom totals.now }
     requires few { game.fault ≡ None → length game.words ≤ 12000 }
-    ensures { IfOk result (Judges certs (game_item game) totals.now) }
+    ensures { IfOk result (Judges limits.now certs (game_item game) totals.now) }
 {
     match game.fault {
         Some(fault) => give_up(alloc, &Unreadable::Tokens(fault), totals),
-        None => judge_played(alloc, &game, certs, totals),
+        None => judge_played(alloc, &game, limits, certs, totals),
     }
 }
 
@@ -43,19 +45,28 @@ pub fn judge_game(
 fn judge_played(
     alloc: Global,
     game: &Game,
+    limits: &Limits,
     certs: bool,
     totals: &Summary,
 ) -> Result<Judged, NoMemory>
     requires room { HasRoom totals.now }
     requires readable { game.now.fault ≡ None }
     requires few { length game.now.words ≤ 12000 }
-    ensures { IfOk result (Judges certs (played_item game.now (positions game.now.start game.now.words)) totals.now) }
+    ensures { IfOk result (Judges limits.now certs (played_item game.now (positions game.now.start game.now.words)) totals.now) }
 {
     match play(alloc, game) {
         Ok(played) => {
             let all = played.items();
             let last = all[all.len() - 1];
-            judge_final(alloc, &last, game.recorded, game.forfeit, certs, totals)
+            judge_final(
+                alloc,
+                &last,
+                game.recorded,
+                game.forfeit,
+                limits,
+                certs,
+                totals,
+            )
         }
         Err(stop) => {
             if lacks_memory(stop.fault) {
@@ -72,19 +83,21 @@ fn judge_final(
     position: &Position,
     recorded: ResultMark,
     forfeit: bool,
+    limits: &Limits,
     certs: bool,
     totals: &Summary,
 ) -> Result<Judged, NoMemory>
     requires { HasRoom totals.now }
-    ensures { IfOk result (Judges certs (PlayedGame position.now recorded forfeit) totals.now) }
+    ensures { IfOk result (Judges limits.now certs (PlayedGame position.now recorded forfeit) totals.now) }
 {
-    let decision = decide(alloc, position, first_examined(recorded))?;
+    let decision = decide(alloc, position, first_examined(recorded), limits)?;
+    let standing = state(position);
     let white = &decision.white;
     let black = &decision.black;
-    let judgment = ruling(state(position), recorded, forfeit, white, black);
+    let judgment = ruling(standing, recorded, forfeit, white, black);
     let number = totals.items + 1;
     let block = game_block(
-        alloc, number, position, recorded, white, black, judgment, certs,
+        alloc, number, position, standing, recorded, white, black, judgment, certs,
     )?;
     let changed = changes_result(recorded, judgment);
     Ok(Judged {
@@ -103,7 +116,7 @@ fn judge_stopped(
     requires room { HasRoom totals.now }
     requires of_word { IsOfWord stop.fault }
     requires inside { (1 ≤ stop.ply) × (stop.ply ≤ length game.now.words) }
-    ensures { (certs : Bool) → IfOk result (Judges certs (UnreadableGame (stopped_by game.now stop)) totals.now) }
+    ensures { (limits : Bounds) (certs : Bool) → IfOk result (Judges limits certs (UnreadableGame (stopped_by game.now stop)) totals.now) }
 {
     let word = &game.words.items()[stop.ply as usize - 1];
     let why = Unreadable::Moves {
@@ -131,7 +144,7 @@ fn lacks_memory(fault: SanFault) -> bool
 fn give_up(alloc: Global, why: &Unreadable, totals: &Summary) -> Result<Judged, NoMemory>
     requires room { HasRoom totals.now }
     requires of_game { IsOfGame why.now }
-    ensures { (certs : Bool) → IfOk result (Judges certs (UnreadableGame why.now) totals.now) }
+    ensures { (limits : Bounds) (certs : Bool) → IfOk result (Judges limits certs (UnreadableGame why.now) totals.now) }
 {
     Ok(Judged {
         block: unreadable_block(alloc, totals.items + 1, why)?,

@@ -3,7 +3,7 @@ mod Cutting
 mod Writing
 mod Going
 mod Parts
-mod Spelling
+pub mod Spelling
 mod Plain
 mod LinesAgain
 mod Rereading

@@ -1,4 +1,4 @@
 mod Finding
-mod Bounded
+pub mod Bounded
 mod Answering
 mod Leading

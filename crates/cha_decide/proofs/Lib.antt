@@ -2,3 +2,4 @@ pub mod Pieces
 pub mod Lines
 pub mod Leaves
 pub mod Examples
+pub mod Both

@@ -11,7 +11,7 @@ use Rattle.cha_moves.specs.Step.{Move}
 use Rattle.cha_moves.specs.Moves.{after, legal}
 use Rattle.cha_moves.specs.Ends.{IsMatingLine, HasNoMateWithin}
 use Rattle.cha_moves.specs.MateLines.{is_mated, mate_lines}
-use Rattle.cha_decide.specs.Sound.{IsShortestMate, searched_plies}
+use Rattle.cha_verdict.specs.Sound.{IsShortestMate}
 use Rattle.cha_moves.proofs.MateLines.{begun, mating_line, line_of_mate}
 use Rattle.cha_decide.proofs.Pieces.{contains_first_of, contains_none, empty_without_first, without_piece, first_in_piece, first_image, no_piece, no_pieces}
 
@@ -25,9 +25,9 @@ pub none_within : (d : ℕ) (q : Board) (winner : Color) → ((k : ℕ) → k < 
 none_within d q winner none ms few h = none_of_length (length ms) q winner (none (length ms) (omega arith)) ms refl h
 
 -- the first list of n moves that mates, where none of fewer moves does
-pub shortest : (n : ℕ) (q : Board) (winner : Color) (ms : List Move) → n ≤ searched_plies → ((k : ℕ) → k < n → mate_lines k q winner ≡ [])
-    → slice_get (mate_lines n q winner) 0 ≡ Some ms → IsShortestMate q winner ms
-shortest n q winner ms few none first =
+pub shortest : (n plies : ℕ) (q : Board) (winner : Color) (ms : List Move) → n ≤ plies → ((k : ℕ) → k < n → mate_lines k q winner ≡ [])
+    → slice_get (mate_lines n q winner) 0 ≡ Some ms → IsShortestMate q winner plies ms
+shortest n plies q winner ms few none first =
     let line = mating_line n q winner ms (contains_first_of (mate_lines n q winner) ms first) in
     record {
       mates = line.0;
@@ -78,8 +78,8 @@ none_below_one q winner h zero small = not_on_board q winner h
 none_below_one q winner h (suc k) small = absurd (omega arith)
 
 -- a mate on the board is the shortest
-pub on_board_shortest : (q : Board) (winner : Color) → is_mated q (other_color winner) ≡ true → IsShortestMate q winner []
-on_board_shortest q winner h = shortest 0 q winner [] (omega arith) (λ k small. absurd (omega arith)) (on_board q winner h)
+pub on_board_shortest : (plies : ℕ) (q : Board) (winner : Color) → is_mated q (other_color winner) ≡ true → IsShortestMate q winner plies []
+on_board_shortest plies q winner h = shortest 0 plies q winner [] (omega arith) (λ k small. absurd (omega arith)) (on_board q winner h)
 
 flips : (a b : Color) → same_color (other_color a) b ≡ not (same_color a b)
 flips White White = refl

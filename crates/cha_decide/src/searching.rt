@@ -5,15 +5,12 @@ ghost use Rattle.std.specs.Bool.{OnFalse};
 ghost use Rattle.cha_board.specs.Men.{other_color};
 ghost use Rattle.cha_moves.specs.Ends.{HasNoMateWithin};
 ghost use Rattle.cha_moves.specs.MateLines.{is_mated, mate_lines};
-ghost use Rattle.cha_decide.specs.Sound.{IsShortestMate, searched_plies};
+ghost use Rattle.cha_verdict.specs.Sound.{IsShortestMate};
 
 use cha_board::{Color, Position};
 use cha_list::NoMemory;
 use cha_moves::{Move, Moves, after, is_mate, legal};
 use std::alloc::Global;
-
-/// How many plies are searched for a mate.
-pub const SEARCHED_PLIES: u8 = 2;
 
 /// A move and the moves behind it.
 fn line_of(first: Move, rest: Moves) -> Result<Moves, NoMemory>
@@ -69,18 +66,19 @@ fn first_mate(
     Ok(None)
 }
 
-/// The first of the shortest lists of one move to `SEARCHED_PLIES` moves that mate for a side, if there is one. The side
-/// has not mated yet.
+/// The first of the shortest lists of one move to so many moves that mate for a side, if there is one. The side has not
+/// mated yet.
 #[tactic(auto, using(crate::proofs::Lines::none_below_one))]
 pub fn shortest_mate(
     alloc: Global,
     position: &Position,
     winner: Color,
+    plies: u8,
 ) -> Result<Option<Moves>, NoMemory>
     requires { is_mated position.now (other_color winner) ≡ false }
-    ensures { IfOk result (λ found. MatchOption found (HasNoMateWithin position.now winner searched_plies) (λ moves. IsShortestMate position.now winner moves)) }
+    ensures { IfOk result (λ found. MatchOption found (HasNoMateWithin position.now winner plies) (λ moves. IsShortestMate position.now winner plies moves)) }
 {
-    for shorter in 0..SEARCHED_PLIES {
+    for shorter in 0..plies {
         match first_mate(alloc, position, winner, shorter + 1)? {
             Some(moves) => return Ok(Some(moves)),
             None => {}

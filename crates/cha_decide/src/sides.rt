@@ -1,22 +1,23 @@
 //! The verdict on one side of a position.
 
 ghost use Rattle.cha_board.specs.Men.{other_color};
-ghost use Rattle.std.specs.Prelude.{◌≡◌, false, [], ◌∷◌, MatchOption, IfOk};
+ghost use Rattle.std.specs.Prelude.{◌≡◌, true, false, [], ◌∷◌, MatchOption, IfOk};
 ghost use Rattle.cha_cert.specs.declared.nodes.Part.TheVariants.{Leaf};
-ghost use Rattle.flag_report.specs.Verdicts.{is_skipped};
+ghost use Rattle.cha_verdict.specs.Verdicts.{is_unwinnable, is_skipped, IsPrintable};
 ghost use Rattle.mob_law.specs.Closed.{IsClosed};
 ghost use Rattle.mob_law.specs.Static.{IsStaticallyUnwinnable};
 ghost use Rattle.mob_law.specs.Threats.{HasNoMate};
 ghost use Rattle.mob_sets.specs.Rows.{sets_of};
 ghost use Rattle.cha_moves.specs.MateLines.{is_mated};
-ghost use Rattle.cha_decide.specs.Sound.{IsTrueOf, IsShownUnwinnable};
+ghost use Rattle.cha_verdict.specs.Sound.{IsTrueOf};
+ghost use Rattle.cha_decide.specs.Shown.{IsShownUnwinnable};
 
-use crate::searching::{SEARCHED_PLIES, shortest_mate};
+use crate::searching::shortest_mate;
 use cha_board::{Color, Position};
 use cha_cert::{Cert, Checked, Node, Part, check};
 use cha_list::NoMemory;
 use cha_moves::{Moves, is_mate};
-use flag_report::Verdict;
+use cha_verdict::{Limits, Verdict};
 use mob_sets::Sets;
 use mob_solve::static_verdict;
 use std::alloc::Global;
@@ -70,23 +71,37 @@ fn shown_unwinnable(
 }
 
 /// The verdict of the search on a side that has not mated, and that no mobility sets show unable to mate.
-fn searched(alloc: Global, position: &Position, winner: Color) -> Result<Verdict, NoMemory>
+fn searched(
+    alloc: Global,
+    position: &Position,
+    winner: Color,
+    limits: &Limits,
+) -> Result<Verdict, NoMemory>
     requires unmated { is_mated position.now (other_color winner) ≡ false }
     requires unshown { IsStaticallyUnwinnable position.now winner → ⊥ }
-    ensures holds { IfOk result (λ verdict. IsTrueOf position.now winner verdict) }
+    ensures holds { IfOk result (λ verdict. IsTrueOf position.now winner limits.now verdict) }
+    ensures shown { IfOk result (λ verdict. is_unwinnable verdict ≡ true → IsStaticallyUnwinnable position.now winner) }
+    ensures printable { IfOk result (λ verdict. IsPrintable verdict) }
     ensures examined { IfOk result (λ verdict. is_skipped verdict ≡ false) }
 {
-    match shortest_mate(alloc, position, winner)? {
+    match shortest_mate(alloc, position, winner, limits.depth())? {
         Some(moves) => Ok(Verdict::Winnable(moves)),
         None => Ok(Verdict::Undecided {
-            depth: SEARCHED_PLIES,
+            depth: limits.depth(),
         }),
     }
 }
 
 /// The verdict on a side: a mate on the board, then the static verdict, then the search.
-pub fn examine(alloc: Global, position: &Position, winner: Color) -> Result<Verdict, NoMemory>
-    ensures holds { IfOk result (λ verdict. IsTrueOf position.now winner verdict) }
+pub fn examine(
+    alloc: Global,
+    position: &Position,
+    winner: Color,
+    limits: &Limits,
+) -> Result<Verdict, NoMemory>
+    ensures holds { IfOk result (λ verdict. IsTrueOf position.now winner limits.now verdict) }
+    ensures shown { IfOk result (λ verdict. is_unwinnable verdict ≡ true → IsStaticallyUnwinnable position.now winner) }
+    ensures printable { IfOk result (λ verdict. IsPrintable verdict) }
     ensures examined { IfOk result (λ verdict. is_skipped verdict ≡ false) }
 {
     if is_mate(position, winner) {
@@ -94,6 +109,6 @@ pub fn examine(alloc: Global, position: &Position, winner: Color) -> Result<Verd
     }
     match shown_unwinnable(alloc, position, winner)? {
         Some(cert) => Ok(Verdict::Unwinnable(cert)),
-        None => searched(alloc, position, winner),
+        None => searched(alloc, position, winner, limits),
     }
 }

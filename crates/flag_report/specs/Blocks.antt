@@ -10,10 +10,9 @@ use Rattle.cha_moves.specs.Texts.{move_bytes}
 use Rattle.cha_moves.specs.declared.ends.Standing.{Standing}
 use Rattle.cha_moves.specs.declared.ends.Standing.TheVariants.{Mate, Stalemate, Running}
 use Rattle.cert_text.specs.Spelled.{cert_text}
-use Rattle.cha_moves.specs.Standings.{standing_of}
-use Rattle.flag_report.specs.declared.found.Verdict.{Verdict}
-use Rattle.flag_report.specs.declared.found.Verdict.TheVariants.{Winnable, Unwinnable, Undecided, Skipped}
-use Rattle.flag_report.specs.Verdicts.{is_winnable, are_dead}
+use Rattle.cha_verdict.specs.declared.verdicts.Verdict.{Verdict}
+use Rattle.cha_verdict.specs.declared.verdicts.Verdict.TheVariants.{Winnable, Unwinnable, Undecided, Skipped}
+use Rattle.cha_verdict.specs.Verdicts.{is_winnable, are_dead}
 use Rattle.flag_report.specs.Reasons.{fen_fault_text}
 
 -- a line
@@ -64,29 +63,25 @@ status_text (Mate winner) white black = codes "checkmate"
 status_text Stalemate white black = codes "stalemate"
 status_text Running white black = open_status_text white black
 
--- neither mate nor stalemate, and neither side can mate
-abbrev pub is_dead_standing : Standing → Verdict → Verdict → Bool
-is_dead_standing (Mate winner) white black = false
-is_dead_standing Stalemate white black = false
-is_dead_standing Running white black = are_dead white black
-
--- the state of a position is `dead`
-unfoldable pub has_dead_status : Board → Verdict → Verdict → Bool
-has_dead_status q white black = is_dead_standing (standing_of q) white black
+-- the state of a position is `dead`: neither mate nor stalemate, and neither side can mate
+unfoldable pub has_dead_status : Standing → Verdict → Verdict → Bool
+has_dead_status (Mate winner) white black = false
+has_dead_status Stalemate white black = false
+has_dead_status Running white black = are_dead white black
 
 -- the four lines on a position that positions and games share, with the certificates of the sides between them
-unfoldable pub findings_text : Board → Verdict → Verdict → Bool → List ℕ
-findings_text q white black certs =
+unfoldable pub findings_text : Board → Standing → Verdict → Verdict → Bool → List ℕ
+findings_text q standing white black certs =
     line (codes "fen: " ++ fen_text q) ++ side_text (codes "white: ") White white certs ++ side_text (codes "black: ") Black black certs
-    ++ line (codes "status: " ++ status_text (standing_of q) white black)
+    ++ line (codes "status: " ++ status_text standing white black)
 
 -- the first line of the block of a position
 abbrev pub position_heading : ℕ → List ℕ
 position_heading number = line (count_text (codes "position ") number)
 
 -- the block of a position
-unfoldable pub position_text : ℕ → Board → Verdict → Verdict → Bool → List ℕ
-position_text number q white black certs = position_heading number ++ findings_text q white black certs
+unfoldable pub position_text : ℕ → Board → Standing → Verdict → Verdict → Bool → List ℕ
+position_text number q standing white black certs = position_heading number ++ findings_text q standing white black certs
 
 -- the block of a line that is no position
 unfoldable pub refused_text : ℕ → FenFault → List ℕ

@@ -1,9 +1,10 @@
 -- The texts that are printed for games (this project).
 use Rattle.std.specs.Prelude.{ℕ, Bool, List, ◌++◌, codes}
 use Rattle.cha_board.specs.Board.{Board}
+use Rattle.cha_moves.specs.declared.ends.Standing.{Standing}
 use Rattle.pgn_games.specs.declared.marks.ResultMark.{ResultMark}
 use Rattle.pgn_games.specs.declared.marks.ResultMark.TheVariants.{WhiteWins, BlackWins, Draw, Unknown}
-use Rattle.flag_report.specs.declared.found.Verdict.{Verdict}
+use Rattle.cha_verdict.specs.declared.verdicts.Verdict.{Verdict}
 use Rattle.flag_report.specs.declared.rulings.Cause.{Cause}
 use Rattle.flag_report.specs.declared.rulings.Cause.TheVariants.{Mate511, Stalemate521, Dead522, Flag69, Recorded, RecordedUndecided}
 use Rattle.flag_report.specs.declared.rulings.Judgment.{Judgment}
@@ -37,9 +38,9 @@ result_line recorded ruling =
     line (codes "result: " ++ mark_text recorded ++ codes " -> " ++ mark_text ruling.mark ++ codes " " ++ cause_text ruling.cause)
 
 -- the block of a game, of its final position and the verdicts on it
-unfoldable pub game_text : ℕ → Board → ResultMark → Verdict → Verdict → Judgment → Bool → List ℕ
-game_text number q recorded white black ruling certs =
-    game_heading number ++ findings_text q white black certs ++ result_line recorded ruling
+unfoldable pub game_text : ℕ → Board → Standing → ResultMark → Verdict → Verdict → Judgment → Bool → List ℕ
+game_text number q standing recorded white black ruling certs =
+    game_heading number ++ findings_text q standing white black certs ++ result_line recorded ruling
 
 -- the block of a game that cannot be read
 unfoldable pub unreadable_text : ℕ → Unreadable → List ℕ

@@ -1,4 +1,3 @@
-pub mod Verdicts
 pub mod Rulings
 pub mod Reasons
 pub mod Blocks

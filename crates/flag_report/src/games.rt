@@ -4,14 +4,15 @@ ghost use Rattle.std.specs.Prelude.{◌≡◌, ◌++◌, OnOk, IfOk, codes};
 ghost use Rattle.flag_report.specs.Blocks.{line};
 ghost use Rattle.flag_report.specs.Games.{mark_text, cause_text, result_line, game_text, unreadable_text};
 ghost use Rattle.flag_report.specs.Reasons.{IsOfGame, reason_text};
-ghost use Rattle.flag_report.specs.Verdicts.{IsPrintable};
+ghost use Rattle.cha_verdict.specs.Verdicts.{IsPrintable};
 
-use crate::found::Verdict;
 use crate::pieces::{put_count_line, put_findings};
 use crate::reasons::{Unreadable, put_reason};
 use crate::rulings::{Cause, Judgment};
 use cha_board::Position;
 use cha_list::{NoMemory, Text};
+use cha_moves::Standing;
+use cha_verdict::Verdict;
 use pgn_games::ResultMark;
 use std::alloc::Global;
 
@@ -59,7 +60,7 @@ fn put_result(recorded: ResultMark, ruling: Judgment, text: &mut Text) -> Result
 }
 
 /// The block of a game with this number: the FEN of its final position, the verdicts on both sides, the state of the
-/// position, and the result.
+/// position, by how it stands, and the result.
 ///
 /// ```text
 /// game 1
@@ -76,6 +77,7 @@ pub fn game_block(
     alloc: Global,
     number: u64,
     position: &Position,
+    standing: Standing,
     recorded: ResultMark,
     white: &Verdict,
     black: &Verdict,
@@ -84,11 +86,11 @@ pub fn game_block(
 ) -> Result<Text, NoMemory>
     requires white { IsPrintable white.now }
     requires black { IsPrintable black.now }
-    ensures { IfOk result (λ text. text ≡ game_text number position.now recorded white.now black.now ruling certs) }
+    ensures { IfOk result (λ text. text ≡ game_text number position.now standing recorded white.now black.now ruling certs) }
 {
     let mut text = Text::new(alloc);
     put_count_line(alloc, b"game ", number, &mut text)?;
-    put_findings(alloc, position, white, black, certs, &mut text)?;
+    put_findings(alloc, position, standing, white, black, certs, &mut text)?;
     put_result(recorded, ruling, &mut text)?;
     Ok(text)
 }

@@ -1,13 +1,12 @@
 //! What the program prints: the results of games, verdicts, blocks and summaries.
 //!
-//! `found` has the verdicts on a side, `rulings` the result of a game, `status` the state of a position, `reasons` why an
+//! `rulings` has the result of a game, `status` the state of a position, `reasons` why an
 //! item cannot be read, `pieces` what all blocks share, `games` and `positions` the blocks, `totals` the last line, and
 //! `checks` the lines on certificates that were checked. Each call that gives a text takes memory for it, and its only error
 //! is want of memory.
 #![tactic(auto)]
 
 mod checks;
-mod found;
 mod games;
 mod pieces;
 mod positions;
@@ -16,8 +15,8 @@ mod rulings;
 mod status;
 mod totals;
 
+pub use cha_verdict::{Decision, Limits, Verdict};
 pub use checks::{accepted_line, failing_line, misfit_line};
-pub use found::{Verdict, is_undecided, is_unwinnable, is_winnable};
 pub use games::{game_block, unreadable_block};
 pub use positions::{position_block, refused_block};
 pub use reasons::Unreadable;

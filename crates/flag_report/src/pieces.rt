@@ -2,31 +2,23 @@
 
 ghost use Rattle.std.specs.Prelude.{◌≡◌, ◌++◌, OnOk, decimal, codes};
 ghost use Rattle.flag_report.specs.Blocks.{line, count_text, moves_text, winnable_text, verdict_text, cert_part, side_text, findings_text};
-ghost use Rattle.flag_report.specs.Verdicts.{IsPrintable};
+ghost use Rattle.cha_verdict.specs.Verdicts.{IsPrintable};
 ghost use Rattle.cha_fen.specs.Written.{fen_text};
 
-use crate::found::Verdict;
 use crate::status::put_status;
 use cha_board::{Color, Position};
 use cha_fen::write;
 use cha_list::{NoMemory, Text};
-use cha_moves::{Move, move_text, state};
+use cha_moves::{Move, Standing, move_text};
+use cha_verdict::Verdict;
 use std::alloc::Global;
-
-/// Appends a number in decimal digits.
-pub fn put_number(alloc: Global, number: u64, text: &mut Text) -> Result<(), NoMemory>
-    ensures { OnOk result (text.new ≡ text.old ++ decimal number) }
-{
-    let digits = format!(in alloc; "{number}")?;
-    text.append(digits.as_bytes())
-}
 
 /// Appends a count behind its label.
 pub fn put_count(alloc: Global, label: &[u8], count: u64, text: &mut Text) -> Result<(), NoMemory>
     ensures { OnOk result (text.new ≡ text.old ++ count_text label.now count) }
 {
     text.append(label)?;
-    put_number(alloc, count, text)?;
+    text.append_decimal(alloc, count)?;
     Ok(())
 }
 
@@ -65,7 +57,7 @@ fn put_winnable(alloc: Global, moves: &[Move], text: &mut Text) -> Result<(), No
         return text.append(b"winnable in 0");
     }
     text.append(b"winnable in ")?;
-    put_number(alloc, moves.len() as u64, text)?;
+    text.append_decimal(alloc, moves.len() as u64)?;
     text.append(b":")?;
     put_moves(moves, text)
 }
@@ -147,6 +139,7 @@ fn put_fen(alloc: Global, position: &Position, text: &mut Text) -> Result<(), No
 pub fn put_findings(
     alloc: Global,
     position: &Position,
+    standing: Standing,
     white: &Verdict,
     black: &Verdict,
     certs: bool,
@@ -154,13 +147,13 @@ pub fn put_findings(
 ) -> Result<(), NoMemory>
     requires white { IsPrintable white.now }
     requires black { IsPrintable black.now }
-    ensures { OnOk result (text.new ≡ text.old ++ findings_text position.now white.now black.now certs) }
+    ensures { OnOk result (text.new ≡ text.old ++ findings_text position.now standing white.now black.now certs) }
 {
     put_fen(alloc, position, text)?;
     put_side(alloc, b"white: ", Color::White, white, certs, text)?;
     put_side(alloc, b"black: ", Color::Black, black, certs, text)?;
     text.append(b"status: ")?;
-    put_status(state(position), white, black, text)?;
+    put_status(standing, white, black, text)?;
     text.append(b"\n")?;
     Ok(())
 }

@@ -2,17 +2,18 @@
 
 ghost use Rattle.std.specs.Prelude.{◌≡◌, IfOk};
 ghost use Rattle.flag_report.specs.Blocks.{position_text, refused_text};
-ghost use Rattle.flag_report.specs.Verdicts.{IsPrintable};
+ghost use Rattle.cha_verdict.specs.Verdicts.{IsPrintable};
 
-use crate::found::Verdict;
 use crate::pieces::{put_count_line, put_findings};
 use crate::reasons::put_fen_fault;
 use cha_board::Position;
 use cha_fen::FenFault;
 use cha_list::{NoMemory, Text};
+use cha_moves::Standing;
+use cha_verdict::Verdict;
 use std::alloc::Global;
 
-/// The block of a position with this number: its FEN, the verdicts on both sides, and its state.
+/// The block of a position with this number: its FEN, the verdicts on both sides, and its state, by how it stands.
 ///
 /// ```text
 /// position 1
@@ -28,17 +29,18 @@ pub fn position_block(
     alloc: Global,
     number: u64,
     position: &Position,
+    standing: Standing,
     white: &Verdict,
     black: &Verdict,
     certs: bool,
 ) -> Result<Text, NoMemory>
     requires white { IsPrintable white.now }
     requires black { IsPrintable black.now }
-    ensures { IfOk result (λ text. text ≡ position_text number position.now white.now black.now certs) }
+    ensures { IfOk result (λ text. text ≡ position_text number position.now standing white.now black.now certs) }
 {
     let mut text = Text::new(alloc);
     put_count_line(alloc, b"position ", number, &mut text)?;
-    put_findings(alloc, position, white, black, certs, &mut text)?;
+    put_findings(alloc, position, standing, white, black, certs, &mut text)?;
     Ok(text)
 }
 

@@ -3,10 +3,9 @@
 ghost use Rattle.std.specs.Prelude.{◌≡◌};
 ghost use Rattle.flag_report.specs.Rulings.{win_of, winner_ruling_of, running_ruling_of, ruling_of, first_of, is_changed};
 
-use crate::found::{Verdict, is_undecided, is_unwinnable};
-use crate::status::is_dead;
 use cha_board::Color;
 use cha_moves::Standing;
+use cha_verdict::{Verdict, are_dead, is_undecided, is_unwinnable};
 use pgn_games::ResultMark;
 
 /// Why a game has its result.
@@ -72,7 +71,7 @@ fn winner_ruling(recorded: ResultMark, forfeit: bool, winner: &Verdict) -> Judgm
 fn running_ruling(recorded: ResultMark, forfeit: bool, white: &Verdict, black: &Verdict) -> Judgment
     ensures { result ≡ running_ruling_of recorded forfeit white.now black.now }
 {
-    if is_dead(white, black) {
+    if are_dead(white, black) {
         return Judgment {
             mark: ResultMark::Draw,
             cause: Cause::Dead522,

@@ -2,29 +2,20 @@
 
 ghost use Rattle.std.specs.Prelude.{◌≡◌, ◌++◌, OnOk};
 ghost use Rattle.flag_report.specs.Blocks.{open_status_text, has_dead_status, status_text};
-ghost use Rattle.flag_report.specs.Verdicts.{are_dead};
 
-use crate::found::{Verdict, is_unwinnable, is_winnable};
-use cha_board::Position;
 use cha_list::{NoMemory, Text};
-use cha_moves::{Standing, state};
+use cha_moves::Standing;
+use cha_verdict::{Verdict, are_dead, is_winnable};
 
-/// Whether neither side can mate.
-pub fn is_dead(white: &Verdict, black: &Verdict) -> bool
-    ensures { result ≡ are_dead white.now black.now }
-{
-    is_unwinnable(white) && is_unwinnable(black)
-}
-
-/// Whether the state of a position is `dead`: neither mate nor stalemate, and neither side can mate.
+/// Whether the state of a position is `dead`, by how it stands: neither mate nor stalemate, and neither side can mate.
 #[tactic(auto, unfolding(crate::specs::Blocks::has_dead_status))]
-pub fn has_dead_state(position: &Position, white: &Verdict, black: &Verdict) -> bool
-    ensures { result ≡ has_dead_status position.now white.now black.now }
+pub fn has_dead_state(standing: Standing, white: &Verdict, black: &Verdict) -> bool
+    ensures { result ≡ has_dead_status standing white.now black.now }
 {
-    match state(position) {
+    match standing {
         Standing::Mate(_) => false,
         Standing::Stalemate => false,
-        Standing::Running => is_dead(white, black),
+        Standing::Running => are_dead(white, black),
     }
 }
 
@@ -33,7 +24,7 @@ pub fn has_dead_state(position: &Position, white: &Verdict, black: &Verdict) -> 
 fn put_open_status(white: &Verdict, black: &Verdict, text: &mut Text) -> Result<(), NoMemory>
     ensures { OnOk result (text.new ≡ text.old ++ open_status_text white.now black.now) }
 {
-    if is_dead(white, black) {
+    if are_dead(white, black) {
         return text.append(b"dead");
     }
     if is_winnable(white) || is_winnable(black) {

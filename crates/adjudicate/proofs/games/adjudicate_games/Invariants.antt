@@ -6,7 +6,7 @@ use Rattle.adjudicate.proofs.games.adjudicate_games.Given as goal
 -- the games given so far were judged, and their blocks written
 abbrev pub invariant-loop-found : goal.invariant-loop-found
 invariant-loop-found g l = record {
-  at : IsAt l.certs (g.S.Source.left l.fn.source) (g.S.Source.left l.source) (g.K.Sink.written l.fn.sink) (g.K.Sink.written l.sink) l.reader.taken l.reader.given l.totals;
+  at : IsAt l.limits l.certs (g.S.Source.left l.fn.source) (g.S.Source.left l.source) (g.K.Sink.written l.fn.sink) (g.K.Sink.written l.sink) l.reader.taken l.reader.given l.totals;
   end : l.reader.ended ≡ true → IsAtEnd (g.S.Source.left l.source);
   few : length l.reader.taken ≤ 268435456;
   fine : l.reader.failed ≡ false;

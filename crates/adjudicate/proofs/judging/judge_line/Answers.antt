@@ -4,10 +4,10 @@ use Rattle.adjudicate.proofs.Items.{long_line, short_line}
 use Rattle.adjudicate.proofs.judging.judge_line.Goals as goal
 
 pub returns-then-line-gt-MOST_LINE_BYTES : goal.returns-then-line-gt-MOST_LINE_BYTES
-returns-then-line-gt-MOST_LINE_BYTES c = rw (long_line c.args.line.now c.if-line-gt-MOST_LINE_BYTES.true) (c.refuse.ensures c.args.certs)
+returns-then-line-gt-MOST_LINE_BYTES c = rw (long_line c.args.line.now c.if-line-gt-MOST_LINE_BYTES.true) (c.refuse.ensures c.args.limits.now c.args.certs)
 
 pub returns-in-Ok : goal.returns-in-Ok
 returns-in-Ok c = rw (short_line c.args.line.now c.read.result c.if-line-gt-MOST_LINE_BYTES.false c.read.ensures ∙ ap line_read c.in-Ok.is) c.judge_position.ensures
 
 pub returns-in-Err : goal.returns-in-Err
-returns-in-Err c = rw (short_line c.args.line.now c.read.result c.if-line-gt-MOST_LINE_BYTES.false c.read.ensures ∙ ap line_read c.in-Err.is) (c.refuse-in-Err.ensures c.args.certs)
+returns-in-Err c = rw (short_line c.args.line.now c.read.result c.if-line-gt-MOST_LINE_BYTES.false c.read.ensures ∙ ap line_read c.in-Err.is) (c.refuse-in-Err.ensures c.args.limits.now c.args.certs)

@@ -4,4 +4,4 @@ use Rattle.adjudicate.proofs.judging.refuse.Goals as goal
 
 pub returns : goal.returns
 unfolding is_bad is_third is_open block_of
-returns c = λ certs. (None, tt, c.in_ok-refused_block.ensures, c.with_one.ensures)
+returns c = λ limits certs. (None, tt, c.in_ok-refused_block.ensures, c.with_one.ensures)

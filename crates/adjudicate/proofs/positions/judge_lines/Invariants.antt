@@ -6,7 +6,7 @@ use Rattle.adjudicate.proofs.positions.judge_lines.Given as goal
 -- the lines so far were judged, and their blocks written
 abbrev pub invariant-loop-rest : goal.invariant-loop-rest
 invariant-loop-rest g l = record {
-  written : WroteUpTo l.certs (position_items l.bytes) (position_items l.rest) (g.K.Sink.written l.fn.sink) (g.K.Sink.written l.sink) l.totals;
+  written : WroteUpTo l.limits l.certs (position_items l.bytes) (position_items l.rest) (g.K.Sink.written l.fn.sink) (g.K.Sink.written l.sink) l.totals;
   room : l.totals.items + length l.rest ≤ length l.bytes;
   later : g.K.Sink.faults l.fn.sink ≤ g.K.Sink.faults l.sink;
 }

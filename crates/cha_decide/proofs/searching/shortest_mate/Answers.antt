@@ -6,7 +6,7 @@ use Rattle.cha_decide.proofs.searching.shortest_mate.Goals as goal
 
 pub returns-in-Some : goal.returns-in-Some
 returns-in-Some c =
-    shortest (c.loop-shorter.shorter + 1) c.args.position.now c.args.winner c.in-Some.moves (omega arith) c.loop-shorter.invariant
+    shortest (c.loop-shorter.shorter + 1) c.args.plies c.args.position.now c.args.winner c.in-Some.moves (omega arith) c.loop-shorter.invariant
     (sym c.in_ok-moves.ensures ∙ c.in-Some.is)
 
 pub loop-shorter-preserved : goal.loop-shorter-preserved
@@ -15,4 +15,4 @@ loop-shorter-preserved c =
     (empty_without_first (mate_lines (c.loop-shorter.shorter + 1) c.args.position.now c.args.winner) (sym c.in_ok-moves.ensures ∙ c.in-None.is))
 
 pub returns : goal.returns
-returns c = none_within 2 c.args.position.now c.args.winner (λ k small. c.loop-shorter.invariant k (omega arith))
+returns c = none_within c.args.plies c.args.position.now c.args.winner (λ k small. c.loop-shorter.invariant k (omega arith))

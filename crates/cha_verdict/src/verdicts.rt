@@ -1,12 +1,12 @@
-//! What is found about a side.
+//! The verdict on a side.
 
 ghost use Rattle.std.specs.Prelude.{◌≡◌};
-ghost use Rattle.flag_report.specs.Verdicts.{is_undecided as is_undecided_verdict, is_unwinnable as is_unwinnable_verdict, is_winnable as is_winnable_verdict};
+ghost use Rattle.cha_verdict.specs.Verdicts.{is_undecided as is_undecided_verdict, is_unwinnable as is_unwinnable_verdict, is_winnable as is_winnable_verdict};
 
 use cha_cert::Cert;
 use cha_moves::Moves;
 
-/// What is found about whether a side can still mate by any series of legal moves.
+/// What is found about whether a side can still mate by any series of legal moves (Laws of Chess, Articles 5.2.2 and 6.9).
 #[derive(Drop)]
 pub enum Verdict {
     /// These legal moves, made one after the other, end in a mate by the side.

@@ -1,7 +1,7 @@
 -- Kinds of verdicts.
 use Rattle.std.specs.Prelude.{◌≤◌, Bool, true, false, ◌&&◌, length, ⊤}
-use Rattle.flag_report.specs.declared.found.Verdict.{Verdict}
-use Rattle.flag_report.specs.declared.found.Verdict.TheVariants.{Winnable, Unwinnable, Undecided, Skipped}
+use Rattle.cha_verdict.specs.declared.verdicts.Verdict.{Verdict}
+use Rattle.cha_verdict.specs.declared.verdicts.Verdict.TheVariants.{Winnable, Unwinnable, Undecided, Skipped}
 
 -- the side can mate
 abbrev pub is_winnable : Verdict → Bool

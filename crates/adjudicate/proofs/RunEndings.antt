@@ -1,0 +1,134 @@
+-- How runs end.
+use Rattle.std.proofs.Common.{◌≡◌, ◌≢◌, ℕ, ◌+◌, ◌<◌, ◌≤◌, List, [], ◌∷◌, ◌++◌, length, Option, Some, None, Result, Ok, Err, refl, sym, ap, ◌∙◌, subst, arith, length-append}
+use Rattle.std.specs.Io.KnownBytes.{Consumes, IsAtEnd}
+use Rattle.cha_outside.specs.Faults.{Rose}
+use Rattle.cha_outside.specs.Gathering.{Took}
+use Rattle.cha_outside.specs.declared.gathering.ReadEnd.{ReadEnd}
+use Rattle.cha_outside.specs.declared.gathering.ReadEnd.TheVariants as ends
+use Rattle.cha_outside.proofs.Adding.{appends_nothing}
+use Rattle.cha_board.specs.Board.{Board, IsValid}
+use Rattle.cha_cert.specs.declared.nodes.Node.{Node}
+use Rattle.cha_cert.specs.Certificates.{BeginsAt, AllValid}
+use Rattle.cha_cert.proofs.Bounded.{valid_is_unwinnable}
+use Rattle.cert_text.proofs.Spelling.{read_is_spelled}
+use Rattle.adjudicate.specs.declared.orders.Order.{Order}
+use Rattle.adjudicate.specs.declared.orders.Order.TheVariants.{AdjudicateGames, JudgePositions, CheckCert}
+use Rattle.adjudicate.specs.declared.endings.Status.{Status}
+use Rattle.adjudicate.specs.declared.endings.Status.TheVariants.{Done, Usage, ReadFault, WriteFault, TooLong, NoMemory, NotAccepted}
+use Rattle.adjudicate.specs.Statuses.{status_of_end}
+use Rattle.adjudicate.specs.Checks.{IsTextOf, IsUnwinnableAtFirst}
+use Rattle.adjudicate.specs.Report.{HasWholeBlocks}
+use Rattle.adjudicate.specs.Outcomes.{blocks, game_items, position_items}
+use Rattle.adjudicate.specs.Runs.{Outside, outside, Ended, BeginsWhole, IsRun}
+use Rattle.adjudicate.specs.Steps.{IsWritten}
+
+-- the first position is valid
+first_is_valid : (p : Board) (nodes : List Node) → BeginsAt p nodes → AllValid nodes → IsValid p
+first_is_valid p [] begins valid = absurd begins
+first_is_valid p (node ∷ nodes) begins valid = subst IsValid begins (valid 0 node (omega arith))
+
+-- an accepted certificate means that its side cannot mate
+pub law_holds : (order : Order) (s : Status) (before now : Outside) → Ended order s before now → s ≡ Done → order ≡ CheckCert → Took before.left now.left (IsTextOf IsUnwinnableAtFirst)
+law_holds (AdjudicateGames limits certs) s before now ended done check = cc
+law_holds (JudgePositions limits certs) s before now ended done check = cc
+law_holds CheckCert Usage before now ended done check = cc
+law_holds CheckCert ReadFault before now ended done check = cc
+law_holds CheckCert WriteFault before now ended done check = cc
+law_holds CheckCert TooLong before now ended done check = cc
+law_holds CheckCert NoMemory before now ended done check = cc
+law_holds CheckCert NotAccepted before now ended done check = cc
+law_holds CheckCert Done before now ended done check =
+    let read = ended.3 in
+    let cert = read.0 in
+    let valid = read.2.1 in (
+      ended.0,
+      ended.1,
+      (cert, read_is_spelled ended.0 cert read.1, (read.2.0, valid.begins, first_is_valid read.2.0 cert.cert valid.begins valid.positions, valid_is_unwinnable read.2.0 cert.winner cert.cert valid)),
+    )
+
+-- What was read and written makes a run, where its causes are known.
+module _ (order : Order) (before now : Outside) (source_later : before.read_faults ≤ now.read_faults) (sink_later : before.write_faults ≤ now.write_faults) where
+  -- a run that took no more than an input may have
+  pub short_run : (s : Status) → Ended order s before now → (s ≡ ReadFault → Rose before.read_faults now.read_faults) → (s ≡ WriteFault → Rose before.write_faults now.write_faults)
+      → s ≢ TooLong → Took before.left now.left (λ taken. length taken ≤ 268435456) → IsRun order s before now
+  short_run s ended read_fault write_fault other few = record {
+    ended = ended;
+    read_fault = read_fault;
+    write_fault = write_fault;
+    too_long = λ e. absurd (other e);
+    not_too_long = λ _. few;
+    never_too_long = λ bytes told small e. other e;
+    source_later = source_later;
+    sink_later = sink_later;
+  }
+
+  -- a run that took more
+  pub long_run : BeginsWhole order before now → Took before.left now.left (λ taken. (268435456 < length taken) × (length taken ≤ 268435456 + 4096))
+      → ((bytes : List ℕ) → before.left ≡ Some bytes → length bytes ≤ 268435456 → ⊥) → IsRun order TooLong before now
+  long_run begun much never = record {
+    ended = begun;
+    read_fault = λ e. cc;
+    write_fault = λ e. cc;
+    too_long = λ _. much;
+    not_too_long = λ other. absurd (other refl);
+    never_too_long = λ bytes told small _. never bytes told small;
+    source_later = source_later;
+    sink_later = sink_later;
+  }
+
+-- bytes were taken, and nothing was written
+nothing_yet : (order : Order) (bytes : List ℕ) → HasWholeBlocks order bytes []
+unfolding blocks
+nothing_yet (AdjudicateGames limits certs) bytes = ([], game_items bytes, refl, tt, refl)
+nothing_yet (JudgePositions limits certs) bytes = ([], position_items bytes, refl, tt, refl)
+nothing_yet CheckCert bytes = refl
+
+pub nothing_begun : (order : Order) (left left' a : Option (List ℕ)) (f f' g : ℕ) (P : List ℕ → Type 0) → Took left left' P → BeginsWhole order (outside left f a g) (outside left' f' a g)
+nothing_begun order left left' a f f' g P took = (took.0, took.1, ([], appends_nothing a, nothing_yet order took.0))
+
+-- a source that could not be read to its end at once
+module _ {X : Type 0} (order : Order) (r : Result X ReadEnd) (left left' a : Option (List ℕ)) (f f' g : ℕ)
+    (later : f ≤ f')
+    (read_fault : r ≡ Err ends.ReadFault → Took left left' (λ taken. length taken ≤ 268435456))
+    (too_long : r ≡ Err ends.TooLong → Took left left' (λ taken. (268435456 < length taken) × (length taken ≤ 268435456 + 4096)))
+    (no_memory : r ≡ Err ends.NoMemory → Took left left' (λ taken. length taken ≤ 268435456))
+    (cause : r ≡ Err ends.ReadFault → Rose f f')
+    (within : (bytes : List ℕ) → left ≡ Some bytes → length bytes ≤ 268435456 → r ≢ Err ends.TooLong) where
+  unread_by : (end : ReadEnd) → r ≡ Err end → IsRun order (status_of_end end) (outside left f a g) (outside left' f' a g)
+  unread_by ends.ReadFault e =
+      short_run order (outside left f a g) (outside left' f' a g) later (omega arith) ReadFault (nothing_begun order left left' a f f' g _ (read_fault e)) (λ _. cause e) (λ h. cc) (λ h. cc) (read_fault e)
+  unread_by ends.TooLong e =
+      long_run order (outside left f a g) (outside left' f' a g) later (omega arith) (nothing_begun order left left' a f f' g _ (too_long e)) (too_long e) (λ bytes told small. within bytes told small e)
+  unread_by ends.NoMemory e =
+      short_run order (outside left f a g) (outside left' f' a g) later (omega arith) NoMemory (nothing_begun order left left' a f f' g _ (no_memory e)) (λ h. cc) (λ h. cc) (λ h. cc) (no_memory e)
+
+  pub unread : (end : ReadEnd) (s : Status) → r ≡ Err end → s ≡ status_of_end end → IsRun order s (outside left f a g) (outside left' f' a g)
+  unread end s e is = subst (λ status. IsRun order status (outside left f a g) (outside left' f' a g)) (sym is) (unread_by end e)
+
+-- a whole input was read, and then its report was written or not
+module _ (order : Order) (bytes : List ℕ) (left left' a a' : Option (List ℕ)) (f f' g g' : ℕ) (consumed : Consumes left left' bytes) (end : IsAtEnd left') where
+  ended_by_writing : (s : Status) → IsWritten order bytes s a g a' g' → Ended order s (outside left f a g) (outside left' f' a' g')
+  ended_by_writing Done w = (bytes, consumed, end, (w.done refl).0, (w.done refl).1)
+  ended_by_writing NotAccepted w = (bytes, consumed, end, (w.not_accepted refl).0, (w.not_accepted refl).1)
+  ended_by_writing WriteFault w = (bytes, consumed, (w.cut refl).1)
+  ended_by_writing NoMemory w = (bytes, consumed, w.no_memory refl)
+  ended_by_writing Usage w = absurd (w.no_other.0 refl)
+  ended_by_writing ReadFault w = absurd (w.no_other.1 refl)
+  ended_by_writing TooLong w = absurd (w.no_other.2 refl)
+
+  pub written_run : (s : Status) → length bytes ≤ 268435456 → f ≤ f' → IsWritten order bytes s a g a' g' → IsRun order s (outside left f a g) (outside left' f' a' g')
+  written_run s few later w =
+      short_run order (outside left f a g) (outside left' f' a' g') later w.later s (ended_by_writing s w)
+      (λ e. absurd (w.no_other.1 e)) (λ e. (w.cut e).0) w.no_other.2 (bytes, consumed, few)
+
+-- a fault in a part of a run is one in the run
+pub rose_in : (f f' f'' : ℕ) → f ≤ f' → Rose f' f'' → Rose f f''
+rose_in f f' f'' le rose = omega arith
+
+-- what a source took is no more than it had
+pub taken_few : (left left' : Option (List ℕ)) (taken bytes : List ℕ) → Consumes left left' taken → left ≡ Some bytes → length taken ≤ length bytes
+taken_few None left' taken bytes consumed told = cc
+taken_few (Some xs) None taken bytes consumed told = absurd consumed
+taken_few (Some xs) (Some ys) taken bytes consumed told =
+    let same : xs ≡ bytes = cc in
+    omega (arith, ap length consumed, ap length same, length-append taken ys)

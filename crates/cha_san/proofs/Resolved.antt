@@ -40,11 +40,6 @@ only_more [] e = cc
 only_more (m ∷ []) e = cc
 only_more (m ∷ n ∷ rest) e = omega arith
 
-only_says : (ms : List Move) → (only ms ≡ Err NotSan) → ⊥
-only_says [] e = cc
-only_says (m ∷ []) e = cc
-only_says (m ∷ n ∷ rest) e = cc
-
 only_one : (ms : List Move) → IfOk (only ms) (λ m. ms ≡ m ∷ [])
 only_one [] = tt
 only_one (m ∷ []) = refl

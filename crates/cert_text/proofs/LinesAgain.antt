@@ -16,7 +16,7 @@ use Rattle.cha_board.specs.declared.men.Kind.TheVariants.{Pawn, Knight, Bishop, 
 use Rattle.cha_board.specs.Board.{Board, IsValid}
 use Rattle.cha_board.specs.SquareSets.{has_square, set_of_bits, bits_of_set}
 use Rattle.cha_board.proofs.SetLaws.{one_if, length-set_of, has-set_of, same_squares, bit_at-bits_of_set}
-use Rattle.cha_board.specs.Letters.{kind_of}
+use Rattle.cha_board.specs.Letters.{kind_of, square_of}
 use Rattle.cha_fen.specs.Fen.{fen}
 use Rattle.cha_board.specs.Letters.{kind_letter}
 use Rattle.cha_fen.proofs.WrittenRead.{written_is_read}
@@ -24,7 +24,7 @@ use Rattle.mob_sets.specs.Rows.{Row}
 use Rattle.cert_text.specs.Digits.{hex_digit, hex_digits, value_of}
 use Rattle.cert_text.specs.Spelled.{winner_line, count_line, loose_line, row_line, inner_line, leaf_line, lines_text}
 use Rattle.cert_text.specs.Lines.{lines_of, tail_of}
-use Rattle.cert_text.specs.Texts.{is_text, kept, fixed_of, winner_of, small_count, count_of, loose_of, square_of, follows, row_of, position_if, inner_of, leaf_of}
+use Rattle.cert_text.specs.Texts.{is_text, kept, fixed_of, winner_of, small_count, count_of, loose_of, follows, row_of, position_if, inner_of, leaf_of}
 use Rattle.cert_text.proofs.Numbers.{decimal_read, hex_read}
 use Rattle.cert_text.proofs.Plain.{plain, ArePlain}
 

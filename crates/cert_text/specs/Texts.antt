@@ -9,7 +9,7 @@ use Rattle.cha_board.specs.declared.men.Kind.{Kind}
 use Rattle.cha_board.specs.Board.{Board}
 use Rattle.cha_board.specs.SquareSets.{set_of_bits, bits_of_set}
 use Rattle.cha_fen.specs.declared.faults.FenFault.{FenFault}
-use Rattle.cha_board.specs.Letters.{kind_of}
+use Rattle.cha_board.specs.Letters.{kind_of, square_of}
 use Rattle.cha_fen.specs.Fen.{fen}
 use Rattle.mob_sets.specs.Rows.{Row, row_place}
 use Rattle.cha_cert.specs.declared.nodes.Node.{Node}
@@ -47,10 +47,6 @@ count_of line = if is_from 7 16 (length line) then kept count_line line (small_c
 
 unfoldable pub loose_of : List ℕ → Option (List Bool)
 loose_of line = if length line == 22 then kept loose_line line (Some (set_of_bits (value_of 16 (drop 6 line)))) else None
-
--- the square of a file's letter and a rank's digit
-abbrev pub square_of : ℕ → ℕ → Option ℕ
-square_of file rank = if is_from 97 104 file && is_from 49 56 rank then Some ((file - 97) + 8 * (rank - 49)) else None
 
 -- what a row may be
 abbrev pub row_if : Option ℕ → Option Kind → ℕ → Option Row

@@ -1,18 +1,9 @@
 //! Numbers as digits.
 
-ghost use Rattle.std.specs.Prelude.{◌≡◌, ◌<◌, ◌≤◌, ◌^◌, ◌++◌, length, decimal, OnOk};
+ghost use Rattle.std.specs.Prelude.{◌≡◌, ◌<◌, ◌≤◌, ◌^◌, ◌++◌, length, OnOk};
 ghost use Rattle.cert_text.specs.Digits.{hex_digit, hex_digits, digit_value, value_of};
 
 use cha_list::{NoMemory, Text};
-use std::alloc::Global;
-
-/// Appends a number in decimal digits.
-pub fn put_decimal(alloc: Global, number: u64, text: &mut Text) -> Result<(), NoMemory>
-    ensures { OnOk result (text.new ≡ text.old ++ decimal number) }
-{
-    let digits = format!(in alloc; "{number}")?;
-    text.append(digits.as_bytes())
-}
 
 /// Appends so many of the lowest hexadecimal digits of a number.
 #[tactic(auto, unfolding(crate::specs::Digits::hex_digits))]

@@ -1,7 +1,6 @@
 //! The lines behind a leaf's line: its loose origins and its rows.
 
 ghost use Rattle.std.specs.Prelude.{◌≤◌, drop, length, ◌≡◌, ◌≢◌, ◌<◌, [], Err, IsTrue, IfOk, IfErr, IfSome};
-ghost use Rattle.cha_board.specs.Letters.{kind_of};
 ghost use Rattle.std.specs.Prelude.{nat_lt};
 ghost use Rattle.std.specs.List.{list_all};
 ghost use Rattle.cha_board.specs.SquareSets.{set_of_bits};
@@ -9,7 +8,7 @@ ghost use Rattle.mob_sets.specs.Rows.{row_place};
 ghost use Rattle.mob_sets.specs.Tidy.{AreTidy};
 ghost use Rattle.cert_text.specs.declared.faults.CertKind.TheVariants.{Loose, NoMemory as Wanting};
 ghost use Rattle.cert_text.specs.Lines.{lines_of, tail_of};
-ghost use Rattle.cert_text.specs.Texts.{loose_of, square_of, row_if, follows, row_of, begins_reach, wanted, rows_after};
+ghost use Rattle.cert_text.specs.Texts.{loose_of, row_if, follows, row_of, begins_reach, wanted, rows_after};
 ghost use Rattle.cert_text.specs.Agreeing.{Agrees, seen, RowGoesOn};
 
 use crate::digits::number;
@@ -55,33 +54,6 @@ pub fn loose_line(alloc: Global, bytes: &[u8], left: Left) -> Result<(SquareSet,
     match loose_named(alloc, line)? {
         Some(loose) => Ok((loose, rest)),
         None => Err(misfit(left.number, CertKind::Loose)),
-    }
-}
-
-/// The square of a file's letter and a rank's digit.
-fn square(file: u8, rank: u8) -> Option<Square>
-    ensures { result ≡ square_of file rank }
-{
-    if b'a' <= file && file <= b'h' && b'1' <= rank && rank <= b'8' {
-        Some(Square::at((file - b'a') + 8 * (rank - b'1')))
-    } else {
-        None
-    }
-}
-
-/// The kind of a letter.
-#[tactic(auto, unfolding(cha_board::specs::Letters::kind_of))]
-fn kind(letter: u8) -> Option<Kind>
-    ensures { result ≡ kind_of letter }
-{
-    match letter {
-        b'P' => Some(Kind::Pawn),
-        b'N' => Some(Kind::Knight),
-        b'B' => Some(Kind::Bishop),
-        b'R' => Some(Kind::Rook),
-        b'Q' => Some(Kind::Queen),
-        b'K' => Some(Kind::King),
-        _ => None,
     }
 }
 
@@ -134,7 +106,11 @@ fn row_named(alloc: Global, rows: &[SetRow], line: &[u8]) -> Result<Option<SetRo
         return Ok(None);
     }
     let (_label, digits) = line.split_at(11);
-    let Some(row) = row_parts(square(line[6], line[7]), kind(line[9]), number(16, digits)) else {
+    let Some(row) = row_parts(
+        Square::of_text(line[6], line[7]),
+        Kind::of_letter(line[9]),
+        number(16, digits),
+    ) else {
         return Ok(None);
     };
     let mut text = Text::new(alloc);

@@ -2,14 +2,13 @@
 
 ghost use Rattle.std.specs.Prelude.{◌≡◌, ◌<◌, ◌≤◌, ◌^◌, ◌++◌, [], ◌∷◌, Ok, length, map, OnOk, IfOk};
 ghost use Rattle.std.specs.List.{All, flat_map};
-ghost use Rattle.cha_board.specs.Letters.{kind_letter};
 ghost use Rattle.mob_sets.specs.Tidy.{AreTidy};
 ghost use Rattle.cert_text.specs.Spelled.{header_line, winner_line, count_line, loose_line, row_line, inner_line, leaf_line, node_lines, lines_text, cert_text};
 ghost use Rattle.cert_text.specs.Texts.{cert_of};
 ghost use Rattle.cert_text.specs.Agreeing.{IsWritable};
 
-use crate::digits::{put_decimal, put_hex};
-use cha_board::{Color, Kind, Position, SquareSet};
+use crate::digits::put_hex;
+use cha_board::{Color, Position, SquareSet};
 use cha_cert::{Cert, Node, Part};
 use cha_list::{NoMemory, Text};
 use mob_sets::{SetRow, Sets};
@@ -21,7 +20,7 @@ pub fn put_count(alloc: Global, count: u64, text: &mut Text) -> Result<(), NoMem
     ensures { OnOk result (text.new ≡ text.old ++ count_line count) }
 {
     text.append(b"nodes ")?;
-    put_decimal(alloc, count, text)
+    text.append_decimal(alloc, count)
 }
 
 /// Writes `loose H`.
@@ -42,26 +41,12 @@ pub fn put_row(row: SetRow, text: &mut Text) -> Result<(), NoMemory>
     // The number of a square tells that it is below 64.
     let _number = row.origin.index();
     text.append(b"reach ")?;
-    text.push(row.origin.file() + b'a')?;
-    text.push(row.origin.rank() + b'1')?;
+    text.push(row.origin.file_letter())?;
+    text.push(row.origin.rank_digit())?;
     text.push(b' ')?;
-    text.push(letter(row.kind))?;
+    text.push(row.kind.letter())?;
     text.push(b' ')?;
     put_hex(16, row.squares.bits(), text)
-}
-
-/// The letter of a kind.
-fn letter(kind: Kind) -> u8
-    ensures { result ≡ kind_letter kind }
-{
-    match kind {
-        Kind::Pawn => b'P',
-        Kind::Knight => b'N',
-        Kind::Bishop => b'B',
-        Kind::Rook => b'R',
-        Kind::Queen => b'Q',
-        Kind::King => b'K',
-    }
 }
 
 /// Writes `inner FEN`.

@@ -1,0 +1,55 @@
+#!/bin/bash
+# Checks the certificates of a report of `cha adjudicate --certs` or `cha position --certs`.
+#
+#   tools/check-report.sh [PROGRAM] < REPORT
+#
+# PROGRAM is the built cha (by default ./cha at the top, as `make` leaves it). Each certificate is put to `cha check`, and
+# must be accepted for the position and the side that its block names: its first node has the FEN of the block, and its
+# winner is the side of the line before it. A line `unwinnable` with no certificate behind it counts as one that is not
+# accepted, and so does a certificate that breaks off.
+#
+# It prints how many are accepted of how many, and before that the first that is not. The status is 0 where all are
+# accepted, 1 where one is not, and 2 where PROGRAM cannot be run.
+set -u
+export LC_ALL=C
+program=${1:-$(dirname "$0")/../cha}
+[ -x "$(command -v "$program")" ] || { echo "no program: $program" >&2; exit 2; }
+
+count=0 accepted=0 block='' fen='' side='' text=''
+
+# count_one FAULT: counts a certificate, whose fault is empty where it is accepted
+count_one() {
+    [ -z "$1" ] || [ "$accepted" -lt "$count" ] || echo "${block:-no block}, ${side:-no side}: $1"
+    [ -n "$1" ] || accepted=$((accepted + 1))
+    count=$((count + 1)) side='' text=''
+}
+
+# fault: says what is wrong with the certificate in $text, and nothing where it is accepted
+fault() {
+    local lines answer status
+    mapfile -t lines <<< "$text"
+    [ "${lines[1]-}" = "winner ${side:0:1}" ] || { echo "for another side: ${lines[1]-}"; return; }
+    case ${lines[3]-} in "leaf $fen" | "inner $fen") ;; *) echo "of another position: ${lines[3]-}"; return ;; esac
+    answer=$(printf %s "$text" | "$program" check)
+    status=$?
+    [ "$status $answer" = "0 accepted ${side:0:1}" ] || echo "${answer:-no answer}, status $status"
+}
+
+while IFS= read -r line; do
+    if [ -n "$text" ]; then
+        text+=$line$'\n'
+        [ "$line" != end ] || count_one "$(fault)"
+    elif [ "$line" = 'cha-cert 1' ]; then
+        if [ -n "$side" ]; then text=$line$'\n'; else count_one 'a certificate of no verdict'; fi
+    else
+        [ -z "$side" ] || count_one 'no certificate'
+        case $line in
+            'game '* | 'position '*) block=$line fen='' ;;
+            'fen: '*) fen=${line#fen: } ;;
+            'white: unwinnable' | 'black: unwinnable') side=${line%%:*} ;;
+        esac
+    fi
+done
+[ -z "$side" ] || count_one 'the report breaks off'
+echo "accepted: $accepted of $count"
+[ "$accepted" = "$count" ]

@@ -13,8 +13,6 @@ import re
 import sys
 
 TOP = os.path.dirname(os.path.dirname(os.path.abspath(__file__)))
-WORD = re.compile(r"[^\s(){}\[\],;.:]+(?:\.[A-Za-z_']+)*")
-START = re.compile(r"^(?:abbrev|unfoldable|pub)\b.*?\b(?:pub )?(?:record |data )?([^\s:({]+)")
 
 
 def imports(lines):
@@ -73,7 +71,7 @@ def contract(crate, function, clauses):
             if re.search(rf"\bpub fn {function}\b", line):
                 text, keep = "", False
                 for after in lines[i:]:
-                    if after.startswith("{"):
+                    if after.strip() in ("{", "{}"):
                         break
                     m = re.match(r"\s*(?:ensures|requires)(?: (\w+))? \{", after)
                     if m:

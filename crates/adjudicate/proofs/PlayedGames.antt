@@ -22,13 +22,13 @@ use Rattle.pgn_games.specs.Fields.{move_words, first_bad, is_cut, passes, says_c
 use Rattle.pgn_games.specs.Games.{games, game_of, fault_of, fault_if, is_open, start_fault}
 use Rattle.cha_san.specs.declared.faults.PlayFault.{PlayFault}
 use Rattle.cha_san.specs.Playing.{positions, LacksMemory}
-use Rattle.flag_report.specs.Reasons.{IsOfWord}
+use Rattle.flag_report.specs.Reasons.{IsNotWantOfMemory}
 use Rattle.flag_report.specs.declared.reasons.Unreadable.TheVariants.{Tokens}
 use Rattle.adjudicate.specs.Outcomes.{game_item, played_item, stopped_by}
 use Rattle.adjudicate.specs.Outcomes.Item.{UnreadableGame}
 
 -- a game whose words gave no positions is unreadable
-pub stopped_item : (game : Game) (stop : PlayFault) (r : Result (List Board) PlayFault) → r ≡ Err stop → LacksMemory r ⊎ (r ≡ positions game.start game.words) → IsOfWord stop.fault
+pub stopped_item : (game : Game) (stop : PlayFault) (r : Result (List Board) PlayFault) → r ≡ Err stop → LacksMemory r ⊎ (r ≡ positions game.start game.words) → IsNotWantOfMemory stop.fault
     → played_item game (positions game.start game.words) ≡ UnreadableGame (stopped_by game stop)
 stopped_item game stop r e either named =
     elim either [

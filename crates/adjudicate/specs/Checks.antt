@@ -44,7 +44,7 @@ IsReadAs P bytes = (c : Certificate) × (cert_of bytes ≡ Ok c) × P c
 
 -- What an order asks of its input: of a certificate that the bytes are read as one and that it is valid. Of games and positions
 -- nothing is asked.
-abbrev pub Passes : Order → List ℕ → Type 0
-Passes (AdjudicateGames limits certs) bytes = ⊤
-Passes (JudgePositions limits certs) bytes = ⊤
-Passes CheckCert bytes = IsReadAs IsValidAtFirst bytes
+abbrev pub IsAccepted : Order → List ℕ → Type 0
+IsAccepted (AdjudicateGames limits certs) bytes = ⊤
+IsAccepted (JudgePositions limits certs) bytes = ⊤
+IsAccepted CheckCert bytes = IsReadAs IsValidAtFirst bytes

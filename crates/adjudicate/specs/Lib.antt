@@ -1,8 +1,10 @@
-pub mod Statuses
+-- what public contracts say
 pub mod Words
 pub mod Lines
 pub mod Outcomes
 pub mod Checks
 pub mod Report
 pub mod Runs
+pub mod Statuses
+-- what only the crate's own functions say of each other
 pub mod Steps

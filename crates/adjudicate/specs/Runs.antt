@@ -7,7 +7,7 @@ use Rattle.cha_outside.specs.Gathering.{Took}
 use Rattle.adjudicate.specs.declared.orders.Order.{Order}
 use Rattle.adjudicate.specs.declared.endings.Status.{Status}
 use Rattle.adjudicate.specs.declared.endings.Status.TheVariants.{Done, Usage, ReadFault, WriteFault, TooLong, NoMemory, NotAccepted}
-use Rattle.adjudicate.specs.Checks.{Passes}
+use Rattle.adjudicate.specs.Checks.{IsAccepted}
 use Rattle.adjudicate.specs.Report.{IsReport, HasBegun, HasWholeBlocks}
 
 -- A source and a sink at one moment: the bytes that the source still gives and those that the sink took, where they tell them,
@@ -29,13 +29,13 @@ Grew old new P = (out : List ℕ) × Appends old new out × P out
 -- the whole input was taken, it is what its order asks for, and its report was written
 abbrev pub Reports : Order → Outside → Outside → Type 0
 Reports order before now =
-    (bytes : List ℕ) × Consumes before.left now.left bytes × IsAtEnd now.left × Passes order bytes × Grew before.written now.written (IsReport order bytes)
+    (bytes : List ℕ) × Consumes before.left now.left bytes × IsAtEnd now.left × IsAccepted order bytes × Grew before.written now.written (IsReport order bytes)
 
 -- the whole input was taken, it is not what its order asks for, and its report was written; of games and positions nothing is
 -- asked, so this is never said of them
 abbrev pub Refuses : Order → Outside → Outside → Type 0
 Refuses order before now =
-    (bytes : List ℕ) × Consumes before.left now.left bytes × IsAtEnd now.left × (Passes order bytes → ⊥) × Grew before.written now.written (IsReport order bytes)
+    (bytes : List ℕ) × Consumes before.left now.left bytes × IsAtEnd now.left × (IsAccepted order bytes → ⊥) × Grew before.written now.written (IsReport order bytes)
 
 -- some bytes were taken, and their report was begun
 abbrev pub Begins : Order → Outside → Outside → Type 0

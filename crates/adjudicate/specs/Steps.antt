@@ -8,7 +8,7 @@ use Rattle.adjudicate.specs.declared.judging.Judged.{Judged}
 use Rattle.adjudicate.specs.declared.orders.Order.{Order}
 use Rattle.adjudicate.specs.declared.endings.Status.{Status}
 use Rattle.adjudicate.specs.declared.endings.Status.TheVariants.{Done, Usage, ReadFault, WriteFault, TooLong, NoMemory, NotAccepted}
-use Rattle.adjudicate.specs.Checks.{Passes}
+use Rattle.adjudicate.specs.Checks.{IsAccepted}
 use Rattle.adjudicate.specs.Report.{IsReport, HasBegun, HasWholeBlocks}
 use Rattle.adjudicate.specs.Runs.{Grew}
 use Rattle.adjudicate.specs.Outcomes.{Item, Outcome, IsSoundFor, block_of, is_bad, is_third, is_open}
@@ -48,8 +48,8 @@ ended_by accepted = if accepted then Done else NotAccepted
 -- what was written for an order whose whole input is at hand, by the status: what a sink took and how often it failed, before and
 -- after
 pub record IsWritten (order : Order) (bytes : List ℕ) (status : Status) (old : Option (List ℕ)) (faults : ℕ) (new : Option (List ℕ)) (faults' : ℕ) : Type 0 where
-  pub done : status ≡ Done → Passes order bytes × Grew old new (IsReport order bytes)
-  pub not_accepted : status ≡ NotAccepted → (Passes order bytes → ⊥) × Grew old new (IsReport order bytes)
+  pub done : status ≡ Done → IsAccepted order bytes × Grew old new (IsReport order bytes)
+  pub not_accepted : status ≡ NotAccepted → (IsAccepted order bytes → ⊥) × Grew old new (IsReport order bytes)
   pub cut : status ≡ WriteFault → Rose faults faults' × Grew old new (HasBegun order bytes)
   pub no_memory : status ≡ NoMemory → Grew old new (HasWholeBlocks order bytes)
   pub no_other : (status ≢ Usage) × (status ≢ ReadFault) × (status ≢ TooLong)

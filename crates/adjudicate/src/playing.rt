@@ -2,7 +2,7 @@
 
 ghost use Rattle.std.specs.Prelude.{◌≡◌, ◌≤◌, Bool, None, length, IfOk};
 ghost use Rattle.adjudicate.specs.Outcomes.{game_item, played_item, stopped_by};
-ghost use Rattle.flag_report.specs.Reasons.{IsOfGame, IsOfWord};
+ghost use Rattle.flag_report.specs.Reasons.{IsReason, IsNotWantOfMemory};
 ghost use Rattle.std.specs.Bool.{OnTrue, OnFalse};
 ghost use Rattle.cha_san.specs.Playing.{positions};
 ghost use Rattle.cha_verdict.specs.Bounds.{Bounds};
@@ -114,7 +114,7 @@ fn judge_stopped(
     totals: &Summary,
 ) -> Result<Judged, NoMemory>
     requires room { HasRoom totals.now }
-    requires of_word { IsOfWord stop.fault }
+    requires of_word { IsNotWantOfMemory stop.fault }
     requires inside { (1 ≤ stop.ply) × (stop.ply ≤ length game.now.words) }
     ensures { (limits : Bounds) (certs : Bool) → IfOk result (Judges limits certs (UnreadableGame (stopped_by game.now stop)) totals.now) }
 {
@@ -130,7 +130,7 @@ fn judge_stopped(
 /// Whether a word named no move because memory was refused.
 fn lacks_memory(fault: SanFault) -> bool
     ensures refused { OnTrue result (fault ≡ SanFault.NoMemory) }
-    ensures of_word { OnFalse result (IsOfWord fault) }
+    ensures of_word { OnFalse result (IsNotWantOfMemory fault) }
 {
     match fault {
         SanFault::NoMemory => true,
@@ -143,7 +143,7 @@ fn lacks_memory(fault: SanFault) -> bool
 /// Gives up a game that cannot be read.
 fn give_up(alloc: Global, why: &Unreadable, totals: &Summary) -> Result<Judged, NoMemory>
     requires room { HasRoom totals.now }
-    requires of_game { IsOfGame why.now }
+    requires of_game { IsReason why.now }
     ensures { (limits : Bounds) (certs : Bool) → IfOk result (Judges limits certs (UnreadableGame why.now) totals.now) }
 {
     Ok(Judged {

@@ -32,14 +32,14 @@ word_fault_text NoSuchMove = codes "no such move"
 word_fault_text Ambiguous = codes "ambiguous"
 word_fault_text NoMemory = []
 
--- it is a fault of the word, and not want of memory
-abbrev pub IsOfWord : SanFault → Type 0
-IsOfWord fault = fault ≡ NoMemory → ⊥
+-- a fault of a word that is not want of memory
+abbrev pub IsNotWantOfMemory : SanFault → Type 0
+IsNotWantOfMemory fault = fault ≡ NoMemory → ⊥
 
--- it is a fault of the game, and not want of memory
-abbrev pub IsOfGame : Unreadable → Type 0
-IsOfGame (Tokens fault) = ⊤
-IsOfGame (Moves ply word fault) = IsOfWord fault
+-- why a game cannot be read: want of memory is no reason
+abbrev pub IsReason : Unreadable → Type 0
+IsReason (Tokens fault) = ⊤
+IsReason (Moves ply word fault) = IsNotWantOfMemory fault
 
 -- why a game cannot be read
 unfoldable pub reason_text : Unreadable → List ℕ

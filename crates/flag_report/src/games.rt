@@ -3,7 +3,7 @@
 ghost use Rattle.std.specs.Prelude.{◌≡◌, ◌++◌, OnOk, IfOk, codes};
 ghost use Rattle.flag_report.specs.Blocks.{line};
 ghost use Rattle.flag_report.specs.Games.{mark_text, cause_text, result_line, game_text, unreadable_text};
-ghost use Rattle.flag_report.specs.Reasons.{IsOfGame, reason_text};
+ghost use Rattle.flag_report.specs.Reasons.{IsReason, reason_text};
 ghost use Rattle.cha_verdict.specs.Verdicts.{IsPrintable};
 
 use crate::pieces::{put_count_line, put_findings};
@@ -97,7 +97,7 @@ pub fn game_block(
 
 /// Appends the line that says why a game cannot be read.
 fn put_reason_line(alloc: Global, why: &Unreadable, text: &mut Text) -> Result<(), NoMemory>
-    requires { IsOfGame why.now }
+    requires { IsReason why.now }
     ensures { OnOk result (text.new ≡ text.old ++ line (codes "unreadable: " ++ reason_text why.now)) }
 {
     text.append(b"unreadable: ")?;
@@ -110,7 +110,7 @@ fn put_reason_line(alloc: Global, why: &Unreadable, text: &mut Text) -> Result<(
 /// is no reason.
 #[tactic(auto, unfolding(crate::specs::Games::unreadable_text))]
 pub fn unreadable_block(alloc: Global, number: u64, why: &Unreadable) -> Result<Text, NoMemory>
-    requires { IsOfGame why.now }
+    requires { IsReason why.now }
     ensures { IfOk result (λ text. text ≡ unreadable_text number why.now) }
 {
     let mut text = Text::new(alloc);

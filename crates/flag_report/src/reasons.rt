@@ -1,7 +1,7 @@
 //! Why a line is no position, or a game cannot be read, in words.
 
 ghost use Rattle.std.specs.Prelude.{◌≡◌, ◌++◌, OnOk, codes, decimal};
-ghost use Rattle.flag_report.specs.Reasons.{fen_fault_text, game_fault_text, word_fault_text, reason_text, IsOfWord, IsOfGame};
+ghost use Rattle.flag_report.specs.Reasons.{fen_fault_text, game_fault_text, word_fault_text, reason_text, IsNotWantOfMemory, IsReason};
 
 use crate::pieces::put_count;
 use cha_fen::FenFault;
@@ -66,7 +66,7 @@ fn put_game_fault(alloc: Global, fault: GameFault, text: &mut Text) -> Result<()
 /// Appends the name of a fault of a move word.
 #[tactic(auto, unfolding(crate::specs::Reasons::word_fault_text))]
 fn put_word_fault(fault: SanFault, text: &mut Text) -> Result<(), NoMemory>
-    requires { IsOfWord fault }
+    requires { IsNotWantOfMemory fault }
     ensures { OnOk result (text.new ≡ text.old ++ word_fault_text fault) }
 {
     match fault {
@@ -93,7 +93,7 @@ fn put_word(
     fault: SanFault,
     text: &mut Text,
 ) -> Result<(), NoMemory>
-    requires { IsOfWord fault }
+    requires { IsNotWantOfMemory fault }
     ensures { OnOk result (text.new ≡ text.old ++ (codes "move " ++ decimal ply ++ codes " " ++ word.now ++ codes ": " ++ word_fault_text fault)) }
 {
     put_ply(alloc, ply, text)?;
@@ -107,7 +107,7 @@ fn put_word(
 /// Appends why a game cannot be read.
 #[tactic(auto, unfolding(crate::specs::Reasons::reason_text))]
 pub fn put_reason(alloc: Global, why: &Unreadable, text: &mut Text) -> Result<(), NoMemory>
-    requires { IsOfGame why.now }
+    requires { IsReason why.now }
     ensures { OnOk result (text.new ≡ text.old ++ reason_text why.now) }
 {
     match why {

@@ -4,7 +4,7 @@ use crate::{
     Bytes, Got, Kept, Pieces, ReadEnd, ReadFrom, Repeat, Sink, Source, WriteTo, Wrote, read_all,
 };
 use std::alloc::Global;
-use std::io::{self, Write};
+use std::io::{self, Read, Write};
 use std::process::Abort;
 use std::test::Fail;
 
@@ -66,18 +66,24 @@ fn ends(rt: &impl Abort, found: Result<Vec<u8>, ReadEnd>, want: Option<ReadEnd>)
 #[test]
 fn a_whole_input_is_read_or_fails(rt: HostRuntime) -> Result<(), Fail> {
     let alloc = rt.alloc();
-    // The calls that a text of 27 bytes takes, the end among them.
-    for (size, calls) in [(1, 28), (3, 10), (4096, 2)] {
+    // How many bytes, the size of a piece, and the calls that they take, the end among them: each asks for 4,096.
+    for (count, size, calls) in [
+        (27, 1, 28),
+        (27, 3, 10),
+        (27, 4096, 2),
+        (8192, 5000, 3),
+        (8193, 5000, 4),
+    ] {
         for failing in 1..calls + 3 {
             let sizes = [size].to_vec(alloc)?;
             let fails = [failing].to_vec(alloc)?;
-            let mut source = Pieces::new(TEXT.to_vec(alloc)?, sizes, fails);
+            let mut source = Pieces::new(vec![in alloc; b' '; count]?, sizes, fails);
             let want = if failing <= calls {
                 Some(ReadEnd::ReadFault)
             } else {
                 None
             };
-            ends(&rt, read_all(alloc, &mut source, TEXT.len()), want);
+            ends(&rt, read_all(alloc, &mut source, count), want);
         }
     }
     for (count, limit, want) in [
@@ -101,6 +107,34 @@ fn a_whole_input_is_read_or_fails(rt: HostRuntime) -> Result<(), Fail> {
         None,
     );
     Ok(())
+}
+
+/// A reader whose first call fails.
+#[derive(Drop)]
+struct Late {
+    failed: bool,
+}
+
+impl Read for Late {
+    fn read(&mut self, buf: &mut [u8]) -> io::Result<usize> {
+        if !self.failed {
+            self.failed = true;
+            return Err(io::Error::from(io::ErrorKind::WouldBlock));
+        }
+        let n = buf.len().min(2);
+        buf[..n].copy_from_slice(&b"ab"[..n]);
+        Ok(n)
+    }
+}
+
+#[test]
+fn a_reader_of_std_gives_bytes_after_an_error(rt: HostRuntime) {
+    let mut source = ReadFrom::new(Late { failed: false });
+    let mut room = *b"____";
+    assert_eq!(rt; source.read(&mut room), Got::Failed);
+    assert_eq!(rt; room, *b"____");
+    assert_eq!(rt; source.read(&mut room), Got::Bytes(2));
+    assert_eq!(rt; room, *b"ab__");
 }
 
 /// Sinks by their room, the call that is to fail, the answers to `ab`, `cde` and `f`, and what they keep.
@@ -152,16 +186,23 @@ fn a_sink_keeps_what_fits_and_fails_as_asked(rt: HostRuntime) -> Result<(), Fail
     Ok(())
 }
 
-/// A writer that takes so many bytes at each call, and whose flush fails where it is to.
+/// A writer that takes so many bytes at each call, and that fails at the call that is to fail, or at its flush where it
+/// is to.
 #[derive(Drop)]
 struct Slow<'a> {
     out: &'a mut Vec<u8>,
     most: usize,
+    calls: u32,
+    failing: u32,
     flushes: bool,
 }
 
 impl Write for Slow<'_> {
     fn write(&mut self, buf: &[u8]) -> io::Result<usize> {
+        self.calls = self.calls.saturating_add(1);
+        if self.calls == self.failing {
+            return Err(io::Error::from(io::ErrorKind::BrokenPipe));
+        }
         let n = self.most.min(buf.len());
         self.out.extend_from_slice(&buf[..n])?;
         Ok(n)
@@ -176,21 +217,27 @@ impl Write for Slow<'_> {
     }
 }
 
-/// How many bytes the writer takes at each call, whether it flushes, the answer to `abcde`, and what it took.
-const WRITERS: &[(usize, bool, Wrote, &[u8])] = &[
-    (2, true, Wrote::All, b"abcde"),
-    (9, true, Wrote::All, b"abcde"),
-    (9, false, Wrote::Failed(0), b"abcde"),
-    (0, true, Wrote::Failed(0), b""),
+/// How many bytes the writer takes at each call, the call that is to fail, whether it flushes, the answer to `abcde`,
+/// and what it took.
+const WRITERS: &[(usize, u32, bool, Wrote, &[u8])] = &[
+    (2, 0, true, Wrote::All, b"abcde"),
+    (2, 1, true, Wrote::Failed(0), b""),
+    (2, 2, true, Wrote::Failed(2), b"ab"),
+    (2, 3, true, Wrote::Failed(4), b"abcd"),
+    (9, 0, true, Wrote::All, b"abcde"),
+    (9, 0, false, Wrote::Failed(0), b"abcde"),
+    (0, 0, true, Wrote::Failed(0), b""),
 ];
 
 #[test]
 fn a_writer_of_std_takes_all_or_fails(rt: HostRuntime) -> Result<(), Fail> {
-    for (most, flushes, want, bytes) in WRITERS {
+    for (most, failing, flushes, want, bytes) in WRITERS {
         let mut out = Vec::new(rt.alloc());
         let mut sink = WriteTo::new(Slow {
             out: &mut out,
             most: *most,
+            calls: 0,
+            failing: *failing,
             flushes: *flushes,
         });
         assert_eq!(rt; sink.write(b"abcde"), *want);

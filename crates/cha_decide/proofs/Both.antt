@@ -1,5 +1,5 @@
 -- The verdicts on both sides.
-use Rattle.std.proofs.Common.{◌≡◌, ℕ, ◌≤◌, true, false, List, length, refl, arith}
+use Rattle.std.proofs.Common.{◌≡◌, ◌≤◌, true, false, List, length, refl, arith}
 use Rattle.cha_board.specs.declared.men.Color.{Color}
 use Rattle.cha_board.specs.declared.men.Color.TheVariants.{White, Black}
 use Rattle.cha_board.specs.Men.{other_color}

@@ -1,5 +1,5 @@
 -- Lists put together from pieces: what they begin with.
-use Rattle.std.proofs.Common.{◌≡◌, ℕ, zero, suc, ◌+◌, ◌<◌, ◌≤◌, List, [], ◌∷◌, ◌++◌, ◌⊎◌, length, map, drop, get_or, flat_map, Contains, slice_get, Some, None, sym, ap, ◌∙◌, subst, inl, inr, refl, arith, add-one, drop-cons, drop_of_length-le}
+use Rattle.std.proofs.Common.{◌≡◌, ℕ, suc, ◌+◌, ◌<◌, ◌≤◌, List, [], ◌∷◌, ◌++◌, length, map, drop, get_or, flat_map, Contains, slice_get, Some, None, sym, ap, ◌∙◌, refl, arith, add-one, drop-cons, drop_of_length-le}
 
 module _ {X : Type 0} where
   -- a list without a first element is empty

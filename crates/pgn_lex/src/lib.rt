@@ -7,8 +7,8 @@
 
 mod comments;
 mod kinds;
-mod pieces;
 mod order;
+mod pieces;
 mod reading;
 mod rules;
 mod tag_values;

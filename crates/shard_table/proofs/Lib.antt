@@ -2,3 +2,8 @@ mod Keying
 mod Rowing
 mod Storing
 mod Lasting
+mod Staying
+mod Turning
+mod Places
+mod Eights
+mod Made

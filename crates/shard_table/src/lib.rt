@@ -1,15 +1,25 @@
-//! A bounded list of true facts, the most recently used first.
+//! A bounded list of true facts, the most recently used first, and a table of eight such lists at which threads take turns.
 //!
 //! `shard` has the list and its two calls, `step` the list as a value at which passes take turns, `place` the list as a
-//! place that keeps facts, and `law` what holds after any calls.
+//! place that keeps facts, and `law` what holds after any calls. `table` has the table and its passes, `turns` a probe and
+//! a store there, and `passes` how a table is made, its passes split off and taken back, and how it ends; `eight` takes an
+//! array of eight apart.
 #![tactic(auto)]
 
+mod eight;
 mod law;
+mod passes;
 mod place;
 mod shard;
 mod step;
+mod table;
+mod table_place;
 #[cfg(test)]
 mod tests;
+mod turns;
 
 pub use law::{any_calls_leave_a_shard, keys_are_compared_whole};
 pub use shard::Shard;
+pub use table::{StillOut, Table, TablePass};
+pub use table_place::TableFacts;
+pub use turns::shard_of;

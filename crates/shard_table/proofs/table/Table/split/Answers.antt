@@ -1,0 +1,6 @@
+use Rattle.shard_table.specs.Tables.{pass_at}
+use Rattle.shard_table.proofs.Eights.{split_first}
+use Rattle.shard_table.proofs.table.Table.split.Goals as goal
+
+pub returns-clause-first : goal.returns-clause-first
+returns-clause-first c = split_first c.args.pass.now c.split_each.new.pass (pass_at c.split_each.result) c.requires.first c.split_each.ensures.split

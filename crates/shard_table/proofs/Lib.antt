@@ -7,3 +7,4 @@ mod Turning
 mod Places
 mod Eights
 mod Made
+pub mod Sending

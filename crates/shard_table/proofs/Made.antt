@@ -58,5 +58,8 @@ makes_first old new entries makes first =
       zero_same.2,
     )
 
+pub first_both : (a b c : TablePass) → StaysFirst a b → StaysFirst b c → StaysFirst a c
+first_both a b c one two first = let x = one first in let y = two x.0 in (y.0, y.1 ∙ x.1, y.2 ∙ x.2)
+
 pub turn_first : (table : Table) (old new : TablePass) (call : FactCall) (reply : FactReply) → TakesTurn (shard_number (call_key call)) table old call reply new → OthersStay (shard_number (call_key call)) old new → StaysFirst old new
 turn_first table old new call reply turned others = makes_first old new (record { call = call; reply = reply } ∷ []) (turn_makes table old new call reply turned others)

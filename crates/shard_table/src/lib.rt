@@ -15,6 +15,8 @@ mod step;
 mod table;
 mod table_place;
 #[cfg(test)]
+mod table_tests;
+#[cfg(test)]
 mod tests;
 mod turns;
 

@@ -1,2 +1,6 @@
 pub mod Naming
 pub mod Linking
+pub mod Pushing
+pub mod Keying
+pub mod Storing
+pub mod Adding

@@ -36,3 +36,15 @@ rest_of (x ∷ xs) = xs
 -- the lists without the first name of one
 abbrev pub take_from : List (List ℕ) → ℕ → List (List ℕ)
 take_from lists b = slice_set lists b (rest_of (list_at lists b))
+
+-- the first name of the first list that has one
+abbrev pub first_name : List (List ℕ) → Option ℕ
+first_name [] = None
+first_name ([] ∷ ls) = first_name ls
+first_name ((x ∷ xs) ∷ ls) = Some x
+
+-- the lists without it
+abbrev pub without_first : List (List ℕ) → List (List ℕ)
+without_first [] = []
+without_first ([] ∷ ls) = [] ∷ without_first ls
+without_first ((x ∷ xs) ∷ ls) = xs ∷ ls

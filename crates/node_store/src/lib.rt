@@ -1,6 +1,14 @@
 //! The positions of an exploration, named by number, and which of them wait to be expanded.
+//!
+//! `store` has the positions and what waits, `origin` where a position came from, `spot` positions as keys of a table,
+//! and `chains` the lists of waiting names, linked by index.
 #![tactic(auto)]
 
 mod chains;
+mod origin;
+mod spot;
+mod store;
 
 pub use chains::Chains;
+pub use origin::Origin;
+pub use store::Store;

@@ -1,0 +1,6 @@
+use Rattle.std.proofs.Common.{◌≡◌, ◌<◌, ◌≤◌, ◌+◌, ℕ, Some, None, length, refl, sym, ap, subst, ◌∙◌, arith}
+use Rattle.node_store.proofs.Keying.{at_entry}
+use Rattle.node_store.proofs.store.Store.position.Goals as goal
+
+pub returns : goal.returns
+returns c = rw (← c.self.view_is) (at_entry c.self.inside.nodes.entries c.args.name c.in-Some.spot.now c.in-Some.field-0-1.now (sym c.in-Some.ensures.entry))

@@ -1,0 +1,198 @@
+//! The positions of an exploration and the names of those that wait.
+
+ghost use Rattle.std.specs.Prelude.{◌≡◌, ◌+◌, ◌<◌, ℕ, [], ◌∷◌, ◌++◌, false, true, None, Some, length, replicate, slice_get, IfSome, IfNone, IfOk, OnOk, OnErr};
+ghost use Rattle.node_store.specs.Lists.{list_at, Has, put, first_name, without_first};
+ghost use Rattle.node_store.specs.Nodes.{leaves, mark, IsAt, IsNew, IsPath, IsReached};
+ghost use Rattle.node_store.specs.Graphs.{IsStore, HasOrigin};
+
+use crate::chains::Chains;
+use crate::origin::{Origin, Place};
+use crate::spot::Spot;
+use cha_board::Position;
+use cha_list::NoMemory;
+use cha_moves::{Move, Moves};
+use indexmap::IndexMap;
+use std::alloc::Global;
+use std::marker::Model;
+
+/// The positions of an exploration, named from 0 on, each with the node that it came from and the move that led there.
+/// Some wait to be expanded, in 64 lists. Contracts see the nodes, the lists of waiting names, and for how many more
+/// nodes there is room.
+#[derive(Drop)]
+pub struct Store {
+    nodes: IndexMap<Spot, Place>,
+    waiting: Chains,
+}
+
+impl Model for Store {
+    ghost use Rattle.std.specs.Prelude.{min};
+    ghost use Rattle.indexmap.specs.IndexMap.{spare};
+    ghost use Rattle.node_store.specs.Graphs.{Graph};
+
+    ghost Value = { Graph };
+
+    ghost use Rattle.node_store.specs.Places.{nodes_of, AreStored};
+
+    ghost view = { λ s. record { nodes = nodes_of s.nodes.entries; waiting = s.waiting.lists; spare = min (spare s.nodes) s.waiting.spare } };
+
+    ghost invariant = { λ s. AreStored s.nodes.entries s.waiting.lists s.waiting.slots };
+}
+
+impl Store {
+    /// A store of one node, 0, which waits in list 0.
+    pub fn new(alloc: Global, root: &Position) -> Result<Store, NoMemory>
+        ensures nodes { IfOk result (λ store. store.nodes ≡ record { position = root.now; origin = None; leaf = false } ∷ []) }
+        ensures waiting { IfOk result (λ store. store.waiting ≡ put (replicate 64 []) 0 0) }
+    {
+        root.known();
+        let mut waiting = Chains::new(alloc);
+        waiting.reserve(1)?;
+        let mut nodes = IndexMap::new(alloc);
+        let place = Place {
+            origin: None,
+            leaf: false,
+        };
+        nodes.insert(Spot { position: *root }, place)?;
+        let name = waiting.slot();
+        waiting.put(0, name);
+        Ok(Store { nodes, waiting })
+    }
+
+    /// What holds of every store: positions are distinct and valid, each node but the root comes from an earlier one by a
+    /// legal move, each waiting name is a node that is no leaf, and waits once.
+    pub fn known(&self)
+        ensures { IsStore self.now.nodes self.now.waiting }
+    {
+        let _nodes = &self.nodes;
+    }
+
+    /// How many nodes there are.
+    pub fn len(&self) -> u32
+        ensures { result ≡ length self.now.nodes }
+    {
+        self.nodes.len() as u32
+    }
+
+    /// The name of a position. `None` where no node has it.
+    pub fn find(&self, position: &Position) -> Option<u32>
+        ensures found { IfSome result (λ name. IsAt self.now.nodes name position.now) }
+        ensures none { IfNone result (IsNew self.now.nodes position.now) }
+    {
+        position.known();
+        let wanted = Spot {
+            position: *position,
+        };
+        match self.nodes.get_full(&wanted) {
+            None => None,
+            Some((at, spot, _)) => {
+                spot.position.known();
+                Some(at as u32)
+            }
+        }
+    }
+
+    /// The position of a node.
+    pub fn position(&self, name: u32) -> Position
+        requires { name < length self.now.nodes }
+        ensures { IsAt self.now.nodes name result }
+    {
+        match self.nodes.get_index(name as usize) {
+            Some((spot, _)) => spot.position,
+            None => unreachable!(),
+        }
+    }
+
+    /// Whether a node is a leaf.
+    pub fn is_leaf(&self, name: u32) -> bool
+        requires { name < length self.now.nodes }
+        ensures { slice_get (leaves self.now.nodes) name ≡ Some result }
+    {
+        match self.nodes.get_index(name as usize) {
+            Some((_, place)) => place.leaf,
+            None => unreachable!(),
+        }
+    }
+
+    /// Adds a node that does not wait. On a refusal nothing changes.
+    fn insert(&mut self, position: &Position, origin: Origin, leaf: bool) -> Result<u32, NoMemory>
+        requires new { IsNew self.old.nodes position.now }
+        requires reached { IsReached self.old.nodes origin.parent origin.by position.now }
+        requires few { length self.old.nodes < 4294967295 }
+        ensures name { IfOk result (λ name. name ≡ length self.old.nodes) }
+        ensures nodes { OnOk result (self.new.nodes ≡ self.old.nodes ++ record { position = position.now; origin = Some origin; leaf = leaf } ∷ []) }
+        ensures waiting { self.new.waiting ≡ self.old.waiting }
+        ensures err { OnErr result (self.new.nodes ≡ self.old.nodes) }
+    {
+        position.known();
+        self.waiting.reserve(1)?;
+        let place = Place {
+            origin: Some(origin),
+            leaf,
+        };
+        self.nodes.insert(
+            Spot {
+                position: *position,
+            },
+            place,
+        )?;
+        Ok(self.waiting.slot())
+    }
+
+    /// Adds a node that waits in one of the 64 lists: a position that no node has yet, and that a legal move reaches from
+    /// its parent. On a refusal nothing changes.
+    pub fn add(
+        &mut self,
+        position: &Position,
+        parent: u32,
+        by: Move,
+        bucket: u8,
+    ) -> Result<u32, NoMemory>
+        requires new { IsNew self.old.nodes position.now }
+        requires reached { IsReached self.old.nodes parent by position.now }
+        requires bucket { bucket < 64 }
+        requires few { length self.old.nodes < 4294967295 }
+        ensures name { IfOk result (λ name. name ≡ length self.old.nodes) }
+        ensures nodes { OnOk result (self.new.nodes ≡ self.old.nodes ++ record { position = position.now; origin = Some (record { parent = parent; by = by }); leaf = false } ∷ []) }
+        ensures waiting { OnOk result (self.new.waiting ≡ put self.old.waiting bucket (length self.old.nodes)) }
+        ensures unchanged_nodes { OnErr result (self.new.nodes ≡ self.old.nodes) }
+        ensures unchanged_waiting { OnErr result (self.new.waiting ≡ self.old.waiting) }
+    {
+        self.known();
+        let name = self.insert(position, Origin { parent, by }, false)?;
+        self.waiting.put(bucket, name);
+        Ok(name)
+    }
+
+    /// Adds a leaf, which does not wait. On a refusal nothing changes.
+    pub fn add_leaf(
+        &mut self,
+        position: &Position,
+        parent: u32,
+        by: Move,
+    ) -> Result<u32, NoMemory>
+        requires new { IsNew self.old.nodes position.now }
+        requires reached { IsReached self.old.nodes parent by position.now }
+        requires few { length self.old.nodes < 4294967295 }
+        ensures name { IfOk result (λ name. name ≡ length self.old.nodes) }
+        ensures nodes { OnOk result (self.new.nodes ≡ self.old.nodes ++ record { position = position.now; origin = Some (record { parent = parent; by = by }); leaf = true } ∷ []) }
+        ensures waiting { self.new.waiting ≡ self.old.waiting }
+        ensures unchanged_nodes { OnErr result (self.new.nodes ≡ self.old.nodes) }
+    {
+        self.insert(position, Origin { parent, by }, true)
+    }
+
+    /// Takes the name that was added last of the first list that has one. `None` where none waits.
+    pub fn pop(&mut self) -> Option<u32>
+        ensures name { result ≡ first_name self.old.waiting }
+        ensures waiting { self.new.waiting ≡ without_first self.old.waiting }
+        ensures nodes { self.new.nodes ≡ self.old.nodes }
+        ensures spare { self.new.spare ≡ self.old.spare }
+        ensures inner { IfSome result (λ name. slice_get (leaves self.old.nodes) name ≡ Some false) }
+        ensures waited { IfSome result (λ name. (b : ℕ) → Has (list_at self.new.waiting b) name → ⊥) }
+    {
+        match self.waiting.first_used() {
+            None => None,
+            Some(bucket) => self.waiting.take(bucket),
+        }
+    }
+}

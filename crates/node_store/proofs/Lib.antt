@@ -4,3 +4,5 @@ pub mod Pushing
 pub mod Keying
 pub mod Storing
 pub mod Adding
+pub mod Marking
+pub mod Paths

@@ -1,6 +1,7 @@
 //! The positions of an exploration and the names of those that wait.
 
 ghost use Rattle.std.specs.Prelude.{◌≡◌, ◌+◌, ◌<◌, ℕ, [], ◌∷◌, ◌++◌, false, true, None, Some, length, replicate, slice_get, IfSome, IfNone, IfOk, OnOk, OnErr};
+ghost use Rattle.cha_board.specs.Board.{Board};
 ghost use Rattle.node_store.specs.Lists.{list_at, Has, put, first_name, without_first};
 ghost use Rattle.node_store.specs.Nodes.{leaves, mark, IsAt, IsNew, IsPath, IsReached};
 ghost use Rattle.node_store.specs.Graphs.{IsStore, HasOrigin};
@@ -194,5 +195,44 @@ impl Store {
             None => None,
             Some(bucket) => self.waiting.take(bucket),
         }
+    }
+
+    /// Marks a node that does not wait as a leaf.
+    pub fn mark_leaf(&mut self, name: u32)
+        requires within { name < length self.old.nodes }
+        requires free { (b : ℕ) → Has (list_at self.old.waiting b) name → ⊥ }
+        ensures nodes { self.new.nodes ≡ mark self.old.nodes name }
+        ensures waiting { self.new.waiting ≡ self.old.waiting }
+    {
+        match self.nodes.get_index_mut(name as usize) {
+            Some(place) => place.leaf = true,
+            None => unreachable!(),
+        }
+    }
+
+    /// Where a node came from. `None` for the root alone.
+    pub fn origin(&self, name: u32) -> Option<Origin>
+        requires { name < length self.now.nodes }
+        ensures { (q : Board) × IsAt self.now.nodes name q × HasOrigin self.now.nodes name q result }
+    {
+        match self.nodes.get_index(name as usize) {
+            Some((_, place)) => place.origin,
+            None => unreachable!(),
+        }
+    }
+
+    /// The legal moves, one after another, from the root to a node.
+    pub fn path(&self, alloc: Global, name: u32) -> Result<Moves, NoMemory>
+        requires { name < length self.now.nodes }
+        ensures { IfOk result (λ moves. IsPath self.now.nodes 0 moves name) }
+    {
+        let mut back = Vec::new(alloc);
+        let mut at = name;
+        while let Some(origin) = self.origin(at) {
+            back.push(origin.by)?;
+            at = origin.parent;
+        }
+        back.reverse();
+        Ok(Moves::from_vec(back))
     }
 }

@@ -1,5 +1,5 @@
 -- The line from the root to a node.
-use Rattle.std.proofs.Common.{◌≡◌, ℕ, ◌<◌, List, [], ◌∷◌, ◌++◌, Option, None, Some, slice_get, reverse, refl, sym, ap, subst, ◌∙◌, arith}
+use Rattle.std.proofs.Common.{◌≡◌, ℕ, zero, suc, ◌<◌, length, List, [], ◌∷◌, ◌++◌, Option, None, Some, slice_get, reverse, refl, sym, ap, subst, ◌∙◌, arith}
 use Rattle.std.proofs.lemmas.List.{reverse-append}
 use Rattle.std.proofs.lemmas.Option.{same_Some}
 use Rattle.cha_board.specs.Board.{Board}
@@ -36,3 +36,14 @@ path_whole nodes at name back moves q origin is path =
 pub earlier : (nodes : List Node) (at : ℕ) (q : Board) (o : Origin) → HasOrigin nodes at q (Some o) → o.parent < at
 unfolding HasOrigin
 earlier nodes at q o origin = origin.0
+
+-- each name below the number of nodes has a position
+pub at_within : (nodes : List Node) (name : ℕ) → name < length nodes → (q : Board) × IsAt nodes name q
+at_within [] name within = absurd (omega arith)
+at_within (n ∷ ns) zero within = (n.position, refl)
+at_within (n ∷ ns) (suc name) within = at_within ns name (omega arith)
+
+pub path_begins : (nodes : List Node) (name : ℕ) (back : List Move) → name < length nodes → back ≡ [] → IsPath nodes name (reverse back) name
+path_begins nodes name back within none =
+    let here = at_within nodes name within in
+    subst (λ (ms : List Move). IsPath nodes name (reverse ms) name) (sym none) (path_none nodes name here.0 here.1)

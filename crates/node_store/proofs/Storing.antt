@@ -138,6 +138,10 @@ module _ (nodes : List Node) (waiting : List (List ℕ)) (was : IsStore nodes wa
     front_inner [] is = tt
     front_inner (x ∷ xs) is = was.inner b x (subst (λ (ys : List ℕ). Has ys x) (sym is) (has_front x xs))
 
+    pub front_within : (list : List ℕ) → list_at waiting b ≡ list → IfSome (front_of list) (λ name. name < length nodes)
+    front_within [] is = tt
+    front_within (x ∷ xs) is = waits_within b x (subst (λ (ys : List ℕ). Has ys x) (sym is) (has_front x xs))
+
     pub front_waited : (list : List ℕ) → b < 64 → list_at waiting b ≡ list → IfSome (front_of list) (λ name. (k : ℕ) → Has (list_at (take_from waiting b) k) name → ⊥)
     front_waited [] within is = tt
     front_waited (x ∷ xs) within is = taken_waits_no_more x xs within is

@@ -8,6 +8,8 @@ mod chains;
 mod origin;
 mod spot;
 mod store;
+#[cfg(test)]
+mod tests;
 
 pub use chains::Chains;
 pub use origin::Origin;

@@ -188,7 +188,8 @@ impl Store {
         ensures waiting { self.new.waiting ≡ without_first self.old.waiting }
         ensures nodes { self.new.nodes ≡ self.old.nodes }
         ensures spare { self.new.spare ≡ self.old.spare }
-        ensures inner { IfSome result (λ name. slice_get (leaves self.old.nodes) name ≡ Some false) }
+        ensures within { IfSome result (λ name. name < length self.new.nodes) }
+        ensures inner { IfSome result (λ name. slice_get (leaves self.new.nodes) name ≡ Some false) }
         ensures waited { IfSome result (λ name. (b : ℕ) → Has (list_at self.new.waiting b) name → ⊥) }
     {
         match self.waiting.first_used() {

@@ -1,5 +1,5 @@
 use Rattle.std.proofs.Common.{◌≡◌, ◌<◌, ◌≤◌, ◌+◌, ℕ, Some, None, length, refl, sym, ap, subst, ◌∙◌, arith}
-use Rattle.node_store.proofs.Storing.{store_take, first_used_is, none_used, front_inner, front_waited}
+use Rattle.node_store.proofs.Storing.{store_take, first_used_is, none_used, front_inner, front_within, front_waited}
 use Rattle.node_store.specs.Lists.{list_at}
 use Rattle.node_store.specs.Places.{nodes_of}
 use Rattle.node_store.specs.Graphs.{IsStore}
@@ -20,8 +20,11 @@ returns-in-Some-clause-name c = rw (← c.self.view_is) (c.take.ensures.name ∙
 pub returns-in-Some-clause-waiting : goal.returns-in-Some-clause-waiting
 returns-in-Some-clause-waiting c = rw (← c.self.view_is) (c.take.ensures.lists ∙ (first_used_is c.self.inside.waiting.lists c.in-Some.bucket c.in-Some.ensures.before c.in-Some.ensures.found.1).1)
 
+pub returns-in-Some-clause-within : goal.returns-in-Some-clause-within
+returns-in-Some-clause-within c = rw (c.take.ensures.name) (front_within (nodes_of c.self.inside.nodes.entries) c.self.inside.waiting.lists c.self.invariant.store c.in-Some.bucket (list_at c.self.inside.waiting.lists c.in-Some.bucket) refl)
+
 pub returns-in-Some-clause-inner : goal.returns-in-Some-clause-inner
-returns-in-Some-clause-inner c = rw (c.take.ensures.name, ← c.self.view_is) (front_inner (nodes_of c.self.inside.nodes.entries) c.self.inside.waiting.lists c.self.invariant.store c.in-Some.bucket (list_at c.self.inside.waiting.lists c.in-Some.bucket) refl)
+returns-in-Some-clause-inner c = rw (c.take.ensures.name) (front_inner (nodes_of c.self.inside.nodes.entries) c.self.inside.waiting.lists c.self.invariant.store c.in-Some.bucket (list_at c.self.inside.waiting.lists c.in-Some.bucket) refl)
 
 pub returns-in-Some-clause-waited : goal.returns-in-Some-clause-waited
 returns-in-Some-clause-waited c = rw (c.take.ensures.name, c.take.ensures.lists) (front_waited (nodes_of c.self.inside.nodes.entries) c.self.inside.waiting.lists c.self.invariant.store c.in-Some.bucket (list_at c.self.inside.waiting.lists c.in-Some.bucket) c.in-Some.ensures.found.0 refl)

@@ -1,0 +1,117 @@
+//! Stores of the opening: in which order names come back, and positions found again by the moves that led there.
+
+use crate::Store;
+use cha_board::{Position, Square, same_position};
+use cha_moves::{Move, after, is_legal, legal};
+use std::alloc::Global;
+use std::test::Fail;
+
+/// Adds the position after a move, unless it is there: one that waits in a list, or a leaf.
+fn add(store: &mut Store, parent: u32, by: Move, list: Option<u8>) -> Result<u32, Fail> {
+    if parent >= store.len() || store.len() > 100_000 {
+        Err("no place")?;
+    }
+    let here = store.position(parent);
+    if !is_legal(&here, by) {
+        Err("no legal move")?;
+    }
+    let next = after(&here, by);
+    if let Some(name) = store.find(&next) {
+        return Ok(name);
+    }
+    match list {
+        Some(bucket) if bucket < 64 => Ok(store.add(&next, parent, by, bucket)?),
+        _ => Ok(store.add_leaf(&next, parent, by)?),
+    }
+}
+
+/// Adds all positions after one of those in the store.
+fn expand(alloc: Global, store: &mut Store, name: u32, bucket: u8) -> Result<(), Fail> {
+    if name >= store.len() {
+        Err("no node")?;
+    }
+    for by in &legal(alloc, &store.position(name))? {
+        add(store, name, *by, Some(bucket))?;
+    }
+    Ok(())
+}
+
+/// A move without a promotion.
+fn from_to(from: u8, to: u8) -> Result<Move, Fail> {
+    Ok(Move {
+        from: Square::new(from).ok_or("no square")?,
+        to: Square::new(to).ok_or("no square")?,
+        promotion: None,
+    })
+}
+
+#[test]
+fn names_come_back_from_the_first_list_and_the_last_added_first(
+    rt: HostRuntime,
+) -> Result<(), Fail> {
+    let mut store = Store::new(rt.alloc(), &Position::start())?;
+    assert!(rt; store.pop() == Some(0));
+    assert!(rt; add(&mut store, 0, from_to(12, 28)?, Some(5))? == 1);
+    assert!(rt; add(&mut store, 0, from_to(11, 27)?, Some(5))? == 2);
+    assert!(rt; add(&mut store, 0, from_to(6, 21)?, Some(2))? == 3);
+    assert!(rt; store.pop() == Some(3));
+    assert!(rt; store.pop() == Some(2));
+    assert!(rt; store.pop() == Some(1));
+    assert!(rt; store.pop() == None);
+    Ok(())
+}
+
+/// After two plies there are 400 positions, each reached by one pair of moves.
+#[test]
+fn the_positions_of_two_plies_are_found_again_by_their_lines(rt: HostRuntime) -> Result<(), Fail> {
+    let alloc = rt.alloc();
+    let start = Position::start();
+    let mut store = Store::new(alloc, &start)?;
+    for turn in 0..21u8 {
+        let name = store.pop().ok_or("none waits")?;
+        let bucket = if turn == 0 { 7 } else { 63 };
+        expand(alloc, &mut store, name, bucket)?;
+    }
+    assert_eq!(rt; store.len(), 421);
+    for name in 0..store.len() {
+        let position = store.position(name);
+        assert!(rt; store.find(&position) == Some(name));
+        let line = store.path(alloc, name)?;
+        assert!(rt; line.items().len() == if name == 0 { 0 } else if name <= 20 { 1 } else { 2 });
+        let mut now = start;
+        for by in line.items() {
+            assert!(rt; is_legal(&now, *by));
+            now = after(&now, *by);
+        }
+        assert!(rt; same_position(&now, &position));
+    }
+    Ok(())
+}
+
+/// The knights go out and back again.
+#[test]
+fn a_position_that_comes_again_has_its_first_name(rt: HostRuntime) -> Result<(), Fail> {
+    let mut store = Store::new(rt.alloc(), &Position::start())?;
+    let mut name = 0;
+    for (from, to) in &[(6u8, 21u8), (62, 45), (21, 6), (45, 62)] {
+        name = add(&mut store, name, from_to(*from, *to)?, Some(0))?;
+    }
+    assert!(rt; name == 0);
+    assert_eq!(rt; store.len(), 4);
+    Ok(())
+}
+
+#[test]
+fn a_leaf_does_not_wait(rt: HostRuntime) -> Result<(), Fail> {
+    let mut store = Store::new(rt.alloc(), &Position::start())?;
+    let by = from_to(12, 28)?;
+    let name = add(&mut store, 0, by, None)?;
+    assert!(rt; name == 1 && name < store.len() && store.is_leaf(name));
+    if let Some(root) = store.pop() {
+        assert!(rt; root == 0 && !store.is_leaf(root));
+        store.mark_leaf(root);
+        assert!(rt; root < store.len() && store.is_leaf(root));
+    }
+    assert!(rt; store.pop() == None);
+    Ok(())
+}

@@ -52,7 +52,7 @@ pub stored_put : (nodes : List Node) (waiting : List (List ℕ)) (es : List (Spo
     → nodes_of es ≡ nodes ++ n ∷ [] → n.leaf ≡ false → lists ≡ waiting → name ≡ length nodes → later ≡ put lists b name → named ≡ slots → AreStored es later named
 stored_put nodes waiting es lists later slots named b name n old was is inner same last put_is named_is =
     let at : slice_get (leaves (nodes_of es)) name ≡ Some false =
-        ap (λ (k : ℕ). slice_get (leaves (nodes_of es)) k) last ∙ ap (λ (ns : List Node). slice_get (leaves ns) (length nodes)) is ∙ map_push_at (λ (m : Node). m.leaf) nodes n ∙ ap Some inner in
+    ap (λ (k : ℕ). slice_get (leaves (nodes_of es)) k) last ∙ ap (λ (ns : List Node). slice_get (leaves ns) (length nodes)) is ∙ map_push_at (λ (m : Node). m.leaf) nodes n ∙ ap Some inner in
     record {
       store = subst (IsStore (nodes_of es)) (sym put_is) (store_put (nodes_of es) lists was.store b name at
           (subst (λ (ls : List (List ℕ)). (k : ℕ) → Has (list_at ls k) name → ⊥) (sym same) (fresh nodes waiting name old last))

@@ -136,9 +136,9 @@ module _ (heads : List Head) (links : List ℕ) where
           let more : here.count + 1 ≡ suc here.count = omega arith in
           let link : get_or (set links name here.front) name 0 ≡ here.front = get_or-set_same links name here.front 0 slot in
           let rest : chain (set links name here.front) here.count (get_or (set links name here.front) name 0) ≡ list_at (lists_of heads links) b =
-              ap (chain (set links name here.front) here.count) link ∙ sym (at_head_of (set links name here.front) heads b) ∙ ap (λ (ls : List (List ℕ)). list_at ls b) kept in
+          ap (chain (set links name here.front) here.count) link ∙ sym (at_head_of (set links name here.front) heads b) ∙ ap (λ (ls : List (List ℕ)). list_at ls b) kept in
           let whole : list_of (set links name here.front) (record { front = name; count = here.count + 1 }) ≡ name ∷ list_at (lists_of heads links) b =
-              counted (set links name here.front) (here.count + 1) here.count name more ∙ ap (λ (xs : List ℕ). name ∷ xs) rest in
+          counted (set links name here.front) (here.count + 1) here.count name more ∙ ap (λ (xs : List ℕ). name ∷ xs) rest in
           map-set (list_of (set links name here.front)) heads b (record { front = name; count = here.count + 1 }) ∙ (λ i. set (kept i) b (whole i))
 
       pub chained_put : (name : ℕ) → b < 64 → name < length links → ((k : ℕ) → Has (list_at (lists_of heads links) k) name → ⊥) → AreBelow (list_at (lists_of heads links) b) name

@@ -10,9 +10,9 @@ at_set (x ∷ xs) zero l zero = inl (refl, refl)
 at_set (x ∷ xs) zero l (suc k) = inr refl
 at_set (x ∷ xs) (suc b) l zero = inr refl
 at_set (x ∷ xs) (suc b) l (suc k) = elim (at_set xs b l k) [
-      inl here ↦ inl (ap suc here.0, here.1)
-    | inr there ↦ inr there
-    ]
+  | inl here ↦ inl (ap suc here.0, here.1)
+  | inr there ↦ inr there
+]
 
 -- the list that was put there
 pub at_set_same : (lists : List (List ℕ)) (b : ℕ) (l : List ℕ) → b < length lists → list_at (set lists b l) b ≡ l
@@ -68,9 +68,9 @@ below_front x xs falls = falls.0
 
 pub below_put : (x : ℕ) (xs : List ℕ) (bound : ℕ) → x < bound → AreBelow xs bound → AreBelow (x ∷ xs) bound
 below_put x xs bound first rest n h = elim (has_cases x xs n h) [
-      inl is ↦ omega arith
-    | inr later ↦ rest n later
-    ]
+  | inl is ↦ omega arith
+  | inr later ↦ rest n later
+]
 
 -- another list of names that exist and fall may take the place of one
 pub chained_set : (lists : List (List ℕ)) (slots b : ℕ) (l : List ℕ) → AreChained lists slots → AreBelow l slots → Falls l → AreChained (set lists b l) slots
@@ -78,13 +78,13 @@ chained_set lists slots b l was below falls = record {
   size = length-set lists b l ∙ was.size;
   few = was.few;
   below = λ k n h. elim (at_set lists b l k) [
-        inl here ↦ below n (subst (λ (xs : List ℕ). Has xs n) here.1 h)
-      | inr there ↦ was.below k n (subst (λ (xs : List ℕ). Has xs n) there h)
-      ];
+    | inl here ↦ below n (subst (λ (xs : List ℕ). Has xs n) here.1 h)
+    | inr there ↦ was.below k n (subst (λ (xs : List ℕ). Has xs n) there h)
+  ];
   falls = λ k. elim (at_set lists b l k) [
-        inl here ↦ subst Falls (sym here.1) falls
-      | inr there ↦ subst Falls (sym there) (was.falls k)
-      ];
+    | inl here ↦ subst Falls (sym here.1) falls
+    | inr there ↦ subst Falls (sym there) (was.falls k)
+  ];
 }
 
 -- one more name may exist

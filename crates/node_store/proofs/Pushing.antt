@@ -7,9 +7,9 @@ push_cases [] y zero z h = inr (refl, same_Some y z h)
 push_cases [] y (suc i) z h = cc
 push_cases (x ∷ xs) y zero z h = inl h
 push_cases (x ∷ xs) y (suc i) z h = elim (push_cases xs y i z h) [
-      inl before ↦ inl before
-    | inr last ↦ inr (ap suc last.0, last.1)
-    ]
+  | inl before ↦ inl before
+  | inr last ↦ inr (ap suc last.0, last.1)
+]
 
 module _ {X Y : Type 0} (f : X → Y) where
   pub map_push_cases : (xs : List X) (y : X) (i : ℕ) (z : Y) → slice_get (map f (xs ++ y ∷ [])) i ≡ Some z → (slice_get (map f xs) i ≡ Some z) ⊎ ((i ≡ length xs) × (f y ≡ z))
@@ -17,9 +17,9 @@ module _ {X Y : Type 0} (f : X → Y) where
   map_push_cases [] y (suc i) z h = cc
   map_push_cases (x ∷ xs) y zero z h = inl h
   map_push_cases (x ∷ xs) y (suc i) z h = elim (map_push_cases xs y i z h) [
-        inl before ↦ inl before
-      | inr last ↦ inr (ap suc last.0, last.1)
-      ]
+    | inl before ↦ inl before
+    | inr last ↦ inr (ap suc last.0, last.1)
+  ]
 
   pub map_push_keeps : (xs ys : List X) (i : ℕ) (z : Y) → slice_get (map f xs) i ≡ Some z → slice_get (map f (xs ++ ys)) i ≡ Some z
   map_push_keeps [] ys i z h = cc

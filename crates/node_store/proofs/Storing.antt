@@ -31,24 +31,24 @@ module _ (nodes : List Node) (waiting : List (List ℕ)) (was : IsStore nodes wa
         some = omega arith;
         few = omega arith;
         distinct = λ i j q at_i at_j. elim (map_push_cases (λ (m : Node). m.position) nodes n i q at_i) [
-              inl a ↦ elim (map_push_cases (λ (m : Node). m.position) nodes n j q at_j) [
-                  inl b ↦ was.distinct i j q a b
-                | inr b ↦ absurd (new i (a ∙ ap Some (sym b.1)))
-                ]
-            | inr a ↦ elim (map_push_cases (λ (m : Node). m.position) nodes n j q at_j) [
-                  inl b ↦ absurd (new j (b ∙ ap Some (sym a.1)))
-                | inr b ↦ a.0 ∙ sym b.0
-                ]
-            ];
+          | inl a ↦ elim (map_push_cases (λ (m : Node). m.position) nodes n j q at_j) [
+            | inl b ↦ was.distinct i j q a b
+            | inr b ↦ absurd (new i (a ∙ ap Some (sym b.1)))
+          ]
+          | inr a ↦ elim (map_push_cases (λ (m : Node). m.position) nodes n j q at_j) [
+            | inl b ↦ absurd (new j (b ∙ ap Some (sym a.1)))
+            | inr b ↦ a.0 ∙ sym b.0
+          ]
+        ];
         valid = λ i q at. elim (map_push_cases (λ (m : Node). m.position) nodes n i q at) [
-              inl a ↦ was.valid i q a
-            | inr a ↦ subst IsValid a.1 sound
-            ];
+          | inl a ↦ was.valid i q a
+          | inr a ↦ subst IsValid a.1 sound
+        ];
         origins = λ i node at. elim (push_cases nodes n i node at) [
-              inl a ↦ reached_push nodes n i node.position node.origin (was.origins i node a)
-            | inr a ↦ subst (λ (k : ℕ). HasOrigin (nodes ++ n ∷ []) k node.position node.origin) (sym a.0)
-                (subst (λ (m : Node). HasOrigin (nodes ++ n ∷ []) (length nodes) m.position m.origin) a.1 (reached_last nodes n o within reached is))
-            ];
+          | inl a ↦ reached_push nodes n i node.position node.origin (was.origins i node a)
+          | inr a ↦ subst (λ (k : ℕ). HasOrigin (nodes ++ n ∷ []) k node.position node.origin) (sym a.0)
+              (subst (λ (m : Node). HasOrigin (nodes ++ n ∷ []) (length nodes) m.position m.origin) a.1 (reached_last nodes n o within reached is))
+        ];
         size = was.size;
         inner = λ b k h. map_push_keeps (λ (m : Node). m.leaf) nodes (n ∷ []) k false (was.inner b k h);
         apart = was.apart;
@@ -63,12 +63,12 @@ module _ (nodes : List Node) (waiting : List (List ℕ)) (was : IsStore nodes wa
     -- where a name stands once one was put in front of a list
     put_cases : (name k n : ℕ) → Has (list_at (put waiting b name) k) n → ((n ≡ name) × (k ≡ b)) ⊎ Has (list_at waiting k) n
     put_cases name k n h = elim (at_set waiting b (name ∷ list_at waiting b) k) [
-          inl here ↦ elim (has_cases name (list_at waiting b) n (subst (λ (xs : List ℕ). Has xs n) here.1 h)) [
-              inl is ↦ inl (is, here.0)
-            | inr later ↦ inr (subst (λ (c : ℕ). Has (list_at waiting c) n) (sym here.0) later)
-            ]
-        | inr there ↦ inr (subst (λ (xs : List ℕ). Has xs n) there h)
-        ]
+      | inl here ↦ elim (has_cases name (list_at waiting b) n (subst (λ (xs : List ℕ). Has xs n) here.1 h)) [
+        | inl is ↦ inl (is, here.0)
+        | inr later ↦ inr (subst (λ (c : ℕ). Has (list_at waiting c) n) (sym here.0) later)
+      ]
+      | inr there ↦ inr (subst (λ (xs : List ℕ). Has xs n) there h)
+    ]
 
     -- a node that is no leaf and waits nowhere may wait
     pub store_put : (name : ℕ) → slice_get (leaves nodes) name ≡ Some false → ((k : ℕ) → Has (list_at waiting k) name → ⊥) → AreBelow (list_at waiting b) name → IsStore nodes (put waiting b name)
@@ -80,31 +80,31 @@ module _ (nodes : List Node) (waiting : List (List ℕ)) (was : IsStore nodes wa
       origins = was.origins;
       size = length-set waiting b (name ∷ list_at waiting b) ∙ was.size;
       inner = λ k n h. elim (put_cases name k n h) [
-            inl new ↦ subst (λ (m : ℕ). slice_get (leaves nodes) m ≡ Some false) (sym new.0) inner
-          | inr old ↦ was.inner k n old
-          ];
+        | inl new ↦ subst (λ (m : ℕ). slice_get (leaves nodes) m ≡ Some false) (sym new.0) inner
+        | inr old ↦ was.inner k n old
+      ];
       apart = λ k c n h g. elim (put_cases name k n h) [
-            inl new ↦ elim (put_cases name c n g) [
-                inl also ↦ new.1 ∙ sym also.1
-              | inr old ↦ absurd (free c (subst (Has (list_at waiting c)) new.0 old))
-              ]
-          | inr old ↦ elim (put_cases name c n g) [
-                inl new ↦ absurd (free k (subst (Has (list_at waiting k)) new.0 old))
-              | inr also ↦ was.apart k c n old also
-              ]
-          ];
+        | inl new ↦ elim (put_cases name c n g) [
+          | inl also ↦ new.1 ∙ sym also.1
+          | inr old ↦ absurd (free c (subst (Has (list_at waiting c)) new.0 old))
+        ]
+        | inr old ↦ elim (put_cases name c n g) [
+          | inl new ↦ absurd (free k (subst (Has (list_at waiting k)) new.0 old))
+          | inr also ↦ was.apart k c n old also
+        ]
+      ];
       falls = λ k. elim (at_set waiting b (name ∷ list_at waiting b) k) [
-            inl here ↦ subst Falls (sym here.1) (falls_put name (list_at waiting b) above (was.falls b))
-          | inr there ↦ subst Falls (sym there) (was.falls k)
-          ];
+        | inl here ↦ subst Falls (sym here.1) (falls_put name (list_at waiting b) above (was.falls b))
+        | inr there ↦ subst Falls (sym there) (was.falls k)
+      ];
     }
 
     -- what stands in a list once a front was taken stood there
     took : (k n : ℕ) → Has (list_at (take_from waiting b) k) n → Has (list_at waiting k) n
     took k n h = elim (at_set waiting b (rest_of (list_at waiting b)) k) [
-          inl here ↦ subst (λ (c : ℕ). Has (list_at waiting c) n) (sym here.0) (has_rest (list_at waiting b) n (subst (λ (xs : List ℕ). Has xs n) here.1 h))
-        | inr there ↦ subst (λ (xs : List ℕ). Has xs n) there h
-        ]
+      | inl here ↦ subst (λ (c : ℕ). Has (list_at waiting c) n) (sym here.0) (has_rest (list_at waiting b) n (subst (λ (xs : List ℕ). Has xs n) here.1 h))
+      | inr there ↦ subst (λ (xs : List ℕ). Has xs n) there h
+    ]
 
     -- a front may be taken
     pub store_take : IsStore nodes (take_from waiting b)
@@ -118,9 +118,9 @@ module _ (nodes : List Node) (waiting : List (List ℕ)) (was : IsStore nodes wa
       inner = λ k n h. was.inner k n (took k n h);
       apart = λ k c n h g. was.apart k c n (took k n h) (took c n g);
       falls = λ k. elim (at_set waiting b (rest_of (list_at waiting b)) k) [
-            inl here ↦ subst Falls (sym here.1) (falls_rest (list_at waiting b) (was.falls b))
-          | inr there ↦ subst Falls (sym there) (was.falls k)
-          ];
+        | inl here ↦ subst Falls (sym here.1) (falls_rest (list_at waiting b) (was.falls b))
+        | inr there ↦ subst Falls (sym there) (was.falls k)
+      ];
     }
 
     -- and waits no more
@@ -166,16 +166,16 @@ none_used ((x ∷ xs) ∷ ls) none = let first = none 0 in cc
 -- a root that waits nowhere yet
 alone : (n : Node) (i : ℕ) (q : Board) → IsAt (n ∷ []) i q → (i ≡ 0) × (n.position ≡ q)
 alone n i q at = elim (map_push_cases (λ (m : Node). m.position) [] n i q at) [
-      inl none ↦ cc
-    | inr last ↦ last
-    ]
+  | inl none ↦ cc
+  | inr last ↦ last
+]
 
 root_origin : (n : Node) (i : ℕ) (node : Node) → n.origin ≡ None → slice_get (n ∷ []) i ≡ Some node → HasOrigin (n ∷ []) i node.position node.origin
 unfolding HasOrigin
 root_origin n i node is at = elim (push_cases [] n i node at) [
-      inl none ↦ cc
-    | inr last ↦ subst (HasOrigin (n ∷ []) i node.position) (sym is ∙ ap (λ (m : Node). m.origin) last.1) last.0
-    ]
+  | inl none ↦ cc
+  | inr last ↦ subst (HasOrigin (n ∷ []) i node.position) (sym is ∙ ap (λ (m : Node). m.origin) last.1) last.0
+]
 
 store_root : (n : Node) → IsValid n.position → n.origin ≡ None → IsStore (n ∷ []) (replicate 64 [])
 store_root n sound is = record {

@@ -165,12 +165,7 @@ impl Store {
     }
 
     /// Adds a leaf, which does not wait. On a refusal nothing changes.
-    pub fn add_leaf(
-        &mut self,
-        position: &Position,
-        parent: u32,
-        by: Move,
-    ) -> Result<u32, NoMemory>
+    pub fn add_leaf(&mut self, position: &Position, parent: u32, by: Move) -> Result<u32, NoMemory>
         requires new { IsNew self.old.nodes position.now }
         requires reached { IsReached self.old.nodes parent by position.now }
         requires few { length self.old.nodes < 4294967295 }

@@ -77,7 +77,16 @@ fn the_positions_of_two_plies_are_found_again_by_their_lines(rt: HostRuntime) ->
         let position = store.position(name);
         assert!(rt; store.find(&position) == Some(name));
         let line = store.path(alloc, name)?;
-        assert!(rt; line.items().len() == if name == 0 { 0 } else if name <= 20 { 1 } else { 2 });
+        assert!(rt;
+            line.items().len()
+                == if name == 0 {
+                    0
+                } else if name <= 20 {
+                    1
+                } else {
+                    2
+                }
+        );
         let mut now = start;
         for by in line.items() {
             assert!(rt; is_legal(&now, *by));

@@ -1,5 +1,5 @@
 -- Lists of names, and lists of which one changes.
-use Rattle.std.proofs.Common.{◌≡◌, ◌≢◌, ℕ, zero, suc, ◌+◌, ◌-◌, ◌<◌, ◌≤◌, ◌⊎◌, inl, inr, List, [], ◌∷◌, length, replicate, refl, sym, ap, subst, ◌∙◌, arith, set, get_or, length-set}
+use Rattle.std.proofs.Common.{◌≡◌, ℕ, zero, suc, ◌<◌, ◌≤◌, ◌⊎◌, inl, inr, List, [], ◌∷◌, length, replicate, refl, sym, ap, subst, ◌∙◌, arith, set, length-set}
 use Rattle.node_store.specs.Lists.{list_at, Has, AreBelow, Falls, rest_of}
 use Rattle.node_store.specs.Chained.{AreChained}
 

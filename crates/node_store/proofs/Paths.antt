@@ -1,10 +1,9 @@
 -- The line from the root to a node.
-use Rattle.std.proofs.Common.{◌≡◌, ℕ, zero, suc, ◌<◌, length, List, [], ◌∷◌, ◌++◌, Option, None, Some, slice_get, reverse, refl, sym, ap, subst, ◌∙◌, arith}
+use Rattle.std.proofs.Common.{◌≡◌, ℕ, zero, suc, ◌<◌, length, List, [], ◌∷◌, ◌++◌, None, Some, reverse, refl, sym, ap, subst, ◌∙◌, arith}
 use Rattle.std.proofs.lemmas.List.{reverse-append}
 use Rattle.std.proofs.lemmas.Option.{same_Some}
 use Rattle.cha_board.specs.Board.{Board}
 use Rattle.cha_moves.specs.Step.{Move}
-use Rattle.cha_moves.specs.Moves.{after}
 use Rattle.node_store.specs.declared.origin.Origin.{Origin}
 use Rattle.node_store.specs.Nodes.{Node, IsAt, IsReached, IsLine, IsPath}
 use Rattle.node_store.specs.Graphs.{HasOrigin}

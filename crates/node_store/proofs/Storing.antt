@@ -1,5 +1,5 @@
 -- What holds of a store as nodes are added and names wait and are taken.
-use Rattle.std.proofs.Common.{◌≡◌, ℕ, zero, suc, ◌+◌, ◌<◌, ◌⊎◌, inl, inr, Bool, true, false, List, [], ◌∷◌, ◌++◌, map, length, replicate, Option, None, Some, slice_get, slice_set, refl, sym, ap, subst, ◌∙◌, arith, length-set}
+use Rattle.std.proofs.Common.{◌≡◌, ℕ, zero, suc, ◌+◌, ◌<◌, ◌⊎◌, inl, inr, false, List, [], ◌∷◌, ◌++◌, length, replicate, Option, None, Some, slice_get, refl, sym, ap, subst, ◌∙◌, arith, length-set}
 use Rattle.std.proofs.lemmas.List.{length_push}
 use Rattle.std.specs.Option.{IfSome}
 use Rattle.cha_board.specs.Board.{Board, IsValid}
@@ -8,7 +8,7 @@ use Rattle.node_store.specs.Lists.{list_at, Has, AreBelow, Falls, put, front_of,
 use Rattle.node_store.specs.Nodes.{Node, leaves, IsAt, IsNew, IsReached}
 use Rattle.node_store.specs.Graphs.{HasOrigin, IsStore}
 use Rattle.node_store.proofs.Naming.{at_set, at_set_same, at_empty, has_cases, has_none, has_rest, falls_put, falls_rest, falls_none, below_front, has_front}
-use Rattle.node_store.proofs.Pushing.{push_cases, map_push_cases, map_push_keeps, map_push_at, map_within}
+use Rattle.node_store.proofs.Pushing.{push_cases, map_push_cases, map_push_keeps, map_within}
 
 reached_push : (nodes : List Node) (n : Node) (i : ℕ) (q : Board) (origin : Option Origin) → HasOrigin nodes i q origin → HasOrigin (nodes ++ n ∷ []) i q origin
 unfolding HasOrigin

@@ -1,5 +1,5 @@
 -- The nodes of an exploration and the names of those that wait.
-use Rattle.std.specs.Prelude.{◌≡◌, ℕ, ◌<◌, false, List, [], ◌∷◌, length, Option, None, Some, slice_get}
+use Rattle.std.specs.Prelude.{◌≡◌, ℕ, ◌<◌, false, List, length, Option, None, Some, slice_get}
 use Rattle.cha_board.specs.Board.{Board, IsValid}
 use Rattle.node_store.specs.declared.origin.Origin.{Origin}
 use Rattle.node_store.specs.Lists.{list_at, Has, Falls}

@@ -1,6 +1,5 @@
 -- What is kept of a node.
 use Rattle.std.specs.Prelude.{◌≡◌, ℕ, List, map, length}
-use Rattle.cha_board.specs.Packing.{words_of}
 use Rattle.node_store.specs.declared.spot.Spot.{Spot}
 use Rattle.node_store.specs.declared.origin.Place.{Place}
 use Rattle.node_store.specs.Nodes.{Node}

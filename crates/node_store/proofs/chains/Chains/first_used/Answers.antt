@@ -1,5 +1,5 @@
-use Rattle.std.proofs.Common.{◌≡◌, ◌<◌, ◌≤◌, ◌+◌, ℕ, length, refl, sym, ap, subst, arith, below_more, vec_len}
-use Rattle.node_store.proofs.Linking.{used, list_none, no_head}
+use Rattle.std.proofs.Common.{arith, below_more}
+use Rattle.node_store.proofs.Linking.{used, list_none}
 use Rattle.node_store.proofs.chains.Chains.first_used.Goals as goal
 
 pub returns-then-self-bucket-gt0-clause-found : goal.returns-then-self-bucket-gt0-clause-found

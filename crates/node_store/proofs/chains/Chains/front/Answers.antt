@@ -1,4 +1,3 @@
-use Rattle.std.proofs.Common.{◌≡◌, ◌<◌, ◌≤◌, ◌+◌, ℕ, length, refl, sym, ap, subst, arith, below_more, vec_len}
 use Rattle.node_store.proofs.Linking.{front_none, front_some}
 use Rattle.node_store.proofs.chains.Chains.front.Goals as goal
 

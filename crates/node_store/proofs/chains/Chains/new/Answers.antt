@@ -1,4 +1,3 @@
-use Rattle.std.proofs.Common.{◌≡◌, ◌<◌, ◌≤◌, ◌+◌, ℕ, length, refl, sym, ap, subst, arith, below_more, vec_len}
 use Rattle.node_store.proofs.Linking.{lists_new, chained_new}
 use Rattle.node_store.proofs.chains.Chains.new.Goals as goal
 

@@ -1,5 +1,5 @@
-use Rattle.std.proofs.Common.{◌≡◌, ◌<◌, ◌≤◌, ◌+◌, ℕ, length, refl, sym, ap, subst, arith, below_more, vec_len}
-use Rattle.node_store.proofs.Linking.{room, lists_put, chained_put, no_head}
+use Rattle.std.proofs.Common.{◌<◌, length, arith}
+use Rattle.node_store.proofs.Linking.{room, lists_put, chained_put}
 use Rattle.node_store.proofs.chains.Chains.put.Goals as goal
 
 pub overflow_add-self : goal.overflow_add-self

@@ -1,4 +1,4 @@
-use Rattle.std.proofs.Common.{◌≡◌, ◌<◌, ◌≤◌, ◌+◌, ℕ, length, refl, sym, ap, subst, arith, below_more, vec_len}
+use Rattle.std.proofs.Common.{arith}
 use Rattle.node_store.proofs.Linking.{front_none, front_some, front_within, take_none, lists_take, chained_take}
 use Rattle.node_store.proofs.chains.Chains.take.Goals as goal
 

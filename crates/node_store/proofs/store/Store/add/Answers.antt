@@ -1,4 +1,4 @@
-use Rattle.std.proofs.Common.{◌≡◌, ◌<◌, ◌≤◌, ◌+◌, ℕ, Some, None, length, refl, sym, ap, subst, ◌∙◌, arith}
+use Rattle.std.proofs.Common.{refl, ap, ◌∙◌}
 use Rattle.node_store.proofs.Adding.{stored_put}
 use Rattle.node_store.specs.Graphs.{Graph}
 use Rattle.node_store.proofs.store.Store.add.Goals as goal

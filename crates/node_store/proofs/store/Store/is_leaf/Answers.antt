@@ -1,4 +1,4 @@
-use Rattle.std.proofs.Common.{◌≡◌, ◌<◌, ◌≤◌, ◌+◌, ℕ, Some, None, length, refl, sym, ap, subst, ◌∙◌, arith}
+use Rattle.std.proofs.Common.{sym}
 use Rattle.node_store.proofs.Keying.{leaf_entry}
 use Rattle.node_store.proofs.store.Store.is_leaf.Goals as goal
 

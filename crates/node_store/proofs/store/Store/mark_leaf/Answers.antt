@@ -1,4 +1,3 @@
-use Rattle.std.proofs.Common.{◌≡◌, ◌<◌, ◌≤◌, ◌+◌, ℕ, Some, None, length, refl, sym, ap, subst, ◌∙◌, arith}
 use Rattle.node_store.proofs.Marking.{stored_mark, marked_entries}
 use Rattle.node_store.proofs.store.Store.mark_leaf.Goals as goal
 

@@ -1,4 +1,4 @@
-use Rattle.std.proofs.Common.{◌≡◌, ◌<◌, ◌≤◌, ◌+◌, ℕ, Some, None, length, refl, sym, ap, subst, ◌∙◌, arith}
+use Rattle.std.proofs.Common.{sym}
 use Rattle.node_store.proofs.Marking.{node_entry}
 use Rattle.node_store.proofs.Keying.{at_entry}
 use Rattle.node_store.specs.Places.{node_of}

@@ -1,4 +1,4 @@
-use Rattle.std.proofs.Common.{◌≡◌, ◌<◌, ◌≤◌, ◌+◌, ℕ, Some, None, length, refl, sym, ap, subst, ◌∙◌, arith}
+use Rattle.std.proofs.Common.{◌<◌, ◌∙◌, arith}
 use Rattle.node_store.proofs.Paths.{path_begins, path_more, path_whole, earlier}
 use Rattle.node_store.proofs.store.Store.path.Goals as goal
 

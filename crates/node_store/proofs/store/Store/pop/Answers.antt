@@ -1,4 +1,4 @@
-use Rattle.std.proofs.Common.{◌≡◌, ◌<◌, ◌≤◌, ◌+◌, ℕ, Some, None, length, refl, sym, ap, subst, ◌∙◌, arith}
+use Rattle.std.proofs.Common.{refl, sym, subst, ◌∙◌}
 use Rattle.node_store.proofs.Storing.{store_take, first_used_is, none_used, front_inner, front_within, front_waited}
 use Rattle.node_store.specs.Lists.{list_at}
 use Rattle.node_store.specs.Places.{nodes_of}

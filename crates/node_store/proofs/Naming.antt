@@ -109,3 +109,9 @@ chained_none = record {
   below = λ k n h. absurd (has_none n (subst (λ (xs : List ℕ). Has xs n) (at_empty 64 k) h));
   falls = λ k. subst Falls (sym (at_empty 64 k)) falls_none;
 }
+
+-- lists past the last are empty
+pub all_none : (lists : List (List ℕ)) (size : ℕ) → length lists ≡ size → ((k : ℕ) → k < size → list_at lists k ≡ []) → (k : ℕ) → list_at lists k ≡ []
+all_none [] size is none k = refl
+all_none (x ∷ xs) size is none zero = none 0 (omega arith)
+all_none (x ∷ xs) size is none (suc k) = all_none xs (length xs) refl (λ j within. none (suc j) (omega arith)) k

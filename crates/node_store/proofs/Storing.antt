@@ -1,7 +1,7 @@
 -- What holds of a store as nodes are added and names wait and are taken.
-use Rattle.std.proofs.Common.{◌≡◌, ℕ, zero, suc, ◌+◌, ◌<◌, ◌⊎◌, inl, inr, false, List, [], ◌∷◌, ◌++◌, length, replicate, Option, None, Some, slice_get, refl, sym, ap, subst, ◌∙◌, arith, length-set}
+use Rattle.std.proofs.Common.{◌≡◌, ℕ, zero, suc, ◌+◌, ◌<◌, ◌≤◌, ◌⊎◌, inl, inr, false, List, [], ◌∷◌, ◌++◌, length, replicate, Option, None, Some, slice_get, refl, sym, ap, subst, ◌∙◌, arith, length-set}
 use Rattle.std.proofs.lemmas.List.{length_push}
-use Rattle.std.specs.Option.{IfSome}
+use Rattle.std.specs.Option.{IfSome, IfNone}
 use Rattle.cha_board.specs.Board.{Board, IsValid}
 use Rattle.node_store.specs.declared.origin.Origin.{Origin}
 use Rattle.node_store.specs.Lists.{list_at, Has, AreBelow, Falls, put, front_of, rest_of, take_from, first_name, without_first}
@@ -145,6 +145,17 @@ module _ (nodes : List Node) (waiting : List (List ℕ)) (was : IsStore nodes wa
     pub front_waited : (list : List ℕ) → b < 64 → list_at waiting b ≡ list → IfSome (front_of list) (λ name. (k : ℕ) → Has (list_at (take_from waiting b) k) name → ⊥)
     front_waited [] within is = tt
     front_waited (x ∷ xs) within is = taken_waits_no_more x xs within is
+
+    -- a name waits in one list alone, so what its list cost is what it cost
+    pub front_cost : (before used : ℕ) → used ≤ before + b + 2 → (list : List ℕ) → list_at waiting b ≡ list → IfSome (front_of list) (λ name. (k : ℕ) → Has (list_at waiting k) name → used ≤ before + k + 2)
+    front_cost before used cost [] is = tt
+    front_cost before used cost (x ∷ xs) is = λ k h.
+        let same : k ≡ b = was.apart k b x h (subst (λ (ys : List ℕ). Has ys x) (sym is) (has_front x xs)) in
+        omega arith
+
+pub front_is : (list : List ℕ) (P : Type 0) → (list ≡ [] → ⊥) → IfNone (front_of list) P
+front_is [] P some = absurd (some refl)
+front_is (x ∷ xs) P some = tt
 
 -- the first list that has a name
 pub first_used_is : (ls : List (List ℕ)) (b : ℕ) → ((k : ℕ) → k < b → list_at ls k ≡ []) → (list_at ls b ≡ [] → ⊥) → (front_of (list_at ls b) ≡ first_name ls) × (take_from ls b ≡ without_first ls)

@@ -4,9 +4,11 @@ ghost use Rattle.std.specs.Prelude.{◌≡◌, ◌≢◌, ◌+◌, ◌-◌, ◌<
 ghost use Rattle.node_store.specs.Lists.{list_at, Has, AreBelow, put, front_of, take_from};
 ghost use Rattle.node_store.specs.Chained.{AreChained};
 
+use crate::steps::Steps;
 use cha_list::NoMemory;
 use std::alloc::Global;
 use std::marker::Model;
+use std::sync::ledger::Ledger;
 
 /// How many lists there are.
 const LISTS: usize = 64;
@@ -149,5 +151,61 @@ impl Chains {
             count: head.count - 1,
         };
         Some(head.front)
+    }
+
+    /// The name in front of a list, which was linked last, in one step.
+    pub fn head<L: Ledger>(&self, bucket: u8, steps: &mut Steps<L>) -> Option<u32>
+        requires { bucket < 64 }
+        ensures name { result ≡ front_of (list_at self.now.lists bucket) }
+        ensures cost { steps.new ≡ steps.old + 1 }
+    {
+        steps.tick();
+        self.front(bucket)
+    }
+
+    /// The first list that has a name, by the front of each in turn.
+    pub fn first_used_by_steps<L: Ledger>(&self, steps: &mut Steps<L>) -> Option<u8>
+        ensures found { IfSome result (λ b. (b < 64) × (list_at self.now.lists b ≢ [])) }
+        ensures before { IfSome result (λ b. (k : ℕ) → k < b → list_at self.now.lists k ≡ []) }
+        ensures none { IfNone result ((k : ℕ) → list_at self.now.lists k ≡ []) }
+        ensures cost { IfSome result (λ b. steps.new ≡ steps.old + b + 1) }
+        ensures whole_cost { IfNone result (steps.new ≡ steps.old + 64) }
+    {
+        self.known();
+        for bucket in 0..64u8 {
+            match self.head(bucket, steps) {
+                Some(_) => return Some(bucket),
+                None => {}
+            }
+        }
+        None
+    }
+
+    /// Puts a name that stands in no list in front of a list of smaller names, in one step.
+    pub fn link<L: Ledger>(&mut self, bucket: u8, name: u32, steps: &mut Steps<L>)
+        requires bucket { bucket < 64 }
+        requires slot { name < self.old.slots }
+        requires free { (b : ℕ) → Has (list_at self.old.lists b) name → ⊥ }
+        requires above { AreBelow (list_at self.old.lists bucket) name }
+        ensures lists { self.new.lists ≡ put self.old.lists bucket name }
+        ensures slots { self.new.slots ≡ self.old.slots }
+        ensures spare { self.new.spare ≡ self.old.spare }
+        ensures cost { steps.new ≡ steps.old + 1 }
+    {
+        steps.tick();
+        self.put(bucket, name);
+    }
+
+    /// Takes the name in front of a list away, in one step.
+    pub fn unlink<L: Ledger>(&mut self, bucket: u8, steps: &mut Steps<L>) -> Option<u32>
+        requires { bucket < 64 }
+        ensures name { result ≡ front_of (list_at self.old.lists bucket) }
+        ensures lists { self.new.lists ≡ take_from self.old.lists bucket }
+        ensures slots { self.new.slots ≡ self.old.slots }
+        ensures spare { self.new.spare ≡ self.old.spare }
+        ensures cost { steps.new ≡ steps.old + 1 }
+    {
+        steps.tick();
+        self.take(bucket)
     }
 }

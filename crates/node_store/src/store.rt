@@ -1,6 +1,6 @@
 //! The positions of an exploration and the names of those that wait.
 
-ghost use Rattle.std.specs.Prelude.{◌≡◌, ◌+◌, ◌<◌, ℕ, [], ◌∷◌, ◌++◌, false, true, None, Some, length, replicate, slice_get, IfSome, IfNone, IfOk, OnOk, OnErr};
+ghost use Rattle.std.specs.Prelude.{◌≡◌, ◌+◌, ◌<◌, ◌≤◌, ℕ, [], ◌∷◌, ◌++◌, false, true, None, Some, length, replicate, slice_get, IfSome, IfNone, IfOk, OnOk, OnErr};
 ghost use Rattle.cha_board.specs.Board.{Board};
 ghost use Rattle.node_store.specs.Lists.{list_at, Has, put, first_name, without_first};
 ghost use Rattle.node_store.specs.Nodes.{leaves, mark, IsAt, IsNew, IsPath, IsReached};
@@ -9,12 +9,14 @@ ghost use Rattle.node_store.specs.Graphs.{IsStore, HasOrigin};
 use crate::chains::Chains;
 use crate::origin::{Origin, Place};
 use crate::spot::Spot;
+use crate::steps::Steps;
 use cha_board::Position;
 use cha_list::NoMemory;
 use cha_moves::{Move, Moves};
 use indexmap::IndexMap;
 use std::alloc::Global;
 use std::marker::Model;
+use std::sync::ledger::Ledger;
 
 /// The positions of an exploration, named from 0 on, each with the node that it came from and the move that led there.
 /// Some wait to be expanded, in 64 lists. Contracts see the nodes, the lists of waiting names, and for how many more
@@ -114,29 +116,41 @@ impl Store {
         }
     }
 
-    /// Adds a node that does not wait. On a refusal nothing changes.
-    fn insert(&mut self, position: &Position, origin: Origin, leaf: bool) -> Result<u32, NoMemory>
+    /// Makes room for more nodes. On a refusal nodes and lists stay.
+    pub fn reserve(&mut self, more: u32) -> Result<(), NoMemory>
+        ensures nodes { self.new.nodes ≡ self.old.nodes }
+        ensures waiting { self.new.waiting ≡ self.old.waiting }
+        ensures room { self.old.spare ≤ self.new.spare }
+        ensures ok { OnOk result (more ≤ self.new.spare) }
+    {
+        self.waiting.reserve(more)?;
+        self.nodes.reserve(more as usize)?;
+        Ok(())
+    }
+
+    /// Adds a node that does not wait, for which there is room.
+    fn insert(&mut self, position: &Position, origin: Origin, leaf: bool) -> u32
         requires new { IsNew self.old.nodes position.now }
         requires reached { IsReached self.old.nodes origin.parent origin.by position.now }
         requires few { length self.old.nodes < 4294967295 }
-        ensures name { IfOk result (λ name. name ≡ length self.old.nodes) }
-        ensures nodes { OnOk result (self.new.nodes ≡ self.old.nodes ++ record { position = position.now; origin = Some origin; leaf = leaf } ∷ []) }
+        requires spare { 1 ≤ self.old.spare }
+        ensures name { result ≡ length self.old.nodes }
+        ensures nodes { self.new.nodes ≡ self.old.nodes ++ record { position = position.now; origin = Some origin; leaf = leaf } ∷ [] }
         ensures waiting { self.new.waiting ≡ self.old.waiting }
-        ensures err { OnErr result (self.new.nodes ≡ self.old.nodes) }
+        ensures room { self.old.spare ≤ self.new.spare + 1 }
     {
         position.known();
-        self.waiting.reserve(1)?;
+        let spot = Spot {
+            position: *position,
+        };
         let place = Place {
             origin: Some(origin),
             leaf,
         };
-        self.nodes.insert(
-            Spot {
-                position: *position,
-            },
-            place,
-        )?;
-        Ok(self.waiting.slot())
+        match self.nodes.insert(spot, place) {
+            Ok(_) => self.waiting.slot(),
+            Err(_) => unreachable!(),
+        }
     }
 
     /// Adds a node that waits in one of the 64 lists: a position that no node has yet, and that a legal move reaches from
@@ -159,7 +173,8 @@ impl Store {
         ensures unchanged_waiting { OnErr result (self.new.waiting ≡ self.old.waiting) }
     {
         self.known();
-        let name = self.insert(position, Origin { parent, by }, false)?;
+        self.reserve(1)?;
+        let name = self.insert(position, Origin { parent, by }, false);
         self.waiting.put(bucket, name);
         Ok(name)
     }
@@ -174,7 +189,8 @@ impl Store {
         ensures waiting { self.new.waiting ≡ self.old.waiting }
         ensures unchanged_nodes { OnErr result (self.new.nodes ≡ self.old.nodes) }
     {
-        self.insert(position, Origin { parent, by }, true)
+        self.reserve(1)?;
+        Ok(self.insert(position, Origin { parent, by }, true))
     }
 
     /// Takes the name that was added last of the first list that has one. `None` where none waits.
@@ -230,5 +246,63 @@ impl Store {
         }
         back.reverse();
         Ok(Moves::from_vec(back))
+    }
+
+    /// What `pop` does, with the steps counted: the front of each list up to the one that has a name, and the name taken.
+    pub fn pop_counted<L: Ledger>(&mut self, steps: &mut Steps<L>) -> Option<u32>
+        ensures name { result ≡ first_name self.old.waiting }
+        ensures waiting { self.new.waiting ≡ without_first self.old.waiting }
+        ensures nodes { self.new.nodes ≡ self.old.nodes }
+        ensures spare { self.new.spare ≡ self.old.spare }
+        ensures within { IfSome result (λ name. name < length self.new.nodes) }
+        ensures inner { IfSome result (λ name. slice_get (leaves self.new.nodes) name ≡ Some false) }
+        ensures waited { IfSome result (λ name. (b : ℕ) → Has (list_at self.new.waiting b) name → ⊥) }
+        ensures cost { IfSome result (λ name. (b : ℕ) → Has (list_at self.old.waiting b) name → steps.new ≤ steps.old + b + 2) }
+        ensures whole_cost { IfNone result (steps.new ≤ steps.old + 64) }
+    {
+        match self.waiting.first_used_by_steps(steps) {
+            None => None,
+            Some(bucket) => self.waiting.unlink(bucket, steps),
+        }
+    }
+
+    /// What `add` does where there is room, so that it is never refused. Putting the name into its list is one step.
+    pub fn add_ready<L: Ledger>(
+        &mut self,
+        position: &Position,
+        parent: u32,
+        by: Move,
+        bucket: u8,
+        steps: &mut Steps<L>,
+    ) -> u32
+        requires new { IsNew self.old.nodes position.now }
+        requires reached { IsReached self.old.nodes parent by position.now }
+        requires bucket { bucket < 64 }
+        requires few { length self.old.nodes < 4294967295 }
+        requires spare { 1 ≤ self.old.spare }
+        ensures name { result ≡ length self.old.nodes }
+        ensures nodes { self.new.nodes ≡ self.old.nodes ++ record { position = position.now; origin = Some (record { parent = parent; by = by }); leaf = false } ∷ [] }
+        ensures waiting { self.new.waiting ≡ put self.old.waiting bucket (length self.old.nodes) }
+        ensures room { self.old.spare ≤ self.new.spare + 1 }
+        ensures cost { steps.new ≡ steps.old + 1 }
+    {
+        self.known();
+        let name = self.insert(position, Origin { parent, by }, false);
+        self.waiting.link(bucket, name, steps);
+        name
+    }
+
+    /// What `add_leaf` does where there is room, so that it is never refused.
+    pub fn add_leaf_ready(&mut self, position: &Position, parent: u32, by: Move) -> u32
+        requires new { IsNew self.old.nodes position.now }
+        requires reached { IsReached self.old.nodes parent by position.now }
+        requires few { length self.old.nodes < 4294967295 }
+        requires spare { 1 ≤ self.old.spare }
+        ensures name { result ≡ length self.old.nodes }
+        ensures nodes { self.new.nodes ≡ self.old.nodes ++ record { position = position.now; origin = Some (record { parent = parent; by = by }); leaf = true } ∷ [] }
+        ensures waiting { self.new.waiting ≡ self.old.waiting }
+        ensures room { self.old.spare ≤ self.new.spare + 1 }
+    {
+        self.insert(position, Origin { parent, by }, true)
     }
 }

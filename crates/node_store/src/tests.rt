@@ -1,9 +1,13 @@
 //! Stores of the opening: in which order names come back, and positions found again by the moves that led there.
 
-use crate::Store;
+ghost use Rattle.std.specs.Prelude.{◌≡◌, ◌<◌, ◌≤◌, ◌+◌, [], Some, IfOk, replicate};
+
+use crate::{Chains, Steps, Store};
 use cha_board::{Position, Square, same_position};
 use cha_moves::{Move, after, is_legal, legal};
 use std::alloc::Global;
+use std::marker::Brand;
+use std::sync::ledger::{Blank, Ledger};
 use std::test::Fail;
 
 /// Adds the position after a move, unless it is there: one that waits in a list, or a leaf.
@@ -122,5 +126,68 @@ fn a_leaf_does_not_wait(rt: HostRuntime) -> Result<(), Fail> {
         assert!(rt; root < store.len() && store.is_leaf(root));
     }
     assert!(rt; store.pop() == None);
+    Ok(())
+}
+
+/// Adds a node that waits in list 9 where there is room for one.
+fn add_with_room<L: Ledger>(store: &mut Store, by: Move, steps: &mut Steps<L>) -> Result<u32, Fail>
+    requires { 1 ≤ store.old.spare }
+    ensures { IfOk result (λ _. store.old.spare ≤ store.new.spare + 1) }
+{
+    if store.len() > 2 || store.len() == 0 {
+        Err("no place")?;
+    }
+    let here = store.position(0);
+    if !is_legal(&here, by) {
+        Err("no legal move")?;
+    }
+    let next = after(&here, by);
+    if store.find(&next).is_some() {
+        Err("no new position")?;
+    }
+    Ok(store.add_ready(&next, 0, by, 9, steps))
+}
+
+/// With room for two, two nodes are added, none of which is refused, and the second comes back.
+fn two_with_room<L: Ledger>(store: &mut Store, blank: Blank) -> Result<Option<u32>, Fail>
+    requires { (L.parts ≡ blank.parts) × (L.name ≡ blank.name) × (0 < blank.parts) }
+{
+    let (book, share) = blank.open::<L>();
+    let mut steps = Steps::opened(book, share);
+    store.reserve(2)?;
+    add_with_room(store, from_to(12, 28)?, &mut steps)?;
+    add_with_room(store, from_to(11, 27)?, &mut steps)?;
+    Ok(store.pop_counted(&mut steps))
+}
+
+#[test]
+fn room_for_two_takes_two(rt: HostRuntime) -> Result<(), Fail> {
+    let mut store = Store::new(rt.alloc(), &Position::start())?;
+    assert!(rt; store.pop() == Some(0));
+    assert!(rt; two_with_room::<Brand>(&mut store, Blank::new(1))? == Some(2));
+    assert!(rt; store.pop() == Some(1));
+    Ok(())
+}
+
+/// A name of new chains is put into a list and taken from it.
+fn one_name<L: Ledger>(chains: &mut Chains, blank: Blank) -> Option<u32>
+    requires ledger { (L.parts ≡ blank.parts) × (L.name ≡ blank.name) × (0 < blank.parts) }
+    requires room { 1 ≤ chains.old.spare }
+    requires none { chains.old.lists ≡ replicate 64 [] }
+    requires slots { chains.old.slots ≡ 0 }
+    ensures { result ≡ Some 0 }
+{
+    let (book, share) = blank.open::<L>();
+    let mut steps = Steps::opened(book, share);
+    let name = chains.slot();
+    chains.link(63, name, &mut steps);
+    chains.unlink(63, &mut steps)
+}
+
+#[test]
+fn a_name_is_linked_and_unlinked(rt: HostRuntime) -> Result<(), Fail> {
+    let mut chains = Chains::new(rt.alloc());
+    chains.reserve(1)?;
+    assert!(rt; one_name::<Brand>(&mut chains, Blank::new(1)) == Some(0));
     Ok(())
 }

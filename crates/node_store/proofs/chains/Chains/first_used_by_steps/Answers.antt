@@ -1,4 +1,4 @@
-use Rattle.std.proofs.Common.{◌<◌, ◌≤◌, arith}
+use Rattle.std.proofs.Common.{arith}
 use Rattle.node_store.proofs.Naming.{all_none}
 use Rattle.node_store.proofs.chains.Chains.first_used_by_steps.Goals as goal
 

@@ -1,6 +1,5 @@
-use Rattle.std.proofs.Common.{refl, ap, length, Some, false, List, [], ◌∷◌, ◌++◌, ◌∙◌}
+use Rattle.std.proofs.Common.{refl, ap, Some, false, ◌∙◌}
 use Rattle.node_store.proofs.Adding.{stored_put}
-use Rattle.node_store.specs.Nodes.{Node}
 use Rattle.node_store.specs.Graphs.{Graph}
 use Rattle.node_store.proofs.store.Store.add_ready.Goals as goal
 

@@ -1,4 +1,4 @@
-use Rattle.std.proofs.Common.{◌<◌, ◌+◌, ℕ, Some, length, ap, ◌∙◌}
+use Rattle.std.proofs.Common.{◌<◌, Some, length}
 use Rattle.node_store.proofs.Adding.{entries_push, nodes_push, stored_push, entry_of}
 use Rattle.node_store.specs.Places.{nodes_of}
 use Rattle.node_store.proofs.store.Store.insert.Goals as goal

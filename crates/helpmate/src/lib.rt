@@ -1,0 +1,15 @@
+//! The search for a mate within a number of plies, with a place that keeps facts.
+//!
+//! `answers` has what a round answers, `deciding` what a fact decides by itself, `search` the search of a position to a
+//! depth, and `rounds` a round with how many positions it expanded.
+#![tactic(auto)]
+
+mod answers;
+mod deciding;
+mod rounds;
+mod search;
+#[cfg(test)]
+mod tests;
+
+pub use answers::{RoundAnswer, RoundDone};
+pub use rounds::round_in;

@@ -1,0 +1,102 @@
+//! Known helpmates, each found at its own depth and not before, and how many positions a round expands.
+
+use crate::{RoundAnswer, RoundDone, round_in};
+use cha_board::{Color, Position};
+use cha_fact::Proved;
+use cha_fen::read;
+use cha_moves::replays;
+use shard_table::Shard;
+use std::alloc::Global;
+use std::test::Fail;
+
+/// Positions, the sides that may mate, and in how few plies they can.
+const KNOWN: [(&str, Color, u8); 11] = [
+    ("7k/6Q1/6K1/8/8/8/8/8 b - -", Color::White, 0),
+    ("rnb1kbnr/pppp1ppp/8/4p3/6Pq/5P2/PPPPP2P/RNBQKBNR w KQkq -", Color::Black, 0),
+    ("7k/8/6K1/8/8/8/8/R7 w - -", Color::White, 1),
+    ("6k1/5ppp/8/8/8/8/8/R3K3 w - -", Color::White, 1),
+    ("rnbqkbnr/pppp1ppp/8/4p3/6P1/5P2/PPPPP2P/RNBQKBNR b KQkq g3", Color::Black, 1),
+    ("r1bqkb1r/pppp1ppp/2n2n2/4p2Q/2B1P3/8/PPPP1PPP/RNB1K1NR w KQkq -", Color::White, 1),
+    ("6k1/5ppp/8/8/8/8/5PPP/3R2K1 b - -", Color::White, 2),
+    ("rnbqkbnr/pppp1ppp/8/4p3/8/5P2/PPPPP1PP/RNBQKBNR w KQkq e6", Color::Black, 2),
+    ("r1bqkbnr/pppp1ppp/2n5/4p2Q/2B1P3/8/PPPP1PPP/RNB1K1NR b KQkq -", Color::White, 2),
+    ("rnbqkbnr/pppppppp/8/8/8/5P2/PPPPP1PP/RNBQKBNR b KQkq -", Color::Black, 3),
+    ("rnbqkbnr/pppppppp/8/8/8/8/PPPPPPPP/RNBQKBNR w KQkq -", Color::Black, 4),
+];
+
+/// A lone queen is taken by the only move.
+const ONE_MOVE: &str = "k7/1Q6/8/8/8/8/8/4K3 b - -";
+
+const AFTER_IT: &str = "8/1k6/8/8/8/8/8/4K3 w - -";
+
+fn place(fen: &str) -> Result<Position, Fail> {
+    match read(fen.as_bytes()) {
+        Ok(position) => Ok(position),
+        Err(_) => Err("no position")?,
+    }
+}
+
+/// How many moves the mate of a round has that replays, if it is a mate.
+fn moves_of(position: &Position, winner: Color, done: &RoundDone) -> Option<usize> {
+    match &done.round {
+        RoundAnswer::Mate(line) => {
+            if replays(position, winner, line.moves()) {
+                Some(line.moves().len())
+            } else {
+                None
+            }
+        }
+        RoundAnswer::NoneWithin => None,
+        RoundAnswer::Spent => None,
+    }
+}
+
+/// Whether a known mate is found in its number of plies by a round of just that depth, and by none before it.
+fn is_found(alloc: Global, fen: &str, winner: Color, plies: u8) -> Result<bool, Fail> {
+    let position = place(fen)?;
+    let mut shard = Shard::new(alloc, 1024)?;
+    for depth in 0..plies {
+        if depth <= 8 {
+            let done = round_in(alloc, &position, winner, depth, Some(100_000), &mut shard)?;
+            if !matches!(&done.round, RoundAnswer::NoneWithin) {
+                return Ok(false);
+            }
+        }
+    }
+    if 8 < plies {
+        return Ok(false);
+    }
+    let done = round_in(alloc, &position, winner, plies, Some(100_000), &mut shard)?;
+    Ok(moves_of(&position, winner, &done) == Some(usize::from(plies)))
+}
+
+#[test]
+fn known_mates_are_found_at_their_depth(rt: HostRuntime) -> Result<(), Fail> {
+    for (fen, winner, plies) in KNOWN {
+        assert!(rt; is_found(rt.alloc(), fen, winner, plies)?, "{fen}");
+    }
+    Ok(())
+}
+
+#[test]
+fn what_a_place_knows_is_not_expanded(rt: HostRuntime) -> Result<(), Fail> {
+    let alloc = rt.alloc();
+    let position = place(ONE_MOVE)?;
+    let mut empty = Shard::new(alloc, 16)?;
+    let done = round_in(alloc, &position, Color::White, 2, None, &mut empty)?;
+    assert!(rt; matches!(&done.round, RoundAnswer::NoneWithin));
+    assert_eq!(rt; done.units, 2);
+    let again = round_in(alloc, &position, Color::White, 2, None, &mut empty)?;
+    assert_eq!(rt; again.units, 0);
+    Ok(())
+}
+
+#[test]
+fn an_allowance_is_spent(rt: HostRuntime) -> Result<(), Fail> {
+    let alloc = rt.alloc();
+    let mut shard = Shard::new(alloc, 16)?;
+    let done = round_in(alloc, &Position::start(), Color::Black, 4, Some(21), &mut shard)?;
+    assert!(rt; matches!(&done.round, RoundAnswer::Spent));
+    assert_eq!(rt; done.units, 21);
+    Ok(())
+}

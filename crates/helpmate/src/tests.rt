@@ -86,7 +86,13 @@ fn what_a_place_knows_is_not_expanded(rt: HostRuntime) -> Result<(), Fail> {
     let done = round_in(alloc, &position, Color::White, 2, None, &mut empty)?;
     assert!(rt; matches!(&done.round, RoundAnswer::NoneWithin));
     assert_eq!(rt; done.units, 2);
-    let again = round_in(alloc, &position, Color::White, 2, None, &mut empty)?;
+    let mut shard = Shard::new(alloc, 16)?;
+    let below = round_in(alloc, &place(AFTER_IT)?, Color::White, 1, None, &mut shard)?;
+    assert_eq!(rt; below.units, 1);
+    let known = round_in(alloc, &position, Color::White, 2, None, &mut shard)?;
+    assert!(rt; matches!(&known.round, RoundAnswer::NoneWithin));
+    assert_eq!(rt; known.units, 1);
+    let again = round_in(alloc, &position, Color::White, 2, None, &mut shard)?;
     assert_eq!(rt; again.units, 0);
     Ok(())
 }

@@ -1,0 +1,6 @@
+pub mod Apart
+pub mod LegalApart
+pub mod Counting
+pub mod FewLines
+pub mod Saying
+pub mod Trying

@@ -1,0 +1,94 @@
+-- What a found fact decides, and what answers say.
+use Rattle.std.proofs.Common.{◌≡◌, ℕ, zero, suc, ◌+◌, ◌-◌, ◌<◌, ◌≤◌, nat_lt, Bool, true, false, if◌then◌else◌, List, [], ◌∷◌, length, Option, Some, None, IsNone, Result, Ok, IsErr, rules, refl, sym, ◌∙◌, ap, subst, arith}
+use Rattle.std.proofs.lemmas.Bool.Decides.{nat_tests}
+use Rattle.cha_list.specs.declared.memory.NoMemory.{NoMemory}
+use Rattle.cha_board.specs.declared.men.Color.{Color}
+use Rattle.cha_board.specs.Board.{Board, IsValid}
+use Rattle.cha_moves.specs.Step.{Move}
+use Rattle.cha_moves.specs.Ends.{HasNoMateWithin}
+use Rattle.cha_fact.specs.declared.fact.Fact.{Fact}
+use Rattle.cha_fact.specs.declared.fact.Fact.TheVariants.{Mate as MateFact, NoneWithin as NoneFact}
+use Rattle.cha_fact.specs.Keys.{key_of}
+use Rattle.cha_fact.specs.Truths.{IsTrueOf}
+use Rattle.cha_fact.proofs.Searching.{keys_tell}
+use Rattle.helpmate.specs.declared.answers.RoundAnswer.{RoundAnswer}
+use Rattle.helpmate.specs.declared.answers.RoundAnswer.TheVariants.{Mate, NoneWithin, Spent}
+use Rattle.helpmate.specs.Rounds.{IsAnswer, decided_by}
+
+-- what is true of a position and a side is true of those that were asked for by the same key
+pub true_of_asked : (copy a b : Board) (v w : Color) (f g : Fact) → IsValid copy → copy ≡ a → IsValid b → key_of a v ≡ key_of b w → IsTrueOf a v f → f ≡ g → IsTrueOf b w g
+true_of_asked copy a b v w f g valid copied valid' same holds is =
+    let V : Board → Type 0 = λ x. IsValid x in
+    let e = (keys_tell a b v w (subst V copied valid) valid').0 same in
+    let P : Board → Type 0 = λ x. IsTrueOf x w g in
+    let Q : Color → Type 0 = λ x. IsTrueOf a x g in
+    let R : Fact → Type 0 = λ x. IsTrueOf a v x in
+    subst P e.0 (subst Q e.1 (subst R is holds))
+
+-- an answer for a longest line is one for a longer one
+pub answer_longer : (q : Board) (w : Color) (d most more : ℕ) (a : RoundAnswer) → most ≤ more → IsAnswer q w d most a → IsAnswer q w d more a
+answer_longer q w d most more (Mate line) longer h = (h.0, (let few = h.1 in omega arith))
+answer_longer q w d most more NoneWithin longer h = h
+answer_longer q w d most more Spent longer h = h
+
+-- what is seen at depth 0
+pub answer_seen : (q : Board) (w : Color) (d most : ℕ) (a : RoundAnswer) → d ≡ 0 → IsAnswer q w 0 0 a → IsAnswer q w d most a
+answer_seen q w d most a none h =
+    let P : ℕ → Type 0 = λ n. IsAnswer q w n most a in
+    subst P (sym none) (answer_longer q w 0 0 most a (omega arith) h)
+
+-- at depth 0 nothing is spent
+pub none_spent : (q : Board) (w : Color) (most : ℕ) (a : RoundAnswer) → IsAnswer q w 0 most a → a ≡ Spent → ⊥
+none_spent q w most (Mate line) h e = cc
+none_spent q w most NoneWithin h e = cc
+none_spent q w most Spent h e = (let some : 0 < 0 = h in omega arith)
+
+chosen_mate : (b : Bool) (line : List Move) → (if b then None else Some (Mate line)) ≡ Some Spent → ⊥
+chosen_mate true line e = cc
+chosen_mate false line e = cc
+
+chosen_none : (b : Bool) → (if b then None else Some NoneWithin) ≡ Some Spent → ⊥
+chosen_none true e = cc
+chosen_none false e = cc
+
+-- no fact says that an allowance is spent
+pub not_spent : (d : ℕ) (f : Fact) → decided_by d f ≡ Some Spent → ⊥
+not_spent d (MateFact line) e = chosen_mate (nat_lt 32 (length line)) line e
+not_spent d (NoneFact n) e = chosen_none (nat_lt n d) e
+
+mate_or_none : (b : Bool) (line : List Move) → (if b then None else Some (Mate line)) ≡ Some NoneWithin → ⊥
+mate_or_none true line e = cc
+mate_or_none false line e = cc
+
+enough : (b : Bool) → (if b then None else Some NoneWithin) ≡ Some NoneWithin → b ≡ false
+enough true e = cc
+enough false e = refl
+
+not_below : (n d : ℕ) → nat_lt n d ≡ false → d ≤ n
+not_below n d e = grind (arith, nat_tests)
+
+-- a fact that decides that there is no mate says so of as many plies or more
+pub says_none : (d : ℕ) (f : Fact) → decided_by d f ≡ Some NoneWithin → (n : ℕ) × (d ≤ n) × (f ≡ NoneFact n)
+says_none d (MateFact line) e = absurd (mate_or_none (nat_lt 32 (length line)) line e)
+says_none d (NoneFact n) e = (n, not_below n d (enough (nat_lt n d) e), refl)
+
+-- an answer that there is no mate
+pub none_answered : (q r : Board) (w : Color) (d most : ℕ) (a : RoundAnswer) → IsAnswer r w d most a → a ≡ NoneWithin → r ≡ q → HasNoMateWithin q w d
+none_answered q r w d most a h is same =
+    let A : RoundAnswer → Type 0 = λ x. IsAnswer r w d most x in
+    let B : Board → Type 0 = λ x. HasNoMateWithin x w d in
+    subst B same (subst A is h)
+
+-- all that was allowed was spent
+pub spent_all : (allowance : Option ℕ) (n most left : ℕ) → allowance ≡ Some n → most ≡ n → left ≡ 0 → allowance ≡ Some (most - left)
+spent_all allowance n most left is same none = (let e : n ≡ most - left = omega arith in is ∙ ap Some e)
+
+pub none_is : (o : Option ℕ) → o ≡ None → IsNone o
+none_is o e = (let P : Option ℕ → Type 0 = λ x. IsNone x in subst P (sym e) (search rules))
+
+-- a refusal is no answer
+pub no_answer : {A : Type 0} (o : Result A NoMemory) (a : A) → IsErr o → o ≡ Ok a → ⊥
+no_answer {A = A} o a refused e =
+    let P : Result A NoMemory → Type 0 = λ x. IsErr x in
+    let h = subst P e refused in
+    cc

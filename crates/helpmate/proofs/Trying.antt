@@ -1,0 +1,254 @@
+-- Moves that were tried one after the other, and the calls of a place that were made by it.
+use Rattle.std.proofs.Common.{◌≡◌, ℕ, zero, suc, ◌+◌, ◌-◌, ◌<◌, ◌≤◌, List, [], ◌∷◌, ◌++◌, length, get_or, take, Option, Some, None, Result, Ok, inl, inr, refl, sym, ◌∙◌, ap, subst, arith}
+use Rattle.std.specs.List.{Contains}
+use Rattle.std.proofs.lemmas.List.{take_more, take_all}
+use Rattle.std.proofs.lemmas.List.Elements.{Contains-append_cases, Contains-append_left, Contains-append_right, Contains-push, Contains-push_cases}
+use Rattle.cha_list.specs.declared.memory.NoMemory.{NoMemory}
+use Rattle.cha_board.specs.declared.men.Color.{Color}
+use Rattle.cha_board.specs.Men.{other_color}
+use Rattle.cha_board.specs.Board.{Board}
+use Rattle.cha_moves.specs.Step.{Move}
+use Rattle.cha_moves.specs.Moves.{after, legal}
+use Rattle.cha_moves.specs.Ends.{IsMated, IsMatingLine, HasNoMateWithin}
+use Rattle.cha_moves.proofs.Contained.{not_in_nothing, Contains-cons_here}
+use Rattle.cha_fact.specs.declared.key.Key.{Key}
+use Rattle.cha_fact.specs.declared.calls.Probe.{Probe}
+use Rattle.cha_fact.specs.declared.calls.Probe.TheVariants.{Found, Miss}
+use Rattle.cha_fact.specs.declared.calls.Stored.{Stored}
+use Rattle.cha_fact.specs.declared.fact.Fact.TheVariants.{NoneWithin as NoneFact}
+use Rattle.cha_fact.specs.Truths.{Claim}
+use Rattle.cha_fact.specs.Keys.{key_of}
+use Rattle.cha_fact.specs.Entries.{Entry, probe_entry, store_entry, none_within, HasProbe, HasFound, HasStore, IsSearched}
+use Rattle.cha_fact.proofs.Searching.{Within, searched_more}
+use Rattle.helpmate.specs.declared.answers.RoundAnswer.{RoundAnswer}
+use Rattle.helpmate.specs.declared.answers.RoundAnswer.TheVariants.{Mate, NoneWithin, Spent}
+use Rattle.helpmate.specs.declared.answers.RoundDone.{RoundDone}
+use Rattle.helpmate.specs.Rounds.{decided_by, FollowsProbe, RoundCalls}
+use Rattle.helpmate.specs.Searches.{AreSearched, IsExpanded, Expands, BeginsWithProbe, Searches}
+use Rattle.helpmate.proofs.Saying.{says_none}
+
+-- after none of these moves there is a mate within so many plies
+unfoldable pub HaveNoMate : Board → Color → ℕ → List Move → Type 0
+HaveNoMate q w d ms = (m : Move) → Contains ms m → HasNoMateWithin (after q m) w d
+
+-- what holds of some moves and of one more
+one_more : (P : Move → Type 0) (ms : List Move) (i : ℕ) (m : Move) → ((x : Move) → Contains (take i ms) x → P x) → P m → i < length ms → m ≡ get_or ms i m → (x : Move) → Contains (take (i + 1) ms) x → P x
+one_more P ms i m before here inside at x there =
+    let L : List Move → Type 0 = λ l. Contains l x in
+    elim (Contains-push_cases (take i ms) (get_or ms i m) x (subst L (take_more ms i m inside) there)) [
+      | inl h ↦ before x h
+      | inr e ↦ subst P (at ∙ e) here
+    ]
+
+pub no_mate_yet : (q : Board) (w : Color) (d : ℕ) → HaveNoMate q w d []
+unfolding HaveNoMate
+no_mate_yet q w d m there = absurd (not_in_nothing m there)
+
+pub no_mate_more : (q : Board) (w : Color) (d : ℕ) (ms : List Move) (i : ℕ) (m : Move) → HaveNoMate q w d (take i ms) → HasNoMateWithin (after q m) w d → i < length ms → m ≡ get_or ms i m → HaveNoMate q w d (take (i + 1) ms)
+unfolding HaveNoMate
+no_mate_more q w d ms i m before here inside at = one_more (λ x. HasNoMateWithin (after q x) w d) ms i m before here inside at
+
+-- no position after a legal move has a mate within one ply less
+pub no_mate_at_all : (q : Board) (w : Color) (d : ℕ) (ms : List Move) (i : ℕ) → HaveNoMate q w (d - 1) (take i ms) → length ms ≤ i → ms ≡ legal q → (IsMated q (other_color w) → ⊥) → HasNoMateWithin q w d
+unfolding HaveNoMate
+no_mate_at_all q w d ms i all end listed running [] few line = running line
+no_mate_at_all q w d ms i all end listed running (m ∷ rest) few line =
+    let L : List Move → Type 0 = λ l. Contains l m in
+    all m (subst L (sym (take_all i ms end ∙ listed)) line.0) rest (omega arith) line.1
+
+-- each position after one of these moves was searched, by calls that were made from one state of a place to a later one
+unfoldable pub Tried : {S : Type 0} → (S → List Entry → S → Type 0) → S → S → Board → Color → ℕ → List Move → Type 0
+Tried made old new q w d ms = (entries : List Entry) × made old entries new × AreSearched entries q w d ms
+
+pub none_tried : {S : Type 0} (made : S → List Entry → S → Type 0) (s : S) (q : Board) (w : Color) (d : ℕ) → made s [] s → Tried made s s q w d []
+unfolding Tried AreSearched
+none_tried made s q w d none = ([], none, (λ m there. absurd (not_in_nothing m there)))
+
+front_within : (xs ys : List Entry) → Within xs (xs ++ ys)
+front_within xs ys e there = Contains-append_left xs ys e there
+
+back_within : (xs ys : List Entry) → Within ys (xs ++ ys)
+back_within xs ys e there = Contains-append_right xs ys e there
+
+pub one_more_tried : {S : Type 0} (made : S → List Entry → S → Type 0) (old mid new : S) (q r : Board) (w : Color) (d units : ℕ) (ms : List Move) (i : ℕ) (m : Move) (result : Result RoundAnswer NoMemory)
+    → ((a b c : S) (xs ys : List Entry) → made a xs b → made b ys c → made a (xs ++ ys) c)
+    → Tried made old mid q w d (take i ms) → Searches made mid new r w d units result → result ≡ Ok NoneWithin → r ≡ after q m → i < length ms → m ≡ get_or ms i m → Tried made old new q w d (take (i + 1) ms)
+unfolding Tried AreSearched
+one_more_tried made old mid new q r w d units ms i m result both before here none next inside at =
+    let xs = before.0 in
+    let ys = here.entries in
+    let P : Board → Type 0 = λ b. IsSearched ys b w d in
+    (
+      xs ++ ys,
+      both old mid new xs ys before.1 here.entered,
+      one_more (λ x. IsSearched (xs ++ ys) (after q x) w d) ms i m (λ x there. searched_more xs (xs ++ ys) (front_within xs ys) (after q x) w d (before.2 x there))
+        (searched_more ys (xs ++ ys) (back_within xs ys) (after q m) w d (subst P next (here.searched none))) inside at,
+    )
+
+-- the calls of an expansion that ends otherwise than without a mate
+pub ends_otherwise : {S : Type 0} (made : S → List Entry → S → Type 0) (old new : S) (q : Board) (w : Color) (d e : ℕ) (ms : List Move) (result : Result RoundAnswer NoMemory) → Tried made old new q w e ms → (result ≡ Ok NoneWithin → ⊥) → Expands made old new q w d result
+unfolding Tried Expands
+ends_otherwise made old new q w d e ms result tried other = (tried.0, tried.1, (λ same. absurd (other same)))
+
+-- a search below ended otherwise than without a mate
+pub ends_below : {S : Type 0} (made : S → List Entry → S → Type 0) (old mid new : S) (q r : Board) (w : Color) (d e units : ℕ) (ms : List Move) (inner result : Result RoundAnswer NoMemory)
+    → ((a b c : S) (xs ys : List Entry) → made a xs b → made b ys c → made a (xs ++ ys) c)
+    → Tried made old mid q w e ms → Searches made mid new r w e units inner → (result ≡ Ok NoneWithin → ⊥) → Expands made old new q w d result
+unfolding Tried Expands
+ends_below made old mid new q r w d e units ms inner result both tried here other =
+    (tried.0 ++ here.entries, both old mid new tried.0 here.entries tried.1 here.entered, (λ same. absurd (other same)))
+
+-- all legal moves were tried, and what came out was given to keep
+pub all_tried : {S : Type 0} (made : S → List Entry → S → Type 0) (old mid new : S) (q : Board) (w : Color) (d : ℕ) (ms : List Move) (i : ℕ) (row : Claim) (reply : Stored) (result : Result RoundAnswer NoMemory)
+    → ((a b c : S) (xs ys : List Entry) → made a xs b → made b ys c → made a (xs ++ ys) c)
+    → Tried made old mid q w (d - 1) (take i ms) → length ms ≤ i → ms ≡ legal q → made mid (store_entry row reply ∷ []) new → row ≡ none_within q w d → Expands made old new q w d result
+unfolding Tried Expands IsExpanded AreSearched HasStore
+all_tried made old mid new q w d ms i row reply result both tried end listed stored is =
+    let xs = tried.0 in
+    let last = store_entry (none_within q w d) reply in
+    let M : Claim → Type 0 = λ r. made mid (store_entry r reply ∷ []) new in
+    (
+      xs ++ last ∷ [],
+      both old mid new xs (last ∷ []) tried.1 (subst M is stored),
+      (λ same. (
+        (reply, Contains-push xs last),
+        (λ m there.
+          let L : List Move → Type 0 = λ l. Contains l m in
+          searched_more xs (xs ++ last ∷ []) (front_within xs (last ∷ [])) (after q m) w (d - 1) (tried.2 m (subst L (sym (take_all i ms end ∙ listed)) there))),
+      )),
+    )
+
+-- a search to depth 0 makes no call
+pub makes_no_call : {S : Type 0} (made : S → List Entry → S → Type 0) (s : S) (q : Board) (w : Color) (d units : ℕ) (result : Result RoundAnswer NoMemory) → made s [] s → d ≡ 0 → Searches made s s q w d units result
+makes_no_call made s q w d units result none zero_plies =
+    let P : ℕ → Type 0 = λ n. IsSearched [] q w n in
+    record { entries = []; entered = none; searched = λ same. subst P (sym zero_plies) tt; first = λ some. absurd (omega arith) }
+
+found_here : (entries : List Entry) (q : Board) (w : Color) (d : ℕ) (row : Claim) → Contains entries (probe_entry (key_of q w) (Found row)) → decided_by d row.fact ≡ Some NoneWithin → HasFound entries q w d
+unfolding HasFound
+found_here entries q w d row there e = (let s = says_none d row.fact e in (row, s.0, s.1, s.2, there))
+
+by_found : (entries : List Entry) (q : Board) (w : Color) (d : ℕ) → 0 < d → HasFound entries q w d → IsSearched entries q w d
+by_found entries q w zero some found = absurd (omega arith)
+by_found entries q w (suc d) some found = inl found
+
+the_same : (a b : RoundAnswer) (o : Option RoundAnswer) → o ≡ Some a → o ≡ Some b → a ≡ b
+the_same a b o e f = cc
+
+the_answer : (a b : RoundAnswer) (o : Result RoundAnswer NoMemory) → o ≡ Ok a → o ≡ Ok b → a ≡ b
+the_answer a b o e f = cc
+
+-- what was asked for is the position and the side
+pub of_asked : {S : Type 0} (made : S → List Entry → S → Type 0) (old new : S) (key : Key) (q : Board) (w : Color) (reply : Probe) → made old (probe_entry key reply ∷ []) new → key ≡ key_of q w → made old (probe_entry (key_of q w) reply ∷ []) new
+of_asked made old new key q w reply entered is =
+    let M : Key → Type 0 = λ k. made old (probe_entry k reply ∷ []) new in
+    subst M is entered
+
+-- what was found decides
+pub follows_found : (d units : ℕ) (reply : Probe) (row : Claim) (answer : RoundAnswer) → reply ≡ Found row → decided_by d row.fact ≡ Some answer → units ≡ 0 → FollowsProbe d reply answer units
+follows_found d units reply row answer is decided none =
+    let F : Probe → Type 0 = λ p. FollowsProbe d p answer units in
+    subst F (sym is) (λ b says. (the_same answer b (decided_by d row.fact) decided says, none))
+
+pub decides : {S : Type 0} (made : S → List Entry → S → Type 0) (old new : S) (q : Board) (w : Color) (d units : ℕ) (reply : Probe) (row : Claim) (answer : RoundAnswer) (result : Result RoundAnswer NoMemory)
+    → made old (probe_entry (key_of q w) reply ∷ []) new → reply ≡ Found row → decided_by d row.fact ≡ Some answer → 0 < d → units ≡ 0 → result ≡ Ok answer → Searches made old new q w d units result
+unfolding BeginsWithProbe
+decides made old new q w d units reply row answer result entered is decided some none ends =
+    let first = probe_entry (key_of q w) reply in
+    let there : Contains (first ∷ []) (probe_entry (key_of q w) (Found row)) = Contains-cons_here first [] (probe_entry (key_of q w) (Found row)) (ap (λ (p : Probe). probe_entry (key_of q w) p) is) in
+    record {
+      entries = first ∷ [];
+      entered = entered;
+      searched = λ same. by_found (first ∷ []) q w d some (found_here (first ∷ []) q w d row there (decided ∙ ap Some (the_answer answer NoneWithin result ends same)));
+      first = λ _. (reply, [], refl, (λ a same.
+        let A : RoundAnswer → Type 0 = λ x. FollowsProbe d reply x units in
+        subst A (the_answer answer a result ends same) (follows_found d units reply row answer is decided none)));
+    }
+
+by_parts : (entries : List Entry) (q : Board) (w : Color) (d : ℕ) → 0 < d → HasProbe entries q w → HasStore entries q w d → AreSearched entries q w (d - 1) (legal q) → IsSearched entries q w d
+unfolding AreSearched
+by_parts entries q w zero some probed stored all = absurd (omega arith)
+by_parts entries q w (suc d) some probed stored all =
+    let same : suc d - 1 ≡ d = omega arith in
+    let P : ℕ → Type 0 = λ n. (m : Move) → Contains (legal q) m → IsSearched entries (after q m) w n in
+    inr (probed, stored, subst P same all)
+
+store_later : (e : Entry) (entries : List Entry) (q : Board) (w : Color) (d : ℕ) → HasStore entries q w d → HasStore (e ∷ entries) q w d
+unfolding HasStore
+store_later e entries q w d has = (has.0, Contains-append_right (e ∷ []) entries _ has.1)
+
+probe_first : (entries : List Entry) (q : Board) (w : Color) (reply : Probe) → HasProbe (probe_entry (key_of q w) reply ∷ entries) q w
+unfolding HasProbe
+probe_first entries q w reply = (reply, Contains-cons_here (probe_entry (key_of q w) reply) entries (probe_entry (key_of q w) reply) refl)
+
+all_later : (e : Entry) (entries : List Entry) (q : Board) (w : Color) (d : ℕ) (ms : List Move) → AreSearched entries q w d ms → AreSearched (e ∷ entries) q w d ms
+unfolding AreSearched
+all_later e entries q w d ms all m there = searched_more entries (e ∷ entries) (back_within (e ∷ []) entries) (after q m) w d (all m there)
+
+-- what was found does not decide, or nothing was found, and the position was expanded
+pub expanded : {S : Type 0} (made : S → List Entry → S → Type 0) (old mid new : S) (q : Board) (w : Color) (d units : ℕ) (reply : Probe) (result : Result RoundAnswer NoMemory)
+    → ((a b c : S) (xs ys : List Entry) → made a xs b → made b ys c → made a (xs ++ ys) c)
+    → made old (probe_entry (key_of q w) reply ∷ []) mid → Expands made mid new q w d result → 0 < d → ((a : RoundAnswer) → FollowsProbe d reply a units) → Searches made old new q w d units result
+unfolding BeginsWithProbe Expands IsExpanded
+expanded made old mid new q w d units reply result both entered h some follows =
+    let first = probe_entry (key_of q w) reply in
+    let rest = h.0 in
+    record {
+      entries = first ∷ rest;
+      entered = both old mid new (first ∷ []) rest entered h.1;
+      searched = λ same. (let parts = h.2 same in by_parts (first ∷ rest) q w d some (probe_first rest q w reply) (store_later first rest q w d parts.0) (all_later first rest q w (d - 1) (legal q) parts.1));
+      first = λ _. (reply, rest, refl, (λ a same. follows a));
+    }
+
+-- nothing is decided by what was found
+pub undecided : (d units : ℕ) (reply : Probe) (row : Claim) → reply ≡ Found row → decided_by d row.fact ≡ None → (a : RoundAnswer) → FollowsProbe d reply a units
+undecided d units reply row is none a =
+    let F : Probe → Type 0 = λ p. FollowsProbe d p a units in
+    subst F (sym is) (λ b says. cc)
+
+pub missed : (d units : ℕ) (reply : Probe) → reply ≡ Miss → (a : RoundAnswer) → FollowsProbe d reply a units
+missed d units reply is a =
+    let F : Probe → Type 0 = λ p. FollowsProbe d p a units in
+    subst F (sym is) tt
+
+the_done : (a b : RoundDone) (o : Result RoundDone NoMemory) → o ≡ Ok a → o ≡ Ok b → a ≡ b
+the_done a b o e f = cc
+
+-- a round of depth 0 asks once
+pub asks_once : {S : Type 0} (made : S → List Entry → S → Type 0) (old new : S) (q : Board) (w : Color) (reply : Probe) (a : RoundAnswer) → made old (probe_entry (key_of q w) reply ∷ []) new → FollowsProbe 0 reply a 0 → RoundCalls made old new q w 0 (Ok (record { round = a; units = 0 }))
+asks_once made old new q w reply a entered follows =
+    let one : RoundDone = record { round = a; units = 0 } in
+    let D : RoundDone → Type 0 = λ x. FollowsProbe 0 reply x.round x.units in
+    record {
+      reply = reply;
+      rest = [];
+      entered = entered;
+      follows = λ done same. subst D (the_done one done (Ok one) refl same) follows;
+      searched = λ done same none. tt;
+    }
+
+-- the calls of a search are those of its round
+pub round_of_search : {S : Type 0} (made : S → List Entry → S → Type 0) (old new : S) (q : Board) (w : Color) (d units : ℕ) (inner : Result RoundAnswer NoMemory) (result : Result RoundDone NoMemory)
+    → Searches made old new q w d units inner → 0 < d → ((done : RoundDone) → result ≡ Ok done → (inner ≡ Ok done.round) × (done.units ≡ units)) → RoundCalls made old new q w d result
+unfolding BeginsWithProbe
+round_of_search made old new q w d units inner result h some ends =
+    let begins = h.first some in
+    let M : List Entry → Type 0 = λ es. made old es new in
+    let E : List Entry → Type 0 = λ es. IsSearched es q w d in
+    record {
+      reply = begins.0;
+      rest = begins.1;
+      entered = subst M begins.2 h.entered;
+      follows = λ done same. (
+        let e = ends done same in
+        let U : ℕ → Type 0 = λ n. FollowsProbe d begins.0 done.round n in
+        subst U (sym e.1) (begins.3 done.round e.0));
+      searched = λ done same none. subst E begins.2 (h.searched ((ends done same).0 ∙ ap Ok none));
+    }
+
+pub round_ends : (inner : Result RoundAnswer NoMemory) (a : RoundAnswer) (n : ℕ) (o : Result RoundDone NoMemory) (done : RoundDone) → inner ≡ Ok a → o ≡ Ok (record { round = a; units = n }) → o ≡ Ok done → (inner ≡ Ok done.round) × (done.units ≡ n)
+round_ends inner a n o done is ends same =
+    let one : RoundDone = record { round = a; units = n } in
+    let e = the_done one done o ends same in
+    let A : RoundDone → Type 0 = λ x. inner ≡ Ok x.round in
+    (subst A e is, sym (ap (λ (x : RoundDone). x.units) e))

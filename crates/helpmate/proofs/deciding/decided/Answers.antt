@@ -1,0 +1,23 @@
+use Rattle.std.proofs.Common.{◌≡◌, sym, ◌∙◌, ap, subst, arith, ◌≤◌, length, List}
+use Rattle.cha_fact.specs.declared.fact.Fact.TheVariants.{Mate, NoneWithin}
+use Rattle.cha_moves.specs.Step.{Move}
+use Rattle.cha_moves.specs.Ends.{IsMatingLine}
+use Rattle.helpmate.proofs.Saying.{true_of_asked}
+use Rattle.helpmate.proofs.deciding.decided.Goals as goal
+
+pub returns-else-moves-gt-MOST_FOUND-clause-holds : goal.returns-else-moves-gt-MOST_FOUND-clause-holds
+returns-else-moves-gt-MOST_FOUND-clause-holds c =
+    let row = c.args.row.now in
+    let mates : IsMatingLine c.args.position.now c.args.winner c.in-Mate.line =
+      true_of_asked c.position-valid.result row.position c.args.position.now row.winner c.args.winner row.fact (Mate c.in-Mate.line) c.position-valid.ensures.valid c.position-valid.ensures.value c.known.ensures c.requires c.fact.ensures.holds (sym c.fact.ensures.value ∙ c.in-Mate.is)
+    in
+    let L : List Move → Type 0 = λ l. IsMatingLine c.args.position.now c.args.winner l in
+    let short = c.if-moves-gt-MOST_FOUND.false in
+    let same = ap length (c.copy.ensures ∙ sym c.moves.ensures.value) in
+    (subst L (sym c.copy.ensures) mates, omega arith)
+
+pub returns-else-within-depth-clause-holds : goal.returns-else-within-depth-clause-holds
+returns-else-within-depth-clause-holds c = λ ms few line.
+    let row = c.args.row.now in
+    let enough = c.if-within-depth.false in
+    true_of_asked c.position-valid.result row.position c.args.position.now row.winner c.args.winner row.fact (NoneWithin c.in-NoneWithin.within) c.position-valid.ensures.valid c.position-valid.ensures.value c.known.ensures c.requires c.fact.ensures.holds (sym c.fact.ensures.value ∙ c.in-NoneWithin.is) ms (omega arith) line

@@ -1,15 +1,17 @@
 //! The search for a mate within a number of plies, with a place that keeps facts.
 //!
 //! `answers` has what a round answers, `deciding` what a fact decides by itself, `search` the search of a position to a
-//! depth, and `rounds` a round with how many positions it expanded.
+//! depth, `rounds` a round with how many positions it expanded, and `table_rounds` the same at a table of facts.
 #![tactic(auto)]
 
 mod answers;
 mod deciding;
 mod rounds;
 mod search;
+mod table_rounds;
 #[cfg(test)]
 mod tests;
 
 pub use answers::{RoundAnswer, RoundDone};
 pub use rounds::round_in;
+pub use table_rounds::round;

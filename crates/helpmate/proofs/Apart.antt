@@ -31,9 +31,9 @@ unfolding AreDistinct
 images_apart f one [] d = tt
 images_apart {X = X} f one (x ∷ xs) d = (
   (λ there.
-    let p = Contains-map_parts f xs (f x) there in
-    let P : X → Type 0 = λ y. Contains xs y in
-    d.0 (subst P (one p.0 x p.2) p.1)),
+      let p = Contains-map_parts f xs (f x) there in
+      let P : X → Type 0 = λ y. Contains xs y in
+      d.0 (subst P (one p.0 x p.2) p.1)),
   images_apart f one xs d.1,
 )
 
@@ -59,9 +59,9 @@ unfolding AreDistinct
 pieces_apart f each one [] d = tt
 pieces_apart {X = X} f each one (x ∷ xs) d =
     joined_apart (f x) (flat_map f xs) (each x) (pieces_apart f each one xs d.1) (λ y here there.
-      let p = Contains-flat_map_parts f xs y there in
-      let P : X → Type 0 = λ z. Contains xs z in
-      d.0 (subst P (one p.0 x y p.2 here) p.1))
+    let p = Contains-flat_map_parts f xs y there in
+    let P : X → Type 0 = λ z. Contains xs z in
+    d.0 (subst P (one p.0 x y p.2 here) p.1))
 
 -- numbers in a row
 from_there : (a n x : ℕ) → Contains (range_with_len a n) x → a ≤ x
@@ -84,8 +84,8 @@ removed [] x h = absurd (not_in_nothing x h)
 removed (y ∷ ys) x h = elim (Contains-cons_cases y ys x h) [
   | inl e ↦ (ys, refl, (λ z there other. elim (Contains-cons_cases y ys z there) [ inl same ↦ absurd (other (sym e ∙ same)) | inr later ↦ later ]))
   | inr behind ↦
-    (let r = removed ys x behind in
-    (y ∷ r.0, ap suc r.1, (λ z there other. elim (Contains-cons_cases y ys z there) [ inl same ↦ Contains-cons_here y r.0 z same | inr later ↦ Contains-cons_there y r.0 z (r.2 z later other) ])))
+      (let r = removed ys x behind in
+      (y ∷ r.0, ap suc r.1, (λ z there other. elim (Contains-cons_cases y ys z there) [ inl same ↦ Contains-cons_here y r.0 z same | inr later ↦ Contains-cons_there y r.0 z (r.2 z later other) ])))
 ]
 
 -- elements that differ and are all of a list are no more than it has

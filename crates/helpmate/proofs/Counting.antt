@@ -47,8 +47,7 @@ and_the_empty q (suc d) n u ms h some one =
     let apart = h.2 in
     let each = h.3 in
     let same : suc d - 1 ≡ d = omega arith in
-    let longer : (line : List Move) → Begins q (suc d - 1) ms line → IsLegalLine q line × (length line ≤ d) = with_moves q (suc d - 1) d ms same in
-    (
+    let longer : (line : List Move) → Begins q (suc d - 1) ms line → IsLegalLine q line × (length line ≤ d) = with_moves q (suc d - 1) d ms same in (
       [] ∷ lines,
       omega arith,
       one_more_apart [] lines (λ there. each [] there) apart,
@@ -120,18 +119,17 @@ from_one_more q (suc d) n u v ms i m h k inside at listed sum =
     let new = new_there ms i m (subst D (sym listed) (legal_apart q)) inside at in
     let led : List Move → List Move = λ l. m ∷ l in
     let whole = length-append (map led below) lines in
-    let ahead = length-map below led in
-    (
+    let ahead = length-map below led in (
       map led below ++ lines,
       omega arith,
       joined_apart (map led below) lines (images_apart led (λ a b e. same_tail m a b e) below differ) apart (λ line one two.
-        let p = Contains-map_parts led below line one in
-        new (first_is q (suc d) (take i ms) m p.0 line p.2 (each line two))),
+          let p = Contains-map_parts led below line one in
+          new (first_is q (suc d) (take i ms) m p.0 line p.2 (each line two))),
       (λ line there. elim (Contains-append_cases (map led below) lines line there) [
         | inl h ↦
-          (let p = Contains-map_parts led below line h in
-          let B : List Move → Type 0 = λ l. Begins q (suc d) (take (i + 1) ms) l in
-          subst B p.2 (led_line q d m (take (i + 1) ms) p.0 here allowed (legal_lines p.0 p.1)))
+            (let p = Contains-map_parts led below line h in
+            let B : List Move → Type 0 = λ l. Begins q (suc d) (take (i + 1) ms) l in
+            subst B p.2 (led_line q d m (take (i + 1) ms) p.0 here allowed (legal_lines p.0 p.1)))
         | inr h ↦ still_begins q (suc d) (take i ms) (take (i + 1) ms) all line (each line h)
       ]),
     )

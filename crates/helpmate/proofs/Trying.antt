@@ -77,12 +77,11 @@ unfolding Tried AreSearched
 one_more_tried made old mid new q r w d units ms i m result both before here none next inside at =
     let xs = before.0 in
     let ys = here.entries in
-    let P : Board → Type 0 = λ b. IsSearched ys b w d in
-    (
+    let P : Board → Type 0 = λ b. IsSearched ys b w d in (
       xs ++ ys,
       both old mid new xs ys before.1 here.entered,
       one_more (λ x. IsSearched (xs ++ ys) (after q x) w d) ms i m (λ x there. searched_more xs (xs ++ ys) (front_within xs ys) (after q x) w d (before.2 x there))
-        (searched_more ys (xs ++ ys) (back_within xs ys) (after q m) w d (subst P next (here.searched none))) inside at,
+          (searched_more ys (xs ++ ys) (back_within xs ys) (after q m) w d (subst P next (here.searched none))) inside at,
     )
 
 -- the calls of an expansion that ends otherwise than without a mate
@@ -106,15 +105,14 @@ unfolding Tried Expands IsExpanded AreSearched HasStore
 all_tried made old mid new q w d ms i row reply result both tried end listed stored is =
     let xs = tried.0 in
     let last = store_entry (none_within q w d) reply in
-    let M : Claim → Type 0 = λ r. made mid (store_entry r reply ∷ []) new in
-    (
+    let M : Claim → Type 0 = λ r. made mid (store_entry r reply ∷ []) new in (
       xs ++ last ∷ [],
       both old mid new xs (last ∷ []) tried.1 (subst M is stored),
       (λ same. (
         (reply, Contains-push xs last),
         (λ m there.
-          let L : List Move → Type 0 = λ l. Contains l m in
-          searched_more xs (xs ++ last ∷ []) (front_within xs (last ∷ [])) (after q m) w (d - 1) (tried.2 m (subst L (sym (take_all i ms end ∙ listed)) there))),
+            let L : List Move → Type 0 = λ l. Contains l m in
+            searched_more xs (xs ++ last ∷ []) (front_within xs (last ∷ [])) (after q m) w (d - 1) (tried.2 m (subst L (sym (take_all i ms end ∙ listed)) there))),
       )),
     )
 
@@ -138,12 +136,6 @@ the_same a b o e f = cc
 the_answer : (a b : RoundAnswer) (o : Result RoundAnswer NoMemory) → o ≡ Ok a → o ≡ Ok b → a ≡ b
 the_answer a b o e f = cc
 
--- what was asked for is the position and the side
-pub of_asked : {S : Type 0} (made : S → List Entry → S → Type 0) (old new : S) (key : Key) (q : Board) (w : Color) (reply : Probe) → made old (probe_entry key reply ∷ []) new → key ≡ key_of q w → made old (probe_entry (key_of q w) reply ∷ []) new
-of_asked made old new key q w reply entered is =
-    let M : Key → Type 0 = λ k. made old (probe_entry k reply ∷ []) new in
-    subst M is entered
-
 -- what was found decides
 pub follows_found : (d units : ℕ) (reply : Probe) (row : Claim) (answer : RoundAnswer) → reply ≡ Found row → decided_by d row.fact ≡ Some answer → units ≡ 0 → FollowsProbe d reply answer units
 follows_found d units reply row answer is decided none =
@@ -160,9 +152,14 @@ decides made old new q w d units reply row answer result entered is decided some
       entries = first ∷ [];
       entered = entered;
       searched = λ same. by_found (first ∷ []) q w d some (found_here (first ∷ []) q w d row there (decided ∙ ap Some (the_answer answer NoneWithin result ends same)));
-      first = λ _. (reply, [], refl, (λ a same.
-        let A : RoundAnswer → Type 0 = λ x. FollowsProbe d reply x units in
-        subst A (the_answer answer a result ends same) (follows_found d units reply row answer is decided none)));
+      first = λ _. (
+        reply,
+        [],
+        refl,
+        (λ a same.
+            let A : RoundAnswer → Type 0 = λ x. FollowsProbe d reply x units in
+            subst A (the_answer answer a result ends same) (follows_found d units reply row answer is decided none)),
+      );
     }
 
 by_parts : (entries : List Entry) (q : Board) (w : Color) (d : ℕ) → 0 < d → HasProbe entries q w → HasStore entries q w d → AreSearched entries q w (d - 1) (legal q) → IsSearched entries q w d
@@ -240,9 +237,9 @@ round_of_search made old new q w d units inner result h some ends =
       rest = begins.1;
       entered = subst M begins.2 h.entered;
       follows = λ done same. (
-        let e = ends done same in
-        let U : ℕ → Type 0 = λ n. FollowsProbe d begins.0 done.round n in
-        subst U (sym e.1) (begins.3 done.round e.0));
+          let e = ends done same in
+          let U : ℕ → Type 0 = λ n. FollowsProbe d begins.0 done.round n in
+          subst U (sym e.1) (begins.3 done.round e.0));
       searched = λ done same none. subst E begins.2 (h.searched ((ends done same).0 ∙ ap Ok none));
     }
 

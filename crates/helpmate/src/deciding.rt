@@ -12,12 +12,7 @@ use cha_fact::{Fact, Proved};
 pub const MOST_FOUND: usize = 32;
 
 /// What a fact of a position and a side answers for a depth by itself.
-pub fn decided(
-    position: &Position,
-    winner: Color,
-    row: &Proved,
-    depth: u8,
-) -> Option<RoundAnswer>
+pub fn decided(position: &Position, winner: Color, row: &Proved, depth: u8) -> Option<RoundAnswer>
     requires { key_of row.now.position row.now.winner ≡ key_of position.now winner }
     ensures value { result ≡ decided_by depth row.now.fact }
     ensures holds { IfSome result (IsAnswer position.now winner depth 32) }

@@ -13,5 +13,6 @@ mod table_rounds;
 mod tests;
 
 pub use answers::{RoundAnswer, RoundDone};
+pub use deciding::decided;
 pub use rounds::round_in;
 pub use table_rounds::round;

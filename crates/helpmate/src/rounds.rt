@@ -6,9 +6,9 @@ ghost use Rattle.helpmate.specs.Rounds.{IsAnswer, IsAllowed, RoundCalls};
 
 use crate::answers::{RoundAnswer, RoundDone};
 use crate::deciding::decided;
-use crate::search::{look, search};
+use crate::search::{ask, look, search};
 use cha_board::{Color, Position};
-use cha_fact::{Facts, Key, Probe};
+use cha_fact::{Facts, Probe};
 use cha_list::NoMemory;
 use std::alloc::Global;
 
@@ -59,7 +59,7 @@ fn looked<F: Facts>(position: &Position, winner: Color, facts: &mut F) -> RoundA
     ensures holds { IsAnswer position.now winner 0 32 result }
     ensures calls { RoundCalls F.made facts.old facts.new position.now winner 0 (Ok (record { round = result; units = 0 })) }
 {
-    match facts.probe(&Key::of(position, winner)) {
+    match ask(position, winner, facts) {
         Probe::Found(row) => match decided(position, winner, &row, 0) {
             Some(answer) => answer,
             None => look(position, winner),

@@ -1,9 +1,11 @@
 //! The search of a position to a depth, which asks a place that keeps facts before it expands a position, and gives it
 //! what comes out.
 
-ghost use Rattle.std.specs.Prelude.{◌≡◌, ◌+◌, ◌-◌, ◌<◌, ◌≤◌, ◌∷◌, length, Contains, Ok, IfOk};
+ghost use Rattle.std.specs.Prelude.{◌≡◌, ◌+◌, ◌-◌, ◌<◌, ◌≤◌, [], ◌∷◌, length, Contains, Ok, IfOk};
 ghost use Rattle.cha_moves.specs.Moves.{after as position_after, legal as legal_moves};
 ghost use Rattle.cha_moves.specs.Ends.{IsMatingLine};
+ghost use Rattle.cha_fact.specs.Keys.{key_of};
+ghost use Rattle.cha_fact.specs.Entries.{probe_entry, IsOfKey};
 ghost use Rattle.helpmate.specs.Lines.{AreUnits};
 ghost use Rattle.helpmate.specs.Rounds.{IsAnswer, RoundCalls};
 ghost use Rattle.helpmate.specs.Searches.{Expands, Searches};
@@ -15,6 +17,16 @@ use cha_fact::{Facts, Key, Line, Probe, Proved};
 use cha_list::NoMemory;
 use cha_moves::{Move, after, is_mate, legal};
 use std::alloc::Global;
+
+/// Asks a place for a position and a side.
+pub fn ask<F: Facts>(position: &Position, winner: Color, facts: &mut F) -> Probe
+    requires ready { F.ready facts.old }
+    ensures stays_ready { F.ready facts.new }
+    ensures entered { F.made facts.old (probe_entry (key_of position.now winner) result ∷ []) facts.new }
+    ensures of_key { IsOfKey (key_of position.now winner) result }
+{
+    facts.probe(&Key::of(position, winner))
+}
 
 /// Whether a position is a mate, as an answer for depth 0.
 pub fn look(position: &Position, winner: Color) -> RoundAnswer
@@ -63,7 +75,7 @@ pub fn search<F: Facts>(
     if depth == 0 {
         return Ok(look(position, winner));
     }
-    match facts.probe(&Key::of(position, winner)) {
+    match ask(position, winner, facts) {
         Probe::Found(row) => match decided(position, winner, &row, depth) {
             Some(answer) => Ok(answer),
             None => expand(alloc, position, winner, depth, left, facts),

@@ -9,7 +9,7 @@ pub returns-else-moves-gt-MOST_FOUND-clause-holds : goal.returns-else-moves-gt-M
 returns-else-moves-gt-MOST_FOUND-clause-holds c =
     let row = c.args.row.now in
     let mates : IsMatingLine c.args.position.now c.args.winner c.in-Mate.line =
-      true_of_asked c.position-valid.result row.position c.args.position.now row.winner c.args.winner row.fact (Mate c.in-Mate.line) c.position-valid.ensures.valid c.position-valid.ensures.value c.known.ensures c.requires c.fact.ensures.holds (sym c.fact.ensures.value ∙ c.in-Mate.is)
+    true_of_asked c.position-valid.result row.position c.args.position.now row.winner c.args.winner row.fact (Mate c.in-Mate.line) c.position-valid.ensures.valid c.position-valid.ensures.value c.known.ensures c.requires c.fact.ensures.holds (sym c.fact.ensures.value ∙ c.in-Mate.is)
     in
     let L : List Move → Type 0 = λ l. IsMatingLine c.args.position.now c.args.winner l in
     let short = c.if-moves-gt-MOST_FOUND.false in

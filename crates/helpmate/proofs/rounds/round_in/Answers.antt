@@ -16,10 +16,10 @@ returns-clause-spent g c = λ e.
     elim c.match-allowance.branch [
       | in-Some w ↦ spent_all c.args.allowance _ c.match-allowance.most c.search.new.left w.in-Some.is w.most-is spent
       | in-None w ↦
-        (let small = c.requires.bounded (none_is c.args.allowance w.in-None.is) in
-        let few = few_units c.args.position.now c.args.depth (c.match-allowance.most - c.search.new.left) small c.in_ok-round.ensures.units in
-        let most = w.most-is in
-        absurd (omega arith))
+          (let small = c.requires.bounded (none_is c.args.allowance w.in-None.is) in
+          let few = few_units c.args.position.now c.args.depth (c.match-allowance.most - c.search.new.left) small c.in_ok-round.ensures.units in
+          let most = w.most-is in
+          absurd (omega arith))
     ]
 
 pub returns-clause-calls : goal.returns-clause-calls
@@ -27,4 +27,4 @@ returns-clause-calls g c =
     let some = c.if-depth-eq0.false in
     let units = c.match-allowance.most - c.search.new.left in
     round_of_search g.F.Facts.made c.args.facts.now c.search.new.facts c.args.position.now c.args.winner c.args.depth units c.search.result (Ok (record { round = c.in_ok-round.round; units = units })) c.search.ensures.calls (omega arith) (λ done same.
-      round_ends c.search.result c.in_ok-round.round units (Ok (record { round = c.in_ok-round.round; units = units })) done c.in_ok-round.was refl same)
+    round_ends c.search.result c.in_ok-round.round units (Ok (record { round = c.in_ok-round.round; units = units })) done c.in_ok-round.was refl same)

@@ -3,7 +3,7 @@ use Rattle.cha_moves.specs.Moves.{after}
 use Rattle.helpmate.specs.declared.answers.RoundAnswer.TheVariants.{Mate, NoneWithin, Spent}
 use Rattle.helpmate.proofs.Counting.{no_units, from_no_move, one_more_counted, all_counted}
 use Rattle.helpmate.proofs.Saying.{none_answered, no_answer}
-use Rattle.helpmate.proofs.Trying.{no_mate_yet, no_mate_more, no_mate_at_all, none_tried, one_more_tried, ends_otherwise, ends_below, all_tried, of_asked, decides, expanded, undecided, missed}
+use Rattle.helpmate.proofs.Trying.{no_mate_yet, no_mate_more, no_mate_at_all, none_tried, one_more_tried, ends_otherwise, ends_below, all_tried, decides, expanded, undecided, missed}
 use Rattle.helpmate.proofs.search.+searching.Goals as goal
 
 pub expand-returns-then-is_mate-clause-units : goal.expand-returns-then-is_mate-clause-units
@@ -37,7 +37,7 @@ expand-loop-m-init g t c = record {
 pub expand-returns-in_err-rest-clause-calls : goal.expand-returns-in_err-rest-clause-calls
 expand-returns-in_err-rest-clause-calls g t c =
     ends_below g.F.Facts.made c.args.facts.now c.loop-m.facts c.search.new.facts c.args.position.now c.after-next.result c.args.winner c.args.depth (c.args.depth - 1) (c.loop-m.left - c.search.new.left) (take c.loop-m.m-index c.deref-m-items.result.now) c.search.result
-      c.from_residual-in_err-rest.result g.met.F.Facts.both_made c.loop-m.invariant.tried c.search.ensures.calls (no_answer c.from_residual-in_err-rest.result NoneWithin c.from_residual-in_err-rest.ensures.0)
+    c.from_residual-in_err-rest.result g.met.F.Facts.both_made c.loop-m.invariant.tried c.search.ensures.calls (no_answer c.from_residual-in_err-rest.result NoneWithin c.from_residual-in_err-rest.ensures.0)
 
 pub expand-returns-in-Mate-clause-units : goal.expand-returns-in-Mate-clause-units
 expand-returns-in-Mate-clause-units g t c =
@@ -47,13 +47,13 @@ expand-returns-in-Mate-clause-units g t c =
     let less = c.search.ensures.less in
     let fewer = c.loop-m.invariant.fewer in
     all_counted q c.args.depth c.args.left.now c.search.new.left (take (i + 1) ms)
-      (one_more_counted q c.after-next.result (c.args.depth - 1) c.args.left.now c.loop-m.left c.search.new.left ms i c.m-item.result c.loop-m.invariant.lines c.in_ok-rest.ensures.units c.after-next.ensures c.loop-m-test.true c.m-item.is c.loop-m.invariant.listed less fewer)
-      c.requires.some (omega arith)
+    (one_more_counted q c.after-next.result (c.args.depth - 1) c.args.left.now c.loop-m.left c.search.new.left ms i c.m-item.result c.loop-m.invariant.lines c.in_ok-rest.ensures.units c.after-next.ensures c.loop-m-test.true c.m-item.is c.loop-m.invariant.listed less fewer)
+    c.requires.some (omega arith)
 
 pub expand-returns-in-Mate-clause-calls : goal.expand-returns-in-Mate-clause-calls
 expand-returns-in-Mate-clause-calls g t c =
     ends_below g.F.Facts.made c.args.facts.now c.loop-m.facts c.search.new.facts c.args.position.now c.after-next.result c.args.winner c.args.depth (c.args.depth - 1) (c.loop-m.left - c.search.new.left) (take c.loop-m.m-index c.deref-m-items.result.now) c.search.result
-      (Ok (Mate c.led.result)) g.met.F.Facts.both_made c.loop-m.invariant.tried c.search.ensures.calls (λ e. cc)
+    (Ok (Mate c.led.result)) g.met.F.Facts.both_made c.loop-m.invariant.tried c.search.ensures.calls (λ e. cc)
 
 pub expand-returns-in-Spent-clause-units : goal.expand-returns-in-Spent-clause-units
 expand-returns-in-Spent-clause-units g t c =
@@ -63,13 +63,13 @@ expand-returns-in-Spent-clause-units g t c =
     let less = c.search.ensures.less in
     let fewer = c.loop-m.invariant.fewer in
     all_counted q c.args.depth c.args.left.now c.search.new.left (take (i + 1) ms)
-      (one_more_counted q c.after-next.result (c.args.depth - 1) c.args.left.now c.loop-m.left c.search.new.left ms i c.m-item.result c.loop-m.invariant.lines c.in_ok-rest.ensures.units c.after-next.ensures c.loop-m-test.true c.m-item.is c.loop-m.invariant.listed less fewer)
-      c.requires.some (omega arith)
+    (one_more_counted q c.after-next.result (c.args.depth - 1) c.args.left.now c.loop-m.left c.search.new.left ms i c.m-item.result c.loop-m.invariant.lines c.in_ok-rest.ensures.units c.after-next.ensures c.loop-m-test.true c.m-item.is c.loop-m.invariant.listed less fewer)
+    c.requires.some (omega arith)
 
 pub expand-returns-in-Spent-clause-calls : goal.expand-returns-in-Spent-clause-calls
 expand-returns-in-Spent-clause-calls g t c =
     ends_below g.F.Facts.made c.args.facts.now c.loop-m.facts c.search.new.facts c.args.position.now c.after-next.result c.args.winner c.args.depth (c.args.depth - 1) (c.loop-m.left - c.search.new.left) (take c.loop-m.m-index c.deref-m-items.result.now) c.search.result
-      (Ok Spent) g.met.F.Facts.both_made c.loop-m.invariant.tried c.search.ensures.calls (λ e. cc)
+    (Ok Spent) g.met.F.Facts.both_made c.loop-m.invariant.tried c.search.ensures.calls (λ e. cc)
 
 pub expand-loop-m-preserved : goal.expand-loop-m-preserved
 expand-loop-m-preserved g t c =
@@ -101,7 +101,7 @@ expand-returns-clause-units g t c =
 pub expand-returns-clause-calls : goal.expand-returns-clause-calls
 expand-returns-clause-calls g t c =
     all_tried g.F.Facts.made c.args.facts.now c.loop-m.facts c.store-stored.new.self c.args.position.now c.args.winner c.args.depth c.deref-m-items.result.now c.loop-m.m-index c.none.result c.store-stored.result _ g.met.F.Facts.both_made c.loop-m.invariant.tried c.loop-m-test.false c.loop-m.invariant.listed
-      c.store-stored.ensures.entered c.none.ensures
+    c.store-stored.ensures.entered c.none.ensures
 
 pub search-returns-in-Some-clause-units : goal.search-returns-in-Some-clause-units
 search-returns-in-Some-clause-units g t c = no_units c.args.position.now c.args.depth (c.args.left.now - c.args.left.now) (omega arith)
@@ -111,8 +111,8 @@ search-returns-in-Some-clause-calls g t c =
     let q = c.args.position.now in
     let w = c.args.winner in
     let some = c.if-depth-eq0.false in
-    decides g.F.Facts.made c.args.facts.now c.probe.new.self q w c.args.depth (c.args.left.now - c.args.left.now) c.probe.result c.in-Found.row c.in-Some.answer (Ok c.in-Some.answer) (of_asked g.F.Facts.made c.args.facts.now c.probe.new.self c.of.result q w c.probe.result c.probe.ensures.entered c.of.ensures)
-      c.in-Found.is (sym c.decided.ensures.value ∙ c.in-Some.is) (omega arith) (omega arith) refl
+    decides g.F.Facts.made c.args.facts.now c.ask.new.facts q w c.args.depth (c.args.left.now - c.args.left.now) c.ask.result c.in-Found.row c.in-Some.answer (Ok c.in-Some.answer) c.ask.ensures.entered
+    c.in-Found.is (sym c.decided.ensures.value ∙ c.in-Some.is) (omega arith) (omega arith) refl
 
 pub search-returns-in-None-clause-calls : goal.search-returns-in-None-clause-calls
 search-returns-in-None-clause-calls g t c =
@@ -120,8 +120,8 @@ search-returns-in-None-clause-calls g t c =
     let w = c.args.winner in
     let some = c.if-depth-eq0.false in
     let units = c.args.left.now - c.expand.new.left in
-    expanded g.F.Facts.made c.args.facts.now c.probe.new.self c.expand.new.facts q w c.args.depth units c.probe.result c.expand.result g.met.F.Facts.both_made (of_asked g.F.Facts.made c.args.facts.now c.probe.new.self c.of.result q w c.probe.result c.probe.ensures.entered c.of.ensures)
-      c.expand.ensures.calls (omega arith) (undecided c.args.depth units c.probe.result c.in-Found.row c.in-Found.is (sym c.decided.ensures.value ∙ c.in-None.is))
+    expanded g.F.Facts.made c.args.facts.now c.ask.new.facts c.expand.new.facts q w c.args.depth units c.ask.result c.expand.result g.met.F.Facts.both_made c.ask.ensures.entered
+    c.expand.ensures.calls (omega arith) (undecided c.args.depth units c.ask.result c.in-Found.row c.in-Found.is (sym c.decided.ensures.value ∙ c.in-None.is))
 
 pub search-returns-in-Miss-clause-calls : goal.search-returns-in-Miss-clause-calls
 search-returns-in-Miss-clause-calls g t c =
@@ -129,5 +129,5 @@ search-returns-in-Miss-clause-calls g t c =
     let w = c.args.winner in
     let some = c.if-depth-eq0.false in
     let units = c.args.left.now - c.expand-in-Miss.new.left in
-    expanded g.F.Facts.made c.args.facts.now c.probe.new.self c.expand-in-Miss.new.facts q w c.args.depth units c.probe.result c.expand-in-Miss.result g.met.F.Facts.both_made (of_asked g.F.Facts.made c.args.facts.now c.probe.new.self c.of.result q w c.probe.result c.probe.ensures.entered c.of.ensures)
-      c.expand-in-Miss.ensures.calls (omega arith) (missed c.args.depth units c.probe.result c.in-Miss.is)
+    expanded g.F.Facts.made c.args.facts.now c.ask.new.facts c.expand-in-Miss.new.facts q w c.args.depth units c.ask.result c.expand-in-Miss.result g.met.F.Facts.both_made c.ask.ensures.entered
+    c.expand-in-Miss.ensures.calls (omega arith) (missed c.args.depth units c.ask.result c.in-Miss.is)

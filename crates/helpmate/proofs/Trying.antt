@@ -2,26 +2,24 @@
 use Rattle.std.proofs.Common.{◌≡◌, ℕ, zero, suc, ◌+◌, ◌-◌, ◌<◌, ◌≤◌, List, [], ◌∷◌, ◌++◌, length, get_or, take, Option, Some, None, Result, Ok, inl, inr, refl, sym, ◌∙◌, ap, subst, arith}
 use Rattle.std.specs.List.{Contains}
 use Rattle.std.proofs.lemmas.List.{take_more, take_all}
-use Rattle.std.proofs.lemmas.List.Elements.{Contains-append_cases, Contains-append_left, Contains-append_right, Contains-push, Contains-push_cases}
+use Rattle.std.proofs.lemmas.List.Elements.{Contains-append_left, Contains-append_right, Contains-push, Contains-push_cases}
 use Rattle.cha_list.specs.declared.memory.NoMemory.{NoMemory}
 use Rattle.cha_board.specs.declared.men.Color.{Color}
 use Rattle.cha_board.specs.Men.{other_color}
 use Rattle.cha_board.specs.Board.{Board}
 use Rattle.cha_moves.specs.Step.{Move}
 use Rattle.cha_moves.specs.Moves.{after, legal}
-use Rattle.cha_moves.specs.Ends.{IsMated, IsMatingLine, HasNoMateWithin}
+use Rattle.cha_moves.specs.Ends.{IsMated, HasNoMateWithin}
 use Rattle.cha_moves.proofs.Contained.{not_in_nothing, Contains-cons_here}
-use Rattle.cha_fact.specs.declared.key.Key.{Key}
 use Rattle.cha_fact.specs.declared.calls.Probe.{Probe}
 use Rattle.cha_fact.specs.declared.calls.Probe.TheVariants.{Found, Miss}
 use Rattle.cha_fact.specs.declared.calls.Stored.{Stored}
-use Rattle.cha_fact.specs.declared.fact.Fact.TheVariants.{NoneWithin as NoneFact}
 use Rattle.cha_fact.specs.Truths.{Claim}
 use Rattle.cha_fact.specs.Keys.{key_of}
 use Rattle.cha_fact.specs.Entries.{Entry, probe_entry, store_entry, none_within, HasProbe, HasFound, HasStore, IsSearched}
 use Rattle.cha_fact.proofs.Searching.{Within, searched_more}
 use Rattle.helpmate.specs.declared.answers.RoundAnswer.{RoundAnswer}
-use Rattle.helpmate.specs.declared.answers.RoundAnswer.TheVariants.{Mate, NoneWithin, Spent}
+use Rattle.helpmate.specs.declared.answers.RoundAnswer.TheVariants.{NoneWithin}
 use Rattle.helpmate.specs.declared.answers.RoundDone.{RoundDone}
 use Rattle.helpmate.specs.Rounds.{decided_by, FollowsProbe, RoundCalls}
 use Rattle.helpmate.specs.Searches.{AreSearched, IsExpanded, Expands, BeginsWithProbe, Searches}

@@ -1,4 +1,4 @@
-use Rattle.std.proofs.Common.{◌≡◌, sym, ◌∙◌, ap, subst, arith, ◌≤◌, length, List}
+use Rattle.std.proofs.Common.{sym, ◌∙◌, ap, subst, arith, length, List}
 use Rattle.cha_fact.specs.declared.fact.Fact.TheVariants.{Mate, NoneWithin}
 use Rattle.cha_moves.specs.Step.{Move}
 use Rattle.cha_moves.specs.Ends.{IsMatingLine}

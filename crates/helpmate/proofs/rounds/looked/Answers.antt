@@ -1,4 +1,4 @@
-use Rattle.std.proofs.Common.{◌≡◌, sym, ◌∙◌, refl}
+use Rattle.std.proofs.Common.{sym, ◌∙◌, refl}
 use Rattle.helpmate.proofs.Trying.{asks_once, follows_found, undecided, missed}
 use Rattle.helpmate.proofs.rounds.looked.Goals as goal
 

@@ -1,4 +1,4 @@
-use Rattle.std.proofs.Common.{◌≡◌, ◌-◌, ◌<◌, ◌≤◌, Ok, sym, ◌∙◌, ap, refl, arith}
+use Rattle.std.proofs.Common.{◌-◌, Ok, ap, refl, arith}
 use Rattle.helpmate.proofs.FewLines.{few_units}
 use Rattle.helpmate.proofs.Saying.{spent_all, none_is, no_answer}
 use Rattle.helpmate.proofs.Trying.{round_of_search, round_ends}

@@ -1,4 +1,4 @@
-use Rattle.std.proofs.Common.{◌≡◌, ◌+◌, ◌-◌, ◌<◌, ◌≤◌, [], take, Ok, sym, ◌∙◌, ap, refl, arith}
+use Rattle.std.proofs.Common.{◌+◌, ◌-◌, [], take, Ok, sym, ◌∙◌, ap, refl, arith}
 use Rattle.cha_moves.specs.Moves.{after}
 use Rattle.helpmate.specs.declared.answers.RoundAnswer.TheVariants.{Mate, NoneWithin, Spent}
 use Rattle.helpmate.proofs.Counting.{no_units, from_no_move, one_more_counted, all_counted}

@@ -1,6 +1,6 @@
 //! A round: the search of a position to a depth, and how many positions it expanded.
 
-ghost use Rattle.std.specs.Prelude.{◌≡◌, ◌≤◌, ◌<◌, Some, IsNone, Ok, IfOk};
+ghost use Rattle.std.specs.Prelude.{◌≡◌, ◌≤◌, Some, IsNone, Ok, IfOk};
 ghost use Rattle.helpmate.specs.Lines.{AreUnits};
 ghost use Rattle.helpmate.specs.Rounds.{IsAnswer, IsAllowed, RoundCalls};
 

@@ -215,6 +215,7 @@ impl Store {
         requires free { (b : ℕ) → Has (list_at self.old.waiting b) name → ⊥ }
         ensures nodes { self.new.nodes ≡ mark self.old.nodes name }
         ensures waiting { self.new.waiting ≡ self.old.waiting }
+        ensures spare { self.new.spare ≡ self.old.spare }
     {
         match self.nodes.get_index_mut(name as usize) {
             Some(place) => place.leaf = true,

@@ -6,5 +6,5 @@ mod Staying
 mod Turning
 mod Places
 mod Eights
-mod Made
+pub mod Made
 pub mod Sending

@@ -20,6 +20,7 @@ use Rattle.shard_table.specs.Live.{History}
 use Rattle.shard_table.specs.declared.table.Table.{Table}
 use Rattle.shard_table.specs.declared.table.TablePass.{TablePass}
 
+-- what a side adds to the number of a shard
 abbrev pub side_number : Color → ℕ
 side_number White = 0
 side_number Black = 1
@@ -74,15 +75,17 @@ FindsExactly table new key reply =
     (before : History) (rows : Rows) (e : Entry FactCall FactReply) → seen_at new (shard_number key) ≡ before ++ e ∷ []
     → IsLegalHistory ShardStep (empty table.entries) before rows → IsRowOf key rows.rows reply
 
+-- the reply to a store is one that those rows give
 abbrev pub StoresExactly : Table → TablePass → Claim → Stored → Type 0
 StoresExactly table new row reply =
     (before : History) (rows : Rows) (e : Entry FactCall FactReply) → seen_at new (shard_number (row_key row)) ≡ before ++ e ∷ []
     → IsLegalHistory ShardStep (empty table.entries) before rows → (after : List Claim) × Stores table.entries row rows.rows reply after
 
--- how many passes were split off a table's first pass, and how many it took back
+-- how many passes were split off a table's first pass
 abbrev pub splits_of : TablePass → ℕ
 splits_of pass = (pass_at pass 0).splits
 
+-- how many of them it took back
 abbrev pub joins_of : TablePass → ℕ
 joins_of pass = (pass_at pass 0).joins
 

@@ -23,7 +23,7 @@ is_number least most word =
 unfoldable pub number : ℕ → ℕ → List ℕ → Option ℕ
 number least most word = if is_number least most word then Some (digits_value 10 word) else None
 
--- the first word
+-- the command that the first word names, letter by letter
 unfoldable pub command_named : List ℕ → Option Command
 command_named word =
     if bytes_eq word (codes "adjudicate") then Some Adjudicate
@@ -31,7 +31,7 @@ command_named word =
     else (if bytes_eq word (codes "check") then Some Check
     else (if bytes_eq word (codes "gen") then Some Gen else None)))
 
--- an option with a number
+-- the option with a number that a word names, letter by letter
 unfoldable pub setting_named : List ℕ → Option Setting
 setting_named word =
     if bytes_eq word (codes "--budget") then Some Budget
@@ -39,7 +39,7 @@ setting_named word =
     else (if bytes_eq word (codes "--depth") then Some Depth
     else (if bytes_eq word (codes "--entries") then Some Entries else None)))
 
--- the range of its number
+-- the least and the greatest number of an option
 abbrev pub least_of : Setting → ℕ
 least_of Budget = 1
 least_of Workers = 1
@@ -63,35 +63,41 @@ pub data Piece : Type 0 where
   Name : Setting → Piece
   Whole : Part → Piece
 
--- --name=value is a part, with the value behind the first equals sign
+-- name=value, cut at the first equals sign (ASCII 61), gives an option its value, and any other word stands for itself
 abbrev pub part_by : Option Setting → List ℕ → Part
 part_by (Some setting) word = Value setting (after_first (λ b. b == 61) word)
 part_by None word = Plain word
 
+-- a word by itself: what stands before the first equals sign is the name, and the whole word where there is none
 unfoldable pub part_of : List ℕ → Part
 part_of word = part_by (setting_named (before_first (λ b. b == 61) word)) word
 
+-- a word other than --certs
 abbrev pub piece_by : Option Setting → List ℕ → Piece
 piece_by (Some setting) word = Name setting
 piece_by None word = Whole (part_of word)
 
+-- a word
 unfoldable pub piece : List ℕ → Piece
 piece word = if bytes_eq word (codes "--certs") then Whole Certs else piece_by (setting_named word) word
 
+-- the part that the last word is. A name there has the empty word as its value, which is no number.
 abbrev pub last_part : Piece → Part
 last_part (Name setting) = Value setting []
 last_part (Whole part) = part
 
+-- the part that begins with a word that another follows, before the parts of the words behind both or behind the first
 abbrev pub part_before : Piece → List ℕ → List Part → List Part → List Part
 part_before (Name setting) next behind_next behind = Value setting next ∷ behind_next
 part_before (Whole part) next behind_next behind = part ∷ behind
 
--- A name takes the next word as its value, whatever it is. A name at the end has the empty word for it, which is no number.
+-- the parts of the words: a name takes the next word as its value, whatever it is
 unfoldable pub parts : List (List ℕ) → List Part
 parts [] = []
 parts (word ∷ []) = last_part (piece word) ∷ []
 parts (word ∷ next ∷ words) = part_before (piece word) next (parts words) (parts (next ∷ words))
 
+-- the value that a part gives to an option
 abbrev pub value_for : Setting → Part → Option (List ℕ)
 value_for Budget (Value Budget word) = Some word
 value_for Workers (Value Workers word) = Some word
@@ -99,20 +105,23 @@ value_for Depth (Value Depth word) = Some word
 value_for Entries (Value Entries word) = Some word
 value_for _ _ = None
 
+-- the part is --certs
 abbrev pub is_certs : Part → Bool
 is_certs Certs = true
 is_certs _ = false
 
+-- the word that a part is
 abbrev pub plain_word : Part → Option (List ℕ)
 plain_word (Plain word) = Some word
 plain_word _ = None
 
--- an option stands at most once, and where it does not stand it has its usual number
+-- an option's number, by its values in the words: it stands at most once, and where it does not stand it has its usual number
 abbrev pub chosen : ℕ → Setting → List (List ℕ) → Option ℕ
 chosen usual setting [] = Some usual
 chosen usual setting (word ∷ []) = number (least_of setting) (most_of setting) word
 chosen usual setting (word ∷ more ∷ words) = None
 
+-- the four numbers, where each is one
 abbrev pub bounds : Option ℕ → Option ℕ → Option ℕ → Option ℕ → Option Bounds
 bounds (Some budget) (Some depth) (Some workers) (Some entries) =
     Some (record { budget = budget; depth = depth; workers = workers; entries = entries })
@@ -124,7 +133,7 @@ limits workers cut =
     bounds (chosen 20000 Budget (filter_map (value_for Budget) cut)) (chosen 4 Depth (filter_map (value_for Depth) cut))
     (chosen workers Workers (filter_map (value_for Workers) cut)) (chosen 4096 Entries (filter_map (value_for Entries) cut))
 
--- --certs stands at most once
+-- whether certificates are printed: --certs stands at most once
 abbrev pub asked : List Part → Option Bool
 asked [] = Some false
 asked (part ∷ []) = Some true
@@ -140,10 +149,12 @@ pub record Games : Type 0 where
   pub seed : ℕ
   pub count : ℕ
 
+-- both, where each is one
 abbrev pub games_of : Option ℕ → Option ℕ → Option Games
 games_of (Some seed) (Some count) = Some (record { seed = seed; count = count })
 games_of _ _ = None
 
+-- the two numbers behind gen: the seed has 64 bits
 abbrev pub seed_and_count : List (List ℕ) → Option Games
 seed_and_count (seed ∷ count ∷ []) = games_of (number 0 18446744073709551615 seed) (number 1 1000 count)
 seed_and_count _ = None
@@ -164,6 +175,7 @@ order_by Gen words = let cut = parts words in
 order_by Check [] = Some CheckCert
 order_by Check (word ∷ words) = None
 
+-- the same where the first word may name no command
 abbrev pub order_behind : Option Command → List (List ℕ) → Option Order
 order_behind (Some command) words = order_by command words
 order_behind None words = None

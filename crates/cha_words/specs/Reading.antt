@@ -15,6 +15,7 @@ use Rattle.cha_words.specs.Language.{Part, Games, number, least_of, most_of, val
 use Rattle.cha_words.specs.Language.Part.{Value}
 use Rattle.cha_words.specs.Language.Piece.{Name, Whole}
 
+-- the parts that begin with a word, before the parts behind it, which may begin with the value that it awaits
 abbrev pub with_piece : Piece → (Option Setting → List Part) → List Part
 with_piece (Name setting) behind = behind (Some setting)
 with_piece (Whole part) behind = part ∷ behind None
@@ -49,10 +50,12 @@ abbrev pub IsInRange : ℕ → ℕ → Option ℕ → Type 0
 IsInRange least most (Some n) = (least ≤ n) × (n ≤ most)
 IsInRange least most None = ⊤
 
+-- the number of games lies in its range
 abbrev pub IsCountInRange : Numbers → Type 0
 IsCountInRange (Counted seed count) = (1 ≤ count) × (count ≤ 1000)
 IsCountInRange _ = ⊤
 
+-- all numbers that are given lie in their ranges
 pub record HasRanges (given : Given) : Type 0 where
   pub settings : (setting : Setting) → IsInRange (least_of setting) (most_of setting) (value_in setting given)
   pub count : IsCountInRange given.numbers
@@ -63,6 +66,7 @@ chosen_from None usual setting words = chosen usual setting words
 chosen_from (Some n) usual setting [] = Some n
 chosen_from (Some n) usual setting (word ∷ words) = None
 
+-- what a search may spend, with the options that are still to come
 abbrev pub limits_from : ℕ → Given → List Part → Option Bounds
 limits_from workers given parts =
     bounds (chosen_from given.budget 20000 Budget (filter_map (value_for Budget) parts))
@@ -70,6 +74,7 @@ limits_from workers given parts =
     (chosen_from given.workers workers Workers (filter_map (value_for Workers) parts))
     (chosen_from given.entries 4096 Entries (filter_map (value_for Entries) parts))
 
+-- whether certificates are printed, with the parts --certs that are still to come
 abbrev pub asked_from : Bool → List Part → Option Bool
 asked_from false parts = asked parts
 asked_from true [] = Some true
@@ -81,6 +86,7 @@ plain_from Unsaid words = words
 plain_from (Seeded seed) words = [] ∷ words
 plain_from (Counted seed count) words = [] ∷ words
 
+-- the seed and the number of games, with the words that are still to come
 abbrev pub games_from : Numbers → List (List ℕ) → Option Games
 games_from Unsaid words = seed_and_count words
 games_from (Seeded seed) [] = None

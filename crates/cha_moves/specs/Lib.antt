@@ -4,6 +4,7 @@ pub mod Moves
 pub mod Ends
 pub mod Standings
 pub mod MateLines
+pub mod Lines
 pub mod Texts
 -- what only loops and lemmas use
 pub mod Ways

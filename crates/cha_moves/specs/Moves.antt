@@ -197,3 +197,7 @@ all_moves = flat_map moves_from squares
 -- the legal moves, in that order (Article 3.10.1)
 unfoldable pub legal : Board → List Move
 legal q = filter (is_legal_in q) all_moves
+
+-- a capture or a pawn's move, en passant among them: men stand then as they never did before
+abbrev pub is_zeroing : Board → Move → Bool
+is_zeroing q m = is_man q.side Pawn (man_at q.men m.from) || not (is_empty q.men m.to)

@@ -4,7 +4,7 @@ use Rattle.std.specs.List.{Contains, filter, flat_map, range_with_len}
 use Rattle.std.proofs.lemmas.List.Elements.{All-contains, All-filter, All-contains_itself, Contains-append_cases}
 use Rattle.std.proofs.lemmas.List.FromFn.{get_or-range_with_len, length-range_with_len}
 use Rattle.cha_moves.proofs.Contained.{not_in_nothing, Contains-cons_cases, Contains-cons_here, Contains-cons_there, Contains-map_parts, Contains-map_from, Contains-flat_map_parts}
-use Rattle.helpmate.specs.Lines.{AreDistinct}
+use Rattle.cha_list.specs.Distinct.{AreDistinct}
 
 pub none_apart : (X : Type 0) → AreDistinct {X = X} []
 unfolding AreDistinct

@@ -7,7 +7,9 @@ use Rattle.cha_board.specs.Board.{Board}
 use Rattle.cha_moves.specs.Step.{Move}
 use Rattle.cha_moves.specs.Moves.{after, legal}
 use Rattle.cha_moves.proofs.Contained.{not_in_nothing, Contains-cons_cases, Contains-map_parts}
-use Rattle.helpmate.specs.Lines.{IsLegalLine, AreDistinct, HasLines, AreUnits}
+use Rattle.cha_list.specs.Distinct.{AreDistinct}
+use Rattle.cha_moves.specs.Lines.{IsLegalLine, HasLines}
+use Rattle.helpmate.specs.Lines.{AreUnits}
 use Rattle.helpmate.proofs.Apart.{none_apart, one_more_apart, joined_apart, images_apart}
 use Rattle.helpmate.proofs.LegalApart.{legal_apart}
 

@@ -6,7 +6,8 @@ use Rattle.cha_board.specs.Board.{Board}
 use Rattle.cha_moves.specs.Step.{Move}
 use Rattle.cha_moves.specs.Moves.{legal}
 use Rattle.cha_moves.proofs.Contained.{Contains-cons_here, Contains-cons_there, Contains-map_from}
-use Rattle.helpmate.specs.Lines.{IsLegalLine, HasLines, AreUnits}
+use Rattle.cha_moves.specs.Lines.{IsLegalLine, HasLines}
+use Rattle.helpmate.specs.Lines.{AreUnits}
 use Rattle.helpmate.proofs.Apart.{no_more_than}
 use Rattle.helpmate.proofs.LegalApart.{few_legal}
 

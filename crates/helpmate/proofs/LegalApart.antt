@@ -11,7 +11,7 @@ use Rattle.cha_board.proofs.Scans.{length_squares}
 use Rattle.cha_moves.specs.Step.{Move}
 use Rattle.cha_moves.specs.Moves.{promotions, moves_between, moves_from, all_moves, is_legal_in, legal}
 use Rattle.cha_moves.proofs.Contained.{Contains-map_parts, Contains-flat_map_parts}
-use Rattle.helpmate.specs.Lines.{AreDistinct}
+use Rattle.cha_list.specs.Distinct.{AreDistinct}
 use Rattle.helpmate.proofs.Apart.{apart_by_images, filtered_apart, pieces_apart, numbers_apart}
 
 abbrev number_of : Option Kind → ℕ

@@ -3,4 +3,5 @@ pub mod Reach
 pub mod Closed
 pub mod Threats
 pub mod Static
+pub mod Explored
 pub mod Castling

@@ -15,3 +15,14 @@ unfoldable pub HasLines : Board → ℕ → ℕ → Type 0
 HasLines q d n =
     (lines : List (List Move)) × (length lines ≡ n) × AreDistinct lines
     × ((line : List Move) → Contains lines line → IsLegalLine q line × (length line ≤ d))
+
+-- legal moves, one after another, lead from one position to another
+unfoldable pub LeadTo : Board → List Move → Board → Type 0
+LeadTo q [] r = q ≡ r
+LeadTo q (m ∷ ms) r = Contains (legal q) m × LeadTo (after q m) ms r
+
+-- n distinct positions can be reached by legal moves, the position itself among them
+unfoldable pub HasPositions : Board → ℕ → Type 0
+HasPositions q n =
+    (members : List Board) × (length members ≡ n) × AreDistinct members
+    × ((r : Board) → Contains members r → (ms : List Move) × LeadTo q ms r)

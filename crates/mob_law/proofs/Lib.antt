@@ -19,3 +19,4 @@ pub mod Guards
 pub mod CastlingFollows
 pub mod Growing
 pub mod DoubleSteps
+pub mod Exploring

@@ -19,7 +19,7 @@ pub record ComesFrom (members : List Board) (before : ℕ) (winner : Color) (q :
   pub by : Move
   pub is_legal : Contains (legal origin) by
   pub leads : after origin by ≡ q
-  pub open : IsTrue (is_zeroing origin by) → IsStaticallyUnwinnable q winner → ⊥
+  pub unshown : IsTrue (is_zeroing origin by) → IsStaticallyUnwinnable q winner → ⊥
 
 -- No position of a list is a mate for a side, and no legal move from one of them mates.
 pub record AreMateless (members : List Board) (winner : Color) : Type 0 where
@@ -36,4 +36,4 @@ pub record IsExplored (q : Board) (winner : Color) (count : ℕ) : Type 0 where
   pub first : slice_get members 0 ≡ Some q
   pub later : (i : ℕ) (r : Board) → slice_get members (suc i) ≡ Some r → ComesFrom members (suc i) winner r
   pub mateless : AreMateless members winner
-  pub open : IsStaticallyUnwinnable q winner → ⊥
+  pub unshown : IsStaticallyUnwinnable q winner → ⊥

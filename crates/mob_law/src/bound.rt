@@ -5,10 +5,12 @@ ghost use Rattle.cha_board.specs.declared.men.Color.{Color as Side};
 ghost use Rattle.cha_board.specs.Men.{is_non_king};
 ghost use Rattle.cha_board.specs.Board.{Board, man_at, IsValid};
 ghost use Rattle.cha_moves.specs.Ends.{IsUnwinnable};
+ghost use Rattle.cha_moves.specs.Lines.{HasPositions};
 ghost use Rattle.mob_sets.specs.Mobility.{Sets};
 ghost use Rattle.mob_law.specs.Closed.{IsClosed};
 ghost use Rattle.mob_law.specs.Threats.{HasNoMate};
 ghost use Rattle.mob_law.specs.Static.{IsStaticallyUnwinnable};
+ghost use Rattle.mob_law.specs.Explored.{IsExplored};
 
 /// The law: where some sets are closed for a valid position and have no mate for a side, no series of legal moves from
 /// that position mates for that side.
@@ -22,4 +24,9 @@ pub fn closed_sets_bound()
 pub fn closed_sets_exist()
     ensures closed { (p : Board) → (s : Sets) × IsClosed p s }
     ensures bare_king { (p : Board) (w : Side) → ((u : ℕ) → is_non_king w (man_at p.men u) ≡ false) → IsStaticallyUnwinnable p w }
+{}
+
+/// The law: where so many positions were expanded in an exploration, as many distinct ones can be reached by legal moves.
+pub fn explored_are_reached()
+    ensures { (q : Board) (w : Side) (count : ℕ) → IsExplored q w count → HasPositions q count }
 {}

@@ -7,5 +7,5 @@
 mod bound;
 mod following;
 
-pub use bound::{closed_sets_bound, closed_sets_exist};
+pub use bound::{closed_sets_bound, closed_sets_exist, explored_are_reached};
 pub use following::{castling_follows, double_step_follows};

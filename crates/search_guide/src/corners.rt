@@ -1,0 +1,140 @@
+//! How far a corner is from a mate of the loser's king in it.
+
+ghost use Rattle.std.specs.Prelude.{◌+◌, ◌≤◌};
+
+use crate::army::{Army, color_of};
+use crate::pawns::ranks_to_promotion;
+use crate::reach::steps_to_nearest;
+use cha_board::{Color, Kind, Square, SquareSet, aims_alone, steps_between};
+
+/// What each king's step of the loser's king to the corner counts.
+const LOSERS_STEP: u32 = 2;
+
+/// What each king's step counts that the winner's king is too near to the corner or too far from it.
+const WINNERS_STEP: u32 = 3;
+
+/// How many king's steps from the corner the winner's king and its knights stand well.
+const WELL_PLACED: u8 = 2;
+
+/// What it counts that no man of the loser can stand beside the corner.
+const NO_BLOCKER: u32 = 24;
+
+/// What a pawn counts that has to be promoted first, beside its ranks to promotion.
+const TO_PROMOTE: u32 = 2;
+
+/// The most that a position counts.
+pub const FARTHEST: u32 = 62;
+
+/// The corners in which the winner may mate: all four, but where it has bishops of one colour alone, those of their colour.
+fn corners(own: &Army) -> SquareSet {
+    let all = SquareSet::from_bits(0x8100_0000_0000_0081);
+    match own.bishops_color() {
+        None => all,
+        Some(color) => all.common(color),
+    }
+}
+
+/// How far the winner's knights are from where they stand well, all together.
+fn knights_away(knights: SquareSet, corner: Square) -> u32
+    ensures { result ≤ FARTHEST }
+{
+    let mut away = 0;
+    let mut left = knights;
+    while let Some(knight) = left.first() {
+        let steps = steps_between(knight, corner).saturating_sub(WELL_PLACED);
+        away = FARTHEST.min(away + u32::from(steps));
+        left = left.without(knight);
+    }
+    away
+}
+
+/// The loser's men that can come to a square as they are, where the winner has a lone minor man. Against bishops a rook would
+/// end the check.
+fn blockers(own: &Army, other: &Army, to: Square) -> SquareSet {
+    let men = other.knights.joined(other.bishops.common(color_of(to)));
+    if own.bishops.is_empty() {
+        men.joined(other.rooks)
+    } else {
+        men
+    }
+}
+
+/// How far the loser's pawns are from blocking a square: nothing where one stands there, and else the way to promotion.
+fn pawn_away(other: &Army, to: Square) -> u32
+    ensures { result ≤ NO_BLOCKER }
+{
+    if other.pawns.has(to) {
+        return 0;
+    }
+    match ranks_to_promotion(other.side, other.pawns) {
+        None => NO_BLOCKER,
+        Some(ranks) => TO_PROMOTE + u32::from(ranks),
+    }
+}
+
+/// How far the nearest man of the loser is from blocking a square beside the corner.
+fn blocker_away(own: &Army, other: &Army, to: Square) -> u32
+    ensures { result ≤ NO_BLOCKER }
+{
+    let by_pawn = pawn_away(other, to);
+    match steps_to_nearest(to, blockers(own, other, to)) {
+        None => by_pawn,
+        Some(steps) => by_pawn.min(u32::from(steps)),
+    }
+}
+
+/// How far the loser's men are from blocking one of the two squares beside a corner along its rank and its file.
+fn least_blocker(own: &Army, other: &Army, corner: Square) -> u32
+    ensures { result ≤ NO_BLOCKER }
+{
+    let beside = aims_alone(Color::White, Kind::King, corner).common(aims_alone(
+        Color::White,
+        Kind::Rook,
+        corner,
+    ));
+    let mut least = NO_BLOCKER;
+    let mut left = beside;
+    while let Some(to) = left.first() {
+        least = least.min(blocker_away(own, other, to));
+        left = left.without(to);
+    }
+    least
+}
+
+/// How far the kings are from where they stand in a mate in a corner.
+fn kings_away(own: &Army, other: &Army, corner: Square) -> u32
+    ensures { result ≤ 35 }
+{
+    let losers = u32::from(steps_between(other.king, corner));
+    let winners = u32::from(steps_between(own.king, corner).abs_diff(WELL_PLACED));
+    LOSERS_STEP * losers + WINNERS_STEP * winners
+}
+
+/// How far minor men, where the winner has no others, are from where they stand in a mate in a corner. Where one of them or
+/// bishops of one colour are alone, a man of the loser has to stand beside the corner.
+fn minor_away(own: &Army, other: &Army, corner: Square) -> u32
+    ensures { result ≤ FARTHEST + NO_BLOCKER }
+{
+    if !own.is_minor() {
+        return 0;
+    }
+    let knights = knights_away(own.knights, corner);
+    if own.is_lone() {
+        knights + least_blocker(own, other, corner)
+    } else {
+        knights
+    }
+}
+
+/// How far the loser's king is from a mate in some corner.
+pub fn least_corner(own: &Army, other: &Army) -> u32
+    ensures { result ≤ FARTHEST }
+{
+    let mut least = FARTHEST;
+    let mut left = corners(own);
+    while let Some(corner) = left.first() {
+        least = least.min(kings_away(own, other, corner) + minor_away(own, other, corner));
+        left = left.without(corner);
+    }
+    least
+}

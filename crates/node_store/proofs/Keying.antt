@@ -11,7 +11,7 @@ use Rattle.cha_board.proofs.PackedWords.{words_tell}
 use Rattle.node_store.specs.declared.spot.Spot.{Spot}
 use Rattle.node_store.specs.declared.origin.Place.{Place}
 use Rattle.std.specs.Option.{option_map}
-use Rattle.node_store.specs.Nodes.{leaves, IsAt, IsNew}
+use Rattle.node_store.specs.Nodes.{leaves, origins, IsAt, IsNew}
 use Rattle.node_store.specs.Places.{nodes_of}
 
 -- the key of a position is another key
@@ -81,6 +81,12 @@ pub leaf_entry : (es : List (Spot × Place)) (i : ℕ) (spot : Spot) (place : Pl
 leaf_entry [] i spot place at = cc
 leaf_entry (e ∷ es) zero spot place at = ap (λ (o : Option (Spot × Place)). option_map (λ (x : Spot × Place). x.1.leaf) o) at
 leaf_entry (e ∷ es) (suc i) spot place at = leaf_entry es i spot place at
+
+-- and where it came from
+pub origin_entry : (es : List (Spot × Place)) (i : ℕ) (spot : Spot) (place : Place) → slice_get es i ≡ Some (spot, place) → slice_get (origins (nodes_of es)) i ≡ Some place.origin
+origin_entry [] i spot place at = cc
+origin_entry (e ∷ es) zero spot place at = ap (λ (o : Option (Spot × Place)). option_map (λ (x : Spot × Place). x.1.origin) o) at
+origin_entry (e ∷ es) (suc i) spot place at = origin_entry es i spot place at
 
 -- the equality of keys
 abbrev pub same_spot : Spot → Spot → Bool

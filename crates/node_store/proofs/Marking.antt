@@ -13,7 +13,7 @@ use Rattle.indexmap.specs.IndexMap.{set_value_at}
 use Rattle.std.specs.Map.{values_of}
 use Rattle.std.specs.Option.{option_map}
 
-same_positions : (nodes : List Node) (name : ℕ) → positions (mark nodes name) ≡ positions nodes
+pub same_positions : (nodes : List Node) (name : ℕ) → positions (mark nodes name) ≡ positions nodes
 unfolding mark
 same_positions [] name = refl
 same_positions (n ∷ ns) zero = refl

@@ -17,6 +17,10 @@ positions nodes = map (λ n. n.position) nodes
 abbrev pub leaves : List Node → List Bool
 leaves nodes = map (λ n. n.leaf) nodes
 
+-- where they came from
+abbrev pub origins : List Node → List (Option Origin)
+origins nodes = map (λ n. n.origin) nodes
+
 -- the node of a name has this position
 abbrev pub IsAt : List Node → ℕ → Board → Type 0
 IsAt nodes name q = slice_get (positions nodes) name ≡ Some q

@@ -3,7 +3,7 @@
 ghost use Rattle.std.specs.Prelude.{◌≡◌, ◌+◌, ◌<◌, ◌≤◌, ℕ, [], ◌∷◌, ◌++◌, false, true, None, Some, length, replicate, slice_get, IfSome, IfNone, IfOk, OnOk, OnErr};
 ghost use Rattle.cha_board.specs.Board.{Board};
 ghost use Rattle.node_store.specs.Lists.{list_at, Has, put, first_name, without_first};
-ghost use Rattle.node_store.specs.Nodes.{leaves, mark, IsAt, IsNew, IsPath, IsReached};
+ghost use Rattle.node_store.specs.Nodes.{leaves, origins, mark, IsAt, IsNew, IsReached};
 ghost use Rattle.node_store.specs.Graphs.{IsStore, HasOrigin};
 
 use crate::chains::Chains;
@@ -12,7 +12,7 @@ use crate::spot::Spot;
 use crate::steps::Steps;
 use cha_board::Position;
 use cha_list::NoMemory;
-use cha_moves::{Move, Moves};
+use cha_moves::Move;
 use indexmap::IndexMap;
 use std::alloc::Global;
 use std::marker::Model;
@@ -226,27 +226,13 @@ impl Store {
     /// Where a node came from. `None` for the root alone.
     pub fn origin(&self, name: u32) -> Option<Origin>
         requires { name < length self.now.nodes }
-        ensures { (q : Board) × IsAt self.now.nodes name q × HasOrigin self.now.nodes name q result }
+        ensures value { slice_get (origins self.now.nodes) name ≡ Some result }
+        ensures comes { (q : Board) × IsAt self.now.nodes name q × HasOrigin self.now.nodes name q result }
     {
         match self.nodes.get_index(name as usize) {
             Some((_, place)) => place.origin,
             None => unreachable!(),
         }
-    }
-
-    /// The legal moves, one after another, from the root to a node.
-    pub fn path(&self, alloc: Global, name: u32) -> Result<Moves, NoMemory>
-        requires { name < length self.now.nodes }
-        ensures { IfOk result (λ moves. IsPath self.now.nodes 0 moves name) }
-    {
-        let mut back = Vec::new(alloc);
-        let mut at = name;
-        while let Some(origin) = self.origin(at) {
-            back.push(origin.by)?;
-            at = origin.parent;
-        }
-        back.reverse();
-        Ok(Moves::from_vec(back))
     }
 
     /// What `pop` does, with the steps counted: the front of each list up to the one that has a name, and the name taken.

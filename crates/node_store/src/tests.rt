@@ -78,25 +78,72 @@ fn the_positions_of_two_plies_are_found_again_by_their_lines(rt: HostRuntime) ->
     }
     assert_eq!(rt; store.len(), 421);
     for name in 0..store.len() {
-        let position = store.position(name);
-        assert!(rt; store.find(&position) == Some(name));
         let line = store.path(alloc, name)?;
-        assert!(rt;
-            line.items().len()
-                == if name == 0 {
-                    0
-                } else if name <= 20 {
-                    1
-                } else {
-                    2
-                }
-        );
-        let mut now = start;
-        for by in line.items() {
-            assert!(rt; is_legal(&now, *by));
-            now = after(&now, *by);
+        let plies = if name == 0 {
+            0
+        } else if name <= 20 {
+            1
+        } else {
+            2
+        };
+        assert!(rt; line.items().len() == plies);
+        assert!(rt; is_found_by_its_line(alloc, &store, name)?);
+    }
+    Ok(())
+}
+
+/// Whether a position is found under its name, and the moves of its path lead there from the opening.
+fn is_found_by_its_line(alloc: Global, store: &Store, name: u32) -> Result<bool, Fail> {
+    if name >= store.len() {
+        Err("no node")?;
+    }
+    let position = store.position(name);
+    let mut now = Position::start();
+    for by in store.path(alloc, name)?.items() {
+        if !is_legal(&now, *by) {
+            return Ok(false);
         }
-        assert!(rt; same_position(&now, &position));
+        now = after(&now, *by);
+    }
+    Ok(store.find(&position) == Some(name) && same_position(&now, &position))
+}
+
+/// Walks from the opening by legal moves at random, back to the opening after each 60 plies, until 10,000 positions are
+/// added.
+fn walk(alloc: Global, store: &mut Store) -> Result<(), Fail> {
+    let mut random: u64 = 1;
+    let mut name = 0;
+    for step in 0..40_000u32 {
+        if store.len() > 10_000 {
+            return Ok(());
+        }
+        if step % 60 == 0 || name >= store.len() {
+            name = 0;
+        }
+        if name < store.len() {
+            let moves = legal(alloc, &store.position(name))?;
+            random = random
+                .wrapping_mul(6_364_136_223_846_793_005)
+                .wrapping_add(1_442_695_040_888_963_407);
+            name = if moves.is_empty() {
+                0
+            } else {
+                let chosen = (random >> 33) as usize % moves.len();
+                add(store, name, moves[chosen], Some((step % 64) as u8))?
+            };
+        }
+    }
+    Ok(())
+}
+
+#[test]
+fn the_positions_of_a_walk_are_found_again_by_their_lines(rt: HostRuntime) -> Result<(), Fail> {
+    let alloc = rt.alloc();
+    let mut store = Store::new(alloc, &Position::start())?;
+    walk(alloc, &mut store)?;
+    assert_eq!(rt; store.len(), 10_001);
+    for name in 0..store.len() {
+        assert!(rt; is_found_by_its_line(alloc, &store, name)?);
     }
     Ok(())
 }

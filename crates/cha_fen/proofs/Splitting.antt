@@ -4,10 +4,10 @@ use Rattle.std.proofs.lemmas.List.{take_all}
 use Rattle.std.proofs.lemmas.Bool.{eqb-true}
 use Rattle.std.proofs.lemmas.Bool.Decides.{nat_tests}
 use Rattle.std.specs.List.{prefix_len}
-use Rattle.cha_list.specs.declared.classes.Class.TheVariants.{Blank, NotBlank, NotSlash}
+use Rattle.cha_list.specs.declared.classes.Class.TheVariants.{Blank, NotBlank}
 use Rattle.cha_list.specs.Bytes.{in_class}
 use Rattle.cha_fen.specs.Fields.{fields_after}
-use Rattle.cha_fen.specs.Placement.{rows, onto_first}
+use Rattle.cha_fen.specs.Placement.{in_row, rows, onto_first}
 
 skipped : (n : ℕ) (bs : List ℕ) → fields_after n bs ≡ fields_after 0 (drop n bs)
 unfolding fields_after
@@ -52,29 +52,29 @@ unfolding fields_after
 no_field [] k e small = refl
 no_field (b ∷ bs) k e small = blank_step b bs k (in_class Blank b) e small (λ small'. no_field bs (prefix_len (in_class Blank) bs) refl small')
 
-last_step : (b : ℕ) (bs : List ℕ) (v : Bool) → (if not v then 1 + prefix_len (in_class NotSlash) bs else 0) ≡ length (b ∷ bs)
-    → (prefix_len (in_class NotSlash) bs ≡ length bs → rows bs ≡ bs ∷ [])
+last_step : (b : ℕ) (bs : List ℕ) (v : Bool) → (if not v then 1 + prefix_len in_row bs else 0) ≡ length (b ∷ bs)
+    → (prefix_len in_row bs ≡ length bs → rows bs ≡ bs ∷ [])
     → (if v then [] ∷ rows bs else onto_first b (rows bs)) ≡ (b ∷ bs) ∷ []
 last_step b bs true e ih = absurd (omega arith)
 last_step b bs false e ih = rw (ih (omega arith)) refl
 
-pub last_row : (bs : List ℕ) → prefix_len (in_class NotSlash) bs ≡ length bs → rows bs ≡ bs ∷ []
-unfolding rows in_class
+pub last_row : (bs : List ℕ) → prefix_len in_row bs ≡ length bs → rows bs ≡ bs ∷ []
+unfolding rows
 last_row [] e = refl
 last_row (b ∷ bs) e = last_step b bs (b == 47) e (last_row bs)
 
-first_step : (b : ℕ) (bs : List ℕ) (n : ℕ) (v : Bool) → n ≡ (if not v then 1 + prefix_len (in_class NotSlash) bs else 0) → n < length (b ∷ bs)
-    → ((m : ℕ) → m ≡ prefix_len (in_class NotSlash) bs → m < length bs → rows bs ≡ take m bs ∷ rows (drop (m + 1) bs))
+first_step : (b : ℕ) (bs : List ℕ) (n : ℕ) (v : Bool) → n ≡ (if not v then 1 + prefix_len in_row bs else 0) → n < length (b ∷ bs)
+    → ((m : ℕ) → m ≡ prefix_len in_row bs → m < length bs → rows bs ≡ take m bs ∷ rows (drop (m + 1) bs))
     → (if v then [] ∷ rows bs else onto_first b (rows bs)) ≡ take n (b ∷ bs) ∷ rows (drop (n + 1) (b ∷ bs))
 first_step b bs n true e small ih = rw e refl
 first_step b bs n false e small ih =
-    let m = prefix_len (in_class NotSlash) bs in
+    let m = prefix_len in_row bs in
     let e' : n ≡ suc m = omega arith in
     let f : suc m + 1 ≡ suc (m + 1) = omega arith in
     rw (e', f, ih m refl (omega arith)) refl
 
-pub first_row : (bs : List ℕ) (n : ℕ) → n ≡ prefix_len (in_class NotSlash) bs → n < length bs → rows bs ≡ take n bs ∷ rows (drop (n + 1) bs)
-unfolding rows in_class
+pub first_row : (bs : List ℕ) (n : ℕ) → n ≡ prefix_len in_row bs → n < length bs → rows bs ≡ take n bs ∷ rows (drop (n + 1) bs)
+unfolding rows
 first_row [] n e small = absurd (omega arith)
 first_row (b ∷ bs) n e small = first_step b bs n (b == 47) e small (first_row bs)
 
@@ -92,7 +92,7 @@ some_row [] = omega arith
 some_row (b ∷ bs) = some_step b (rows bs) (b == 47) (some_row bs)
 
 -- as the code cuts it
-pub row_cut : (bs rest : List ℕ) (n : ℕ) → n ≡ prefix_len (in_class NotSlash) bs → n < length bs → rest ≡ take (length bs - (n + 1)) (drop (n + 1) bs) → rows bs ≡ take n bs ∷ rows rest
+pub row_cut : (bs rest : List ℕ) (n : ℕ) → n ≡ prefix_len in_row bs → n < length bs → rest ≡ take (length bs - (n + 1)) (drop (n + 1) bs) → rows bs ≡ take n bs ∷ rows rest
 row_cut bs rest n e small f =
     let g : length (drop (n + 1) bs) ≤ length bs - (n + 1) = omega (arith, length-drop (n + 1) bs) in
     let h : rest ≡ drop (n + 1) bs = f ∙ take_all (length bs - (n + 1)) (drop (n + 1) bs) g in

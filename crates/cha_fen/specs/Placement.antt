@@ -1,8 +1,12 @@
 -- The first field: what stands on the squares (PGN standard, 16.1.3.1).
-use Rattle.std.specs.Prelude.{ℕ, ◌-◌, ◌==◌, if◌then◌else◌, List, [], ◌∷◌, ◌++◌, length, replicate, Option, Some, None}
+use Rattle.std.specs.Prelude.{ℕ, ◌-◌, ◌==◌, Bool, not, if◌then◌else◌, List, [], ◌∷◌, ◌++◌, length, replicate, Option, Some, None}
 use Rattle.cha_list.specs.Bytes.{is_from}
 use Rattle.cha_board.specs.declared.men.Man.{Man}
 use Rattle.cha_board.specs.Letters.{man_of}
+
+-- a byte of a row: any but a slash
+abbrev pub in_row : ℕ → Bool
+in_row b = not (b == 47)
 
 -- a byte in front of the first row
 abbrev pub onto_first : ℕ → List (List ℕ) → List (List ℕ)

@@ -3,12 +3,24 @@
 ghost use Rattle.std.specs.Prelude.{◌≡◌, ◌+◌, ◌*◌, ◌≤◌, ◌++◌, Option, None, length, replicate};
 ghost use Rattle.std.specs.Bool.{OnTrue};
 ghost use Rattle.cha_board.specs.declared.men.Man.{Man};
-ghost use Rattle.cha_fen.specs.Placement.{squares_of, if_size, row_squares, rows, men_of_rows, placement_of};
+ghost use Rattle.cha_fen.specs.Placement.{in_row, squares_of, if_size, row_squares, rows, men_of_rows, placement_of};
 ghost use Rattle.cha_fen.specs.Adding.{Adds, if_room};
 
 use arrayvec::ArrayVec;
 use cha_board::Man;
-use cha_list::{Class, run_of};
+use cha_list::{ByteClass, run_of};
+
+/// Any byte but a slash: a row is a run of these.
+#[derive(Clone, Copy)]
+struct InRow;
+
+impl ByteClass for InRow {
+    ghost has = { λ _. in_row };
+
+    fn is_of(self, byte: u8) -> bool {
+        byte != b'/'
+    }
+}
 
 /// Adds empty squares.
 fn add_empty(count: u8, men: &mut ArrayVec<Option<Man>, 64>)
@@ -73,7 +85,7 @@ fn add_rows(count: u8, bytes: &[u8], men: &mut ArrayVec<Option<Man>, 64>) -> boo
     if count == 0 {
         return false;
     }
-    let end = run_of(Class::NotSlash, bytes);
+    let end = run_of(InRow, bytes);
     if end == bytes.len() {
         if count == 1 {
             return add_row(bytes, men);

@@ -1,7 +1,6 @@
 -- Worked words, computed from the definitions.
 use Rattle.std.proofs.Common.{◌≡◌, ℕ, List, Option, Some, None, refl}
 use Rattle.std.specs.Prelude.{codes}
-use Rattle.cha_list.specs.Bytes.{in_class}
 use Rattle.cha_board.specs.declared.men.Kind.TheVariants.{Pawn, Knight, Queen}
 use Rattle.cha_san.specs.declared.forms.Form.{Form}
 use Rattle.cha_san.specs.declared.forms.Form.TheVariants.{Long, Plain}
@@ -10,7 +9,7 @@ use Rattle.cha_board.specs.Letters.{kind_of}
 use Rattle.cha_san.specs.Forms.{promotion_named, file_named, rank_named, promotion_at, file_at, rank_at, unpromoted, square_at, kind_at, parts, stem, is_short, is_long, unsigned_form, form_of}
 
 said : List ℕ → Option Form
-unfolding unsigned_form stem in_class is_short is_long parts kind_at square_at unpromoted rank_at file_at promotion_at rank_named file_named promotion_named kind_of without before front last
+unfolding unsigned_form stem is_sign is_short is_long parts kind_at square_at unpromoted rank_at file_at promotion_at rank_named file_named promotion_named kind_of without before front last
 said word = form_of word
 
 -- A pawn's move: the target alone (PGN standard, 8.2.3.2).

@@ -3,8 +3,7 @@ use Rattle.std.specs.Prelude.{ℕ, ◌+◌, ◌-◌, ◌*◌, ◌==◌, Bool, �
 use Rattle.std.specs.List.{suffix_len}
 use Rattle.std.specs.Option.{option_map, option_and_then}
 use Rattle.std.specs.Str.{bytes_eq}
-use Rattle.cha_list.specs.declared.classes.Class.TheVariants.{Sign}
-use Rattle.cha_list.specs.Bytes.{in_class, is_from}
+use Rattle.cha_list.specs.Bytes.{is_from}
 use Rattle.cha_board.specs.declared.men.Kind.{Kind}
 use Rattle.cha_board.specs.declared.men.Kind.TheVariants.{Pawn, Knight, Bishop, Rook, Queen}
 use Rattle.cha_board.specs.Letters.{kind_of}
@@ -73,9 +72,13 @@ parts word =
     let to_letter = before (is_some (file_at to_file)) to_file in
     parts_if (kind_at to_letter) (file_at to_file) (rank_at to_rank) (square_at to_target) (promotion_at word)
 
+-- a sign that may stand behind a move: + # ! or ?
+unfoldable pub is_sign : ℕ → Bool
+is_sign b = (b == 43) || (b == 35) || (b == 33) || (b == 63)
+
 -- a word without the signs + # ! ? at its end (PGN standard, 8.2.3.5 and 8.2.3.8), which are not checked (this project)
 unfoldable pub stem : List ℕ → List ℕ
-stem word = take (length word - suffix_len (in_class Sign) word) word
+stem word = take (length word - suffix_len is_sign word) word
 
 -- castling on the king's side: O-O (PGN standard, 8.2.3.3), or 0-0 (this project)
 unfoldable pub is_short : List ℕ → Bool

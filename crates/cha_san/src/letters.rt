@@ -1,9 +1,23 @@
-//! What the letters and digits of a move word mean (PGN standard, 8.2.3.1 to 8.2.3.3).
+//! What the letters, digits and signs of a move word mean (PGN standard, 8.2.3.1 to 8.2.3.8).
 
 ghost use Rattle.std.specs.Prelude.{◌≡◌, ◌<◌, IfSome};
-ghost use Rattle.cha_san.specs.Forms.{promotion_named, file_named, rank_named};
+ghost use Rattle.cha_san.specs.Forms.{is_sign, promotion_named, file_named, rank_named};
 
 use cha_board::Kind;
+use cha_list::ByteClass;
+
+/// The signs that may stand behind a move: `+`, `#`, `!` and `?`.
+#[derive(Clone, Copy)]
+pub struct Sign;
+
+impl ByteClass for Sign {
+    ghost has = { λ _. is_sign };
+
+    #[tactic(auto, unfolding(crate::specs::Forms::is_sign))]
+    fn is_of(self, byte: u8) -> bool {
+        byte == b'+' || byte == b'#' || byte == b'!' || byte == b'?'
+    }
+}
 
 /// What a pawn becomes by a letter.
 #[tactic(auto, unfolding(crate::specs::Forms::promotion_named))]

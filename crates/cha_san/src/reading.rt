@@ -6,9 +6,9 @@ ghost use Rattle.cha_san.specs.Forms.{kind_at, unpromoted, parts as parts_read, 
 
 use crate::backwards::{all_but_last, before, last_byte, without};
 use crate::forms::{Form, Parts};
-use crate::letters::{file_of, promotion_of, rank_of};
+use crate::letters::{Sign, file_of, promotion_of, rank_of};
 use cha_board::{Kind, Square};
-use cha_list::{Class, run_back};
+use cha_list::run_back;
 
 /// The promotion at the end of a word.
 #[tactic(auto, unfolding(crate::specs::Forms::promotion_at))]
@@ -115,7 +115,7 @@ fn parts(word: &[u8]) -> Option<Parts>
 fn without_signs(word: &[u8]) -> &[u8]
     ensures { result.now ≡ stem word.now }
 {
-    let (stem, _signs) = word.split_at(word.len() - run_back(Class::Sign, word));
+    let (stem, _signs) = word.split_at(word.len() - run_back(Sign, word));
     stem
 }
 

@@ -4,8 +4,7 @@ ghost use Rattle.std.specs.Prelude.{◌≡◌, ◌≢◌, ◌+◌, ◌-◌, ◌<
 ghost use Rattle.node_store.specs.Lists.{list_at, Has, AreBelow, put, front_of, take_from};
 ghost use Rattle.node_store.specs.Chained.{AreChained};
 
-use crate::steps::Steps;
-use cha_list::NoMemory;
+use cha_list::{NoMemory, Steps};
 use std::alloc::Global;
 use std::marker::Model;
 use std::sync::ledger::Ledger;

@@ -2,8 +2,9 @@
 
 ghost use Rattle.std.specs.Prelude.{◌≡◌, ◌<◌, ◌≤◌, ◌+◌, [], Some, IfOk, replicate};
 
-use crate::{Chains, Steps, Store};
+use crate::{Chains, Store};
 use cha_board::{Position, Square, same_position};
+use cha_list::Steps;
 use cha_moves::{Move, after, is_legal, legal};
 use std::alloc::Global;
 use std::marker::Brand;

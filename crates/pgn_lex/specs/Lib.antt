@@ -1,4 +1,5 @@
 -- what public contracts say
+pub mod Classes
 pub mod Pieces
 pub mod Tags
 pub mod Tokens

@@ -1,8 +1,10 @@
 -- A tag pair, part by part (PGN standard, 8.1): blanks, a name, blanks, a value in quotes, blanks and a closing bracket.
 use Rattle.std.specs.Prelude.{ℕ, ◌-◌, ◌==◌, Bool, true, false, not, ◌||◌, if◌then◌else◌, List, [], ◌∷◌, length, take, drop, Option, Some, None, nat_lt}
 use Rattle.std.specs.List.{prefix_len}
-use Rattle.cha_list.specs.declared.classes.Class.TheVariants.{Blank, InLine, NameByte}
+use Rattle.cha_list.specs.declared.classes.Class.TheVariants.{Blank, InLine}
 use Rattle.cha_list.specs.Bytes.{in_class}
+use Rattle.pgn_lex.specs.declared.classes.PgnClass.TheVariants.{NameByte}
+use Rattle.pgn_lex.specs.Classes.{in_pgn_class}
 use Rattle.pgn_lex.specs.declared.kinds.Token.TheVariants.{Tag, BadTag}
 use Rattle.pgn_lex.specs.declared.pieces.Piece.{Piece}
 use Rattle.pgn_lex.specs.Pieces.{spoken_piece}
@@ -30,7 +32,7 @@ past_byte wanted (b ∷ bs) = if b == wanted then Some bs else None
 -- a name of one byte or more
 unfoldable pub name_at : List ℕ → Option Read
 name_at bs =
-    let n = prefix_len (in_class NameByte) bs in
+    let n = prefix_len (in_pgn_class NameByte) bs in
     if n == 0 then None else Some (record { text = take n bs; rest = drop n bs })
 
 -- a byte in front of what was read

@@ -1,7 +1,9 @@
 -- The tokens of a text of games.
 use Rattle.std.specs.Prelude.{ℕ, zero, suc, ◌+◌, ◌==◌, Bool, true, false, not, ◌&&◌, if◌then◌else◌, List, [], ◌∷◌, ◌++◌, drop, Option, Some, None}
-use Rattle.cha_list.specs.declared.classes.Class.TheVariants.{InLine, WordByte}
+use Rattle.cha_list.specs.declared.classes.Class.TheVariants.{InLine}
 use Rattle.cha_list.specs.Bytes.{in_class}
+use Rattle.pgn_lex.specs.declared.classes.PgnClass.TheVariants.{WordByte}
+use Rattle.pgn_lex.specs.Classes.{in_pgn_class}
 use Rattle.pgn_lex.specs.declared.kinds.Token.{Token}
 use Rattle.pgn_lex.specs.declared.kinds.Token.TheVariants.{Star, Enter, Leave, Bad}
 use Rattle.pgn_lex.specs.declared.kinds.Placed.{Placed}
@@ -22,7 +24,7 @@ piece first b bs =
     else (if b == 41 then spoken_piece Leave 0
     else (if b == 42 then spoken_piece Star 0
     else (if b == 36 then annotation_piece bs
-    else (if in_class WordByte b then word_piece b bs
+    else (if in_pgn_class WordByte b then word_piece b bs
     else spoken_piece Bad 0)))))))))
 
 -- the token at a place, if there is one

@@ -3,6 +3,7 @@
 ghost use Rattle.std.specs.Prelude.{◌≡◌, ◌≤◌, length};
 ghost use Rattle.pgn_lex.specs.Pieces.{line_piece, comment_piece, annotation_piece};
 
+use crate::classes::PgnClass;
 use crate::kinds::Token;
 use crate::pieces::{Piece, silent, spoken};
 use cha_list::{Class, run_of};
@@ -22,7 +23,7 @@ pub fn comment(rest: &[u8]) -> Piece
     ensures value { result ≡ comment_piece rest.now }
     ensures bound { result.more ≤ length rest.now }
 {
-    let size = run_of(Class::NotBrace, rest);
+    let size = run_of(PgnClass::NotBrace, rest);
     if size == rest.len() {
         return spoken(Token::Unclosed, size);
     }

@@ -6,7 +6,7 @@ ghost use Rattle.pgn_lex.specs.Tokens.{placed, has_mark, tokens};
 
 use crate::kinds::{Placed, Token};
 use crate::rules::piece_at;
-use cha_list::{Class, NoMemory, is_of};
+use cha_list::{ByteClass, Class, NoMemory};
 use std::alloc::Global;
 
 /// Whether the bytes EF BB BF stand at the front.
@@ -49,7 +49,7 @@ pub fn tokens_of(alloc: Global, bytes: &[u8]) -> Result<Vec<Placed>, NoMemory>
         let (_, rest) = bytes.split_at(at + 1);
         let piece = piece_at(alloc, first, bytes[at], rest)?;
         let last = at + piece.more;
-        first = !is_of(Class::InLine, bytes[last]);
+        first = !Class::InLine.is_of(bytes[last]);
         place(piece.token, at as u64, &mut out)?;
         at = last + 1;
     }

@@ -4,12 +4,13 @@ ghost use Rattle.std.specs.Prelude.{◌≡◌, ◌≤◌, IfOk, length};
 ghost use Rattle.pgn_lex.specs.Pieces.{is_white};
 ghost use Rattle.pgn_lex.specs.Tokens.{piece};
 
+use crate::classes::PgnClass;
 use crate::comments::{annotation, comment, rest_of_line};
 use crate::kinds::Token;
 use crate::pieces::{Piece, silent, spoken};
 use crate::tags::tag;
 use crate::words::word;
-use cha_list::{Class, NoMemory, is_of};
+use cha_list::{ByteClass, NoMemory};
 use std::alloc::Global;
 
 /// Whether a byte is white space or a period.
@@ -42,7 +43,7 @@ pub fn piece_at(alloc: Global, first: bool, byte: u8, rest: &[u8]) -> Result<Pie
         b'*' => Ok(spoken(Token::Star, 0)),
         b'$' => Ok(annotation(rest)),
         _ => {
-            if is_of(Class::WordByte, byte) {
+            if PgnClass::WordByte.is_of(byte) {
                 return word(alloc, byte, rest);
             }
             Ok(spoken(Token::Bad, 0))

@@ -4,7 +4,7 @@ ghost use Rattle.std.specs.Prelude.{◌≡◌, ℕ, ◌≤◌, List, [], ◌∷�
 ghost use Rattle.pgn_lex.specs.Tags.{value_after};
 ghost use Rattle.pgn_lex.specs.Values.{Keeps, Steps, ReadsValue};
 
-use cha_list::{Class, NoMemory, Text, is_of};
+use cha_list::{ByteClass, Class, NoMemory, Text};
 use std::alloc::Global;
 
 /// How many bytes of a value are kept.
@@ -53,7 +53,7 @@ fn value_step(byte: u8, escaped: bool, text: &mut Text, cut: &mut bool) -> Resul
             keep(byte, text, cut)?;
             return Ok(Step::On(false));
         }
-        if !is_of(Class::InLine, byte) {
+        if !Class::InLine.is_of(byte) {
             return Ok(Step::Broken);
         }
         keep(b'\\', text, cut)?;
@@ -63,7 +63,7 @@ fn value_step(byte: u8, escaped: bool, text: &mut Text, cut: &mut bool) -> Resul
     if byte == b'"' {
         return Ok(Step::Closed);
     }
-    if !is_of(Class::InLine, byte) {
+    if !Class::InLine.is_of(byte) {
         return Ok(Step::Broken);
     }
     if byte == b'\\' {

@@ -3,6 +3,7 @@
 ghost use Rattle.std.specs.Prelude.{◌≡◌, ◌≤◌, None, Some, IfOk, IfNone, IfSome, length};
 ghost use Rattle.pgn_lex.specs.Tags.{past_blanks, past_byte, name_at, tag_or_line, tag_piece};
 
+use crate::classes::PgnClass;
 use crate::kinds::Token;
 use crate::pieces::{Piece, spoken};
 use crate::tag_values::value_of;
@@ -47,7 +48,7 @@ fn name_of(bytes: &[u8]) -> Option<(&[u8], &[u8])>
     ensures none { IfNone result (name_at bytes.now ≡ None) }
     ensures bound { IfSome result (λ found. length found.1.now ≤ length bytes.now) }
 {
-    let size = run_of(Class::NameByte, bytes);
+    let size = run_of(PgnClass::NameByte, bytes);
     if size == 0 {
         return None;
     }

@@ -1,14 +1,21 @@
-//! Whole runs over sources and sinks in memory, compared with known outputs.
+//! Whole runs over sources and sinks in memory, compared with known outputs, and tests of the prover's crates on positions
+//! that FEN says.
 //!
 //! `running` makes one run. `tables` goes through tables of whole outputs: `positions`, `games`, `printed` and `checks`.
 //! `faults` has sources and sinks that fail. `known` goes through the tables of positions with known verdicts: `walls`,
-//! `walls_men`, `bishops`, `knights`, `pawns` and `ends`; `printed` checks what is printed of them.
+//! `walls_men`, `bishops`, `knights`, `pawns` and `ends`; `printed` checks what is printed of them. `closed_sets` and
+//! `mates_in_reach` put sets, which `written_sets` reads, to the checker; `least_sets` and `static_verdicts` have answers of
+//! the solver, and `certificates` those of the check of certificates.
 #![tactic(auto)]
 
 #[cfg(test)]
 mod bishops;
 #[cfg(test)]
+mod certificates;
+#[cfg(test)]
 mod checks;
+#[cfg(test)]
+mod closed_sets;
 #[cfg(test)]
 mod ends;
 #[cfg(test)]
@@ -20,6 +27,10 @@ mod knights;
 #[cfg(test)]
 mod known;
 #[cfg(test)]
+mod least_sets;
+#[cfg(test)]
+mod mates_in_reach;
+#[cfg(test)]
 mod pawns;
 #[cfg(test)]
 mod positions;
@@ -28,8 +39,12 @@ mod printed;
 #[cfg(test)]
 mod running;
 #[cfg(test)]
+mod static_verdicts;
+#[cfg(test)]
 mod tables;
 #[cfg(test)]
 mod walls;
 #[cfg(test)]
 mod walls_men;
+#[cfg(test)]
+mod written_sets;

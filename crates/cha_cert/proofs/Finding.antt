@@ -16,7 +16,7 @@ use Rattle.cha_board.proofs.PackedWords.{words_tell}
 use Rattle.cha_cert.specs.declared.nodes.Node.{Node}
 use Rattle.cha_cert.specs.declared.nodes.Part.TheVariants.{Inner}
 use Rattle.cha_cert.specs.Certificates.{AllValid, positions_of}
-use Rattle.cha_cert.specs.Places.{packed_of, AreSorted, Shows}
+use Rattle.cha_cert.specs.Indexed.{packed_of, AreSorted, Shows}
 
 -- packed positions are their words
 packed_same : (a b : Packed) → a.words ≡ b.words → a ≡ b

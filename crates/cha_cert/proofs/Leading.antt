@@ -11,7 +11,7 @@ use Rattle.cha_moves.specs.Moves.{after, legal}
 use Rattle.cha_moves.specs.Ends.{IsMated}
 use Rattle.cha_cert.specs.declared.nodes.Node.{Node}
 use Rattle.cha_cert.specs.Certificates.{positions_of, InnerHolds}
-use Rattle.cha_cert.specs.Places.{packed_of, Shows}
+use Rattle.cha_cert.specs.Indexed.{packed_of, Shows}
 
 -- the position after a move is that of some node where the index has it
 pub leads_there : (nodes : List Node) (places : List Packed) (q next : Board) (m : Move) (has : Bool) → Shows nodes places → next ≡ after q m

@@ -1,2 +1,2 @@
 pub mod Certificates
-pub mod Places
+pub mod Indexed

@@ -4,10 +4,10 @@ ghost use Rattle.std.specs.Prelude.{◌≡◌, ◌<◌, ◌≤◌, ◌^◌, ◌�
 ghost use Rattle.cha_moves.specs.Ends.{IsUnwinnable};
 ghost use Rattle.cha_cert.specs.declared.checking.Checked.TheVariants.{Accepted};
 ghost use Rattle.cha_cert.specs.Certificates.{IsValidCert, Answers, InnerHolds, LeafHolds, NodeHolds, FirstFailing};
-ghost use Rattle.cha_cert.specs.Places.{Shows};
+ghost use Rattle.cha_cert.specs.Indexed.{Shows};
 
+use crate::indexing::Index;
 use crate::nodes::{Cert, Node, Part};
-use crate::places::Index;
 use cha_board::{Color, Position, same_position};
 use cha_list::NoMemory;
 use cha_moves::{after, is_mate, legal};

@@ -14,7 +14,7 @@ use Rattle.cha_board.proofs.SetLaws.{has-set_of}
 use Rattle.mob_steps.specs.Grounds.{has_own}
 use Rattle.mob_law.specs.Threats.{KingOn, NonKingOn, HasAtMostOneMan}
 use Rattle.mob_sets.specs.Rows.{Row, SetRows, is_entry, has_entry, sets_of}
-use Rattle.mob_sets.proofs.Order.{same_kind_self, same_kind_tells}
+use Rattle.cha_board.proofs.Identity.{same_kind_self, same_kind_equal}
 use Rattle.mob_sets.proofs.Entries.{entry_parts, entry_from}
 use Rattle.mob_check.specs.declared.groups.Group.{Group}
 use Rattle.mob_check.specs.declared.groups.Group.TheVariants.{KingOf, MenOf, MenAs}
@@ -69,7 +69,7 @@ module _ (p : Board) (r : SetRows) where
   king_gives c u small h =
       let on = row_on p r.rows (KingOf c) u small h in
       let both = and_parts (same_kind on.row.kind King) (is_man c King (man_at p.men on.row.origin)) on.is in
-      record { origin = on.row.origin; stood = both.1; reach = on.entry King (same_kind_tells on.row.kind King both.0); small = small }
+      record { origin = on.row.origin; stood = both.1; reach = on.entry King (same_kind_equal on.row.kind King both.0); small = small }
 
   pub king_from : (c : Color) (u : ℕ) → KingOn p (sets_of r) c u → has_square (reach_of p r.rows (KingOf c)) u ≡ true
   unfolding is_row_of
@@ -82,7 +82,7 @@ module _ (p : Board) (r : SetRows) where
   man_gives c k u small h =
       let on = row_on p r.rows (MenAs c k) u small h in
       let both = and_parts (same_kind on.row.kind k) (is_non_king c (man_at p.men on.row.origin)) on.is in
-      record { origin = on.row.origin; stood = both.1; reach = on.entry k (same_kind_tells on.row.kind k both.0); small = small }
+      record { origin = on.row.origin; stood = both.1; reach = on.entry k (same_kind_equal on.row.kind k both.0); small = small }
 
   pub man_from : (c : Color) (k : Kind) (u : ℕ) → NonKingOn p (sets_of r) c k u → has_square (reach_of p r.rows (MenAs c k)) u ≡ true
   unfolding is_row_of

@@ -5,9 +5,9 @@ ghost use Rattle.mob_law.specs.Threats.{HasNoMate};
 ghost use Rattle.mob_sets.specs.Rows.{sets_of};
 ghost use Rattle.mob_check.specs.Mates.{is_shut, shuts_from, may_shut, mates_with_all, mates_as, mates_from, mates_with_one, may_mate_on, may_mate};
 
+use crate::attacks::{check_as, some_check, struck, struck_from};
 use crate::near::{is_near, squares_near};
 use crate::scene::{Scene, somewhere};
-use crate::strikes::{check_as, some_check, struck, struck_from};
 use cha_board::{Color, Kind, Position, Square, SquareSet};
 use mob_sets::Sets;
 

@@ -15,9 +15,6 @@ use Rattle.mob_solve.specs.Reaching.{sets_in}
 use Rattle.cha_board.specs.Board.{Board}
 use Rattle.cha_board.proofs.Contents.{in_empty}
 
-pub within_self : (s : Sets) → IsWithin s s
-within_self s = record { has = λ o k u h. h; loose = λ o h. h }
-
 pub within_then : (s r t : Sets) → IsWithin s r → IsWithin r t → IsWithin s t
 within_then s r t a b = record { has = λ o k u h. b.has o k u (a.has o k u h); loose = λ o h. b.loose o (a.loose o h) }
 

@@ -9,9 +9,9 @@ ghost use Rattle.mob_law.specs.Closed.{IsClosed};
 ghost use Rattle.mob_solve.specs.Reaching.{sets_in, Grew};
 ghost use Rattle.mob_steps.specs.Rules.{ManRules};
 
+use crate::man_rules::grow_man;
 use crate::reach::Reach;
 use crate::reached::ground_of;
-use crate::rows::grow_man;
 use cha_board::{Position, Square};
 use mob_steps::Ground;
 

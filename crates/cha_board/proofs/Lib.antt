@@ -1,4 +1,5 @@
 pub mod Identity
+pub mod ManTests
 pub mod SetLaws
 pub mod Scans
 pub mod Counting

@@ -1,5 +1,4 @@
-pub mod Pieces
-pub mod Lines
+pub mod Concatenated
+pub mod MateSearch
 pub mod Leaves
-pub mod Examples
 pub mod Both

@@ -22,7 +22,7 @@ fn line_of(first: Move, rest: Moves) -> Result<Moves, NoMemory>
 }
 
 /// The list of no moves, if a side has mated.
-#[tactic(auto, using(crate::proofs::Lines::on_board, crate::proofs::Lines::not_on_board))]
+#[tactic(auto, using(crate::proofs::MateSearch::on_board, crate::proofs::MateSearch::not_on_board))]
 fn mate_on_board(alloc: Global, position: &Position, winner: Color) -> Option<Moves>
     ensures { result ≡ slice_get (mate_lines 0 position.now winner) 0 }
 {
@@ -41,7 +41,7 @@ fn moves_last(position: &Position, winner: Color, plies: u8) -> bool
 }
 
 /// The first list of exactly this many legal moves that mates for a side, in the order of moves, if there is one.
-#[tactic(auto, using(crate::proofs::Lines::search_begins, crate::proofs::Lines::search_goes_on, crate::proofs::Lines::search_ends))]
+#[tactic(auto, using(crate::proofs::MateSearch::search_begins, crate::proofs::MateSearch::search_goes_on, crate::proofs::MateSearch::search_ends))]
 fn first_mate(
     alloc: Global,
     position: &Position,
@@ -68,7 +68,7 @@ fn first_mate(
 
 /// The first of the shortest lists of one move to so many moves that mate for a side, if there is one. The side has not
 /// mated yet.
-#[tactic(auto, using(crate::proofs::Lines::none_below_one))]
+#[tactic(auto, using(crate::proofs::MateSearch::none_below_one))]
 pub fn shortest_mate(
     alloc: Global,
     position: &Position,

@@ -77,9 +77,6 @@ all_faced q left answers screens f none =
 pub way_is_clear : (q : Board) (u : ℕ) → u < 64 → king_of q.men q.side < 64 → has_no_square (way_from q u) ≡ is_clear q.men u (king_of q.men q.side)
 way_is_clear q u small small' = open_is (occupied_by q.men) (king_of q.men q.side) u ∙ clear_turned q.men u (king_of q.men q.side) small small'
 
-abbrev pub less_by : List Bool → ℕ → ℕ → Bool
-less_by left u v = not (v == u) && has_square left v
-
 -- a square that is no longer left is u, or was not left before
 out_before : (left : List Bool) (u v : ℕ) → v < 64 → v ≢ u → has_square (set_without left u) v ≡ false → has_square left v ≡ false
 unfolding set_without

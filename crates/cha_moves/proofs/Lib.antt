@@ -13,6 +13,7 @@ pub mod Arriving
 pub mod Goings
 pub mod Pushes
 pub mod Examples
+mod MateExamples
 pub mod Clearing
 pub mod Shielding
 pub mod Facing

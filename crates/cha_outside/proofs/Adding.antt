@@ -12,9 +12,6 @@ appends_nothing a = Appends-nil a
 pub appends_more : (a b c : Option (List ℕ)) (xs ys : List ℕ) → Appends a b xs → Appends b c ys → Appends a c (xs ++ ys)
 appends_more a b c xs ys first second = Appends-trans a b c xs ys first second
 
-pub appends_keeps : (a b c : Option (List ℕ)) (xs : List ℕ) → Appends a b xs → Keeps b c → Appends a c xs
-appends_keeps a b c xs first second = Appends-kept a b c xs first second
-
 -- the next part of a piece was added, out of what follows the first part
 pub appends_next : (a b c : Option (List ℕ)) (piece : List ℕ) (i n : ℕ) → Appends a b (take i piece)
     → Appends b c (take n (take (length piece - i) (drop i piece))) → Appends a c (take (i + n) piece)

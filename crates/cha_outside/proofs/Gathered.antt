@@ -15,13 +15,6 @@ gathers_more a b c bs cs ds xs first second e =
 pub gathers_and_keeps : (a b c : Option (List ℕ)) (bs cs : List ℕ) → Gathers a b bs cs → Keeps b c → Gathers a c bs cs
 gathers_and_keeps a b c bs cs first second = (first.0, Consumes-kept a b c first.0 first.1 second, first.2)
 
--- where there was nothing before, what is there is what the source gave
-pub gathered : (a b : Option (List ℕ)) (now : List ℕ) → Gathers a b [] now → Consumes a b now
-gathered a b now g = subst (Consumes a b) (sym g.2) g.1
-
-pub gathered_so : (a b : Option (List ℕ)) (now : List ℕ) (P : List ℕ → Type 0) → Gathers a b [] now → P now → Took a b P
-gathered_so a b now P g p = (now, gathered a b now g, p)
-
 -- of a source that is at its end, what is there is all that it had
 pub gathered_whole : (a b : Option (List ℕ)) (now bytes : List ℕ) → Consumes a b now → IsAtEnd b → a ≡ Some bytes → now ≡ bytes
 gathered_whole None b now bytes c end e = cc

@@ -9,6 +9,3 @@ consumes_nothing a = Consumes-nil a
 
 pub consumes_more : (a b c : Option (List ℕ)) (xs ys : List ℕ) → Consumes a b xs → Consumes b c ys → Consumes a c (xs ++ ys)
 consumes_more a b c xs ys first second = Consumes-trans a b c xs ys first second
-
-pub consumes_keeps : (a b c : Option (List ℕ)) (xs : List ℕ) → Consumes a b xs → Keeps b c → Consumes a c xs
-consumes_keeps a b c xs first second = Consumes-kept a b c xs first second

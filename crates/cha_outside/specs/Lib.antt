@@ -1,8 +1,10 @@
-pub mod Adapters
+-- what public contracts say of any source and sink
 pub mod Faults
-pub mod Gathering
-pub mod KeptState
-pub mod PiecesState
 pub mod Reading
-pub mod RepeatState
 pub mod Writing
+pub mod Gathering
+-- what they say of sources and sinks in memory, and of readers and writers of std
+pub mod RepeatState
+pub mod PiecesState
+pub mod KeptState
+pub mod Adapters

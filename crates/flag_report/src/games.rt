@@ -6,9 +6,9 @@ ghost use Rattle.flag_report.specs.Games.{mark_text, cause_text, result_line, ga
 ghost use Rattle.flag_report.specs.Reasons.{IsReason, reason_text};
 ghost use Rattle.cha_verdict.specs.Verdicts.{IsPrintable};
 
-use crate::pieces::{put_count_line, put_findings};
 use crate::reasons::{Unreadable, put_reason};
 use crate::rulings::{Cause, Judgment};
+use crate::shared_texts::{put_count_line, put_findings};
 use cha_board::Position;
 use cha_list::{NoMemory, Text};
 use cha_moves::Standing;

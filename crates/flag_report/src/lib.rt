@@ -1,17 +1,17 @@
 //! What the program prints: the results of games, verdicts, blocks and summaries.
 //!
 //! `rulings` has the result of a game, `status` the state of a position, `reasons` why an
-//! item cannot be read, `pieces` what all blocks share, `games` and `positions` the blocks, `totals` the last line, and
+//! item cannot be read, `shared_texts` what all blocks share, `games` and `positions` the blocks, `totals` the last line, and
 //! `checks` the lines on certificates that were checked. Each call that gives a text takes memory for it, and its only error
 //! is want of memory.
 #![tactic(auto)]
 
 mod checks;
 mod games;
-mod pieces;
 mod positions;
 mod reasons;
 mod rulings;
+mod shared_texts;
 mod status;
 mod totals;
 

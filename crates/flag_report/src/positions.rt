@@ -4,8 +4,8 @@ ghost use Rattle.std.specs.Prelude.{◌≡◌, IfOk};
 ghost use Rattle.flag_report.specs.Blocks.{position_text, refused_text};
 ghost use Rattle.cha_verdict.specs.Verdicts.{IsPrintable};
 
-use crate::pieces::{put_count_line, put_findings};
 use crate::reasons::put_fen_fault;
+use crate::shared_texts::{put_count_line, put_findings};
 use cha_board::Position;
 use cha_fen::FenFault;
 use cha_list::{NoMemory, Text};

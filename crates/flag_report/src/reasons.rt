@@ -3,7 +3,7 @@
 ghost use Rattle.std.specs.Prelude.{◌≡◌, ◌++◌, OnOk, codes, decimal};
 ghost use Rattle.flag_report.specs.Reasons.{fen_fault_text, game_fault_text, word_fault_text, reason_text, IsNotWantOfMemory, IsReason};
 
-use crate::pieces::put_count;
+use crate::shared_texts::put_count;
 use cha_fen::FenFault;
 use cha_list::{NoMemory, Text};
 use cha_san::SanFault;

@@ -3,7 +3,7 @@
 ghost use Rattle.std.specs.Prelude.{◌≡◌, IfOk};
 ghost use Rattle.flag_report.specs.Totals.{game_summary_text, position_summary_text};
 
-use crate::pieces::put_count;
+use crate::shared_texts::put_count;
 use cha_list::{NoMemory, Text};
 use std::alloc::Global;
 

@@ -16,7 +16,7 @@ use Rattle.mob_law.specs.Reach.{is_fixed, is_guarded}
 use Rattle.mob_sets.specs.Mobility.{Sets}
 use Rattle.mob_law.specs.Closed.{Entry, EnemyReaches, Castles, IsClosed}
 use Rattle.mob_law.specs.Castling.{IsClosedButForCastling}
-use Rattle.mob_law.proofs.Men.{not_of_other}
+use Rattle.cha_board.proofs.ManTests.{not_of_other}
 use Rattle.mob_law.proofs.Geometry.{near, king_aims, king_aims_from}
 use Rattle.mob_law.proofs.Standing.{open_near}
 use Rattle.mob_law.proofs.Guards.{Guard, takes_no_pawn, some_guard, goes_there, is_king, own_unguarded, kings_apart}

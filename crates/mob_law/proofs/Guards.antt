@@ -15,7 +15,7 @@ use Rattle.mob_law.specs.Reach.{is_fixed, is_leaper, guards_as, guards_from, is_
 use Rattle.mob_sets.specs.Mobility.{Sets}
 use Rattle.mob_law.specs.Closed.{Entry, EnemyReaches}
 use Rattle.mob_law.specs.Castling.{IsClosedButForCastling}
-use Rattle.mob_law.proofs.Men.{either_color}
+use Rattle.cha_board.proofs.ManTests.{either_color}
 use Rattle.mob_law.proofs.Geometry.{near, king_aims, leap_clear}
 use Rattle.mob_law.proofs.Kings.{king_is_one}
 use Rattle.mob_law.proofs.Standing.{fixed_stands, open_near}

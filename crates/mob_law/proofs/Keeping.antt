@@ -14,7 +14,7 @@ use Rattle.mob_law.specs.Closed.{IsClosed}
 use Rattle.mob_law.proofs.Facts.{Facts, FactsHold}
 use Rattle.mob_law.proofs.Carry.{carried}
 use Rattle.mob_law.proofs.OneMan.{back, Lands, one_moved, one_carries}
-use Rattle.mob_law.proofs.Pieces.{piece_lands}
+use Rattle.mob_law.proofs.PieceMoves.{piece_lands}
 use Rattle.mob_law.proofs.Pawns.{pawn_lands}
 use Rattle.mob_law.proofs.Castles.{short_held, long_held}
 

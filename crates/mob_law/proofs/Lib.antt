@@ -1,5 +1,4 @@
 pub mod Facts
-pub mod Men
 pub mod Geometry
 pub mod Kings
 pub mod Attackers
@@ -9,7 +8,7 @@ pub mod Carry
 pub mod KingSteps
 pub mod Mating
 pub mod OneMan
-pub mod Pieces
+pub mod PieceMoves
 pub mod Pawns
 pub mod Castles
 pub mod Keeping

@@ -20,12 +20,16 @@ use Rattle.mob_law.specs.Reach.{is_fixed, is_open_through}
 use Rattle.mob_sets.specs.Mobility.{Sets}
 use Rattle.mob_law.specs.Threats.{Checks, Covered, Blocked, NextToKing, Attacked, Threat}
 use Rattle.mob_law.proofs.Facts.{Facts, FactsHold}
-use Rattle.mob_law.proofs.Men.{either_color, not_of_other, may_enter_enemy}
+use Rattle.cha_board.proofs.ManTests.{either_color, not_of_other}
 use Rattle.mob_law.proofs.Geometry.{near, king_aims, king_aims_from}
 use Rattle.mob_law.proofs.Standing.{all_weaker, empty_not_fixed, open_from, king_on, non_king_on, origin_is_non_king}
 use Rattle.mob_law.proofs.KingSteps.{king_may, step_plain}
 use Rattle.mob_law.proofs.Attackers.{some_attacker, attacks_by, clear_near}
 use Rattle.mob_law.proofs.Kings.{king_is_one}
+
+-- an enemy that is no king may be captured
+may_enter_enemy : (c : Color) (man : Man) → same_color man.color c ≡ false → same_kind man.kind King ≡ false → may_enter c (Some man) ≡ true
+may_enter_enemy c man enemy other = and_from (not (same_color man.color c)) (not (same_kind man.kind King)) (ap not enemy) (ap not other)
 
 -- where the two kings stand
 abbrev loser_on : Board → Color → ℕ

@@ -21,7 +21,7 @@ use Rattle.mob_law.specs.Closed.{Entry, Enters, PawnCaptures, IsClosed}
 use Rattle.mob_law.proofs.Facts.{Passed, AtFirst, JustNow, Facts}
 use Rattle.mob_law.proofs.Standing.{loose_unfixed, empty_not_fixed, origin_is_non_king, entry_of}
 use Rattle.mob_law.proofs.OneMan.{Lands}
-use Rattle.mob_law.proofs.Pieces.{enemy_there, spared}
+use Rattle.mob_law.proofs.PieceMoves.{enemy_there, spared}
 
 -- what a pawn that enters a square becomes there is in reach there
 pawn_reach : (p : Board) (s : Sets) (o : ℕ) (c : Color) (u t : ℕ) (man new : Man) (b : Option Kind) → Enters p s o c u t → man.kind ≡ Pawn → promotes_well c man.kind t b ≡ true → arriving (Some man) b ≡ Some new → s.has o new.kind t ≡ true

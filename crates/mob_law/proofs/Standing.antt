@@ -17,7 +17,7 @@ use Rattle.mob_law.specs.Threats.{KingOn, NonKingOn}
 use Rattle.cha_moves.proofs.Kept.{Becomes}
 use Rattle.mob_law.proofs.Facts.{Facts}
 use Rattle.cha_board.proofs.Identity.{man_of, is_man_from, on_board}
-use Rattle.mob_law.proofs.Men.{is_non_king_from}
+use Rattle.cha_board.proofs.ManTests.{is_non_king_from}
 
 -- a test that follows from another, over a list
 pub all_weaker : (p q : ℕ → Bool) (xs : List ℕ) → ((x : ℕ) → p x ≡ true → q x ≡ true) → list_all p xs ≡ true → list_all q xs ≡ true

@@ -10,7 +10,8 @@ use Rattle.cha_board.specs.Men.{same_kind}
 use Rattle.cha_board.specs.SquareSets.{has_square}
 use Rattle.mob_sets.specs.Rows.{Row, is_entry, has_entry, place_of, row_place}
 use Rattle.mob_sets.specs.Tidy.{AreTidy, IsThere, IsMissing}
-use Rattle.mob_sets.proofs.Order.{place_tells, same_kind_tells, same_kind_self}
+use Rattle.cha_board.proofs.Identity.{same_kind_equal, same_kind_self}
+use Rattle.mob_sets.proofs.Order.{place_tells}
 
 pub record EntryParts (o : ℕ) (k : Kind) (u : ℕ) (row : Row) : Type 0 where
   pub origin : row.origin ≡ o
@@ -21,7 +22,7 @@ pub entry_parts : (o : ℕ) (k : Kind) (u : ℕ) (row : Row) → is_entry o k u 
 entry_parts o k u row h =
     let a = and_parts ((row.origin == o) && same_kind row.kind k) (has_square row.squares u) h in
     let b = and_parts (row.origin == o) (same_kind row.kind k) a.0 in
-    record { origin = eqb-true row.origin o b.0; kind = same_kind_tells row.kind k b.1; square = a.1 }
+    record { origin = eqb-true row.origin o b.0; kind = same_kind_equal row.kind k b.1; square = a.1 }
 
 pub entry_from : (o : ℕ) (k : Kind) (u : ℕ) (row : Row) → row.origin ≡ o → row.kind ≡ k → has_square row.squares u ≡ true → is_entry o k u row ≡ true
 entry_from o k u row e f g =

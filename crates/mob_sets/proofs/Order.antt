@@ -4,7 +4,6 @@ use Rattle.std.specs.List.Sorted.{IsNonDecreasingBy}
 use Rattle.std.proofs.lemmas.Bool.{cases_eq}
 use Rattle.cha_board.specs.declared.men.Kind.{Kind}
 use Rattle.cha_board.specs.declared.men.Kind.TheVariants.{Pawn, Knight, Bishop, Rook, Queen, King}
-use Rattle.cha_board.specs.Men.{same_kind}
 use Rattle.mob_sets.specs.Rows.{Row, kind_number, place_of, row_place}
 use Rattle.mob_sets.specs.Tidy.{AreTidy}
 
@@ -24,23 +23,6 @@ number_tells Rook Rook e = refl
 number_tells Queen Queen e = refl
 number_tells King King e = refl
 number_tells a b e = absurd (omega (arith, e))
-
-pub same_kind_tells : (a b : Kind) → same_kind a b ≡ true → a ≡ b
-same_kind_tells Pawn Pawn e = refl
-same_kind_tells Knight Knight e = refl
-same_kind_tells Bishop Bishop e = refl
-same_kind_tells Rook Rook e = refl
-same_kind_tells Queen Queen e = refl
-same_kind_tells King King e = refl
-same_kind_tells a b e = cc
-
-pub same_kind_self : (a : Kind) → same_kind a a ≡ true
-same_kind_self Pawn = refl
-same_kind_self Knight = refl
-same_kind_self Bishop = refl
-same_kind_self Rook = refl
-same_kind_self Queen = refl
-same_kind_self King = refl
 
 -- a place tells its origin and its kind
 pub place_tells : (o p : ℕ) (k j : Kind) → place_of o k ≡ place_of p j → (o ≡ p) × (k ≡ j)

@@ -5,8 +5,8 @@ ghost use Rattle.cha_board.specs.SquareSets.{set_of, empty_set};
 ghost use Rattle.mob_sets.specs.Rows.{sets_of, sets_with, sets_joined, sets_loosened};
 ghost use Rattle.mob_sets.specs.Tidy.{AreTidy};
 
-use crate::places::{join, row_of};
 use crate::rows::SetRow;
+use crate::tidy_rows::{join, row_of};
 use cha_board::{Kind, Square, SquareSet};
 use cha_list::NoMemory;
 use std::alloc::Global;

@@ -22,7 +22,7 @@ use Rattle.mob_law.specs.Closed.{has_fixed_enemy, PieceGoes, PawnsStep, Enters, 
 use Rattle.mob_law.specs.Castling.{IsClosedButForCastling}
 use Rattle.mob_law.proofs.DoubleSteps.{step_twice}
 use Rattle.mob_law.proofs.CastlingFollows.{follows}
-use Rattle.mob_law.proofs.Men.{other_kind}
+use Rattle.cha_board.proofs.ManTests.{other_kind, same_color_from}
 use Rattle.mob_law.proofs.Standing.{fixed_stands}
 use Rattle.mob_sets.proofs.KindTests.{any_kind_at}
 use Rattle.mob_steps.specs.Steps.{steps_to, is_stepped_to, stays}
@@ -32,16 +32,10 @@ use Rattle.mob_steps.specs.Rules.{is_barred, piece_goes, pawn_steps, is_capturab
 use Rattle.cha_board.proofs.Contents.{in_single, single_has}
 use Rattle.mob_steps.proofs.GroundAt.{fixed_at, guards_at, reach_at, men_at, target_at}
 use Rattle.mob_steps.proofs.Grounded.{piece_stays}
-use Rattle.mob_steps.proofs.Lines.{is_slider, last_step, last_open}
+use Rattle.mob_steps.proofs.AlongLines.{is_slider, last_step, last_open}
 
 abbrev one : ℕ → List Bool
 one u = set_with empty_set u
-
-same_color_self : (c d : Color) → c ≡ d → same_color c d ≡ true
-same_color_self White White e = refl
-same_color_self Black Black e = refl
-same_color_self White Black e = cc
-same_color_self Black White e = cc
 
 -- behind a target that a pawn aims at stands the pawn that it captures en passant
 stands_behind : (c : Color) (onto : List Bool) (u t : ℕ) → u < 64 → t < 64 → aims_at c Pawn u t ≡ true → has_square onto t ≡ true → (victim_of c t < 64) × (is_ahead (other_color c) onto (victim_of c t) ≡ true)
@@ -224,10 +218,10 @@ module _ (p : Board) (s : Sets) (size : length p.men ≡ 64) (rules : AllRules p
               (and_from (not (has_square g.fixed t)) (has_square (side_in g (other_color man.color)).reach t) (ap not (fixed_at p s t small' ∙ free)) (reach_at p s (other_color man.color) t small' ∙ reached_from man.color t foe)));
           spares = spares Pawn u t reach small small' steps refl;
           en_passant = λ here side. captures_enter u t reach small small' aims (or_right enemy target
-              (target_at p s man.color t small' ∙ and_from (is_target p.target t) (same_color man.color p.side) here (same_color_self man.color p.side side)));
+              (target_at p s man.color t small' ∙ and_from (is_target p.target t) (same_color man.color p.side) here (same_color_from man.color p.side side)));
           victim = λ here side. (
               let v = victim_of man.color t in
-              let own = same_color_self man.color p.side side in
+              let own = same_color_from man.color p.side side in
               let at : target ≡ true = target_at p s man.color t small' ∙ and_from (is_target p.target t) (same_color man.color p.side) here own in
               let onto = passes_on g man.color Pawn (one u) in
               let passes : onto t ≡ true = and_from target (is_stepped_to man.color Pawn (one u) t) at (stepped_one Pawn u t small steps) in

@@ -19,7 +19,7 @@ use Rattle.mob_sets.specs.Mobility.{Sets, IsWithin}
 use Rattle.mob_law.specs.Closed.{has_fixed_enemy, Entry, Enters, IsClosed}
 use Rattle.cha_board.proofs.Contents.{some_square, in_set_of}
 use Rattle.mob_law.proofs.Geometry.{leap_clear}
-use Rattle.mob_law.proofs.Men.{kinds_differ, same_kind_from}
+use Rattle.cha_board.proofs.ManTests.{kinds_differ, same_kind_from}
 use Rattle.mob_law.proofs.Standing.{open_near}
 use Rattle.mob_steps.specs.Steps.{steps_to, is_stepped_to, stays}
 use Rattle.mob_steps.specs.Grounds.{ground_of, side_in}

@@ -3,7 +3,7 @@ pub mod Going
 pub mod Freeing
 pub mod GroundAt
 pub mod Grounds
-pub mod Lines
+pub mod AlongLines
 pub mod Grounded
 pub mod Closing
 pub mod RowRules

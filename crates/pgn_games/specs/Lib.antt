@@ -1,3 +1,4 @@
+-- what public contracts say
 pub mod Cutting
 pub mod Fields
 pub mod Games

@@ -1,7 +1,7 @@
 use Rattle.std.proofs.Common.{◌≡◌, ◌-◌, Some, slice_get, sym, ap, ◌∙◌}
 use Rattle.cha_moves.specs.Moves.{after}
 use Rattle.cha_moves.specs.MateLines.{mate_lines}
-use Rattle.cha_decide.proofs.Lines.{search_finds}
+use Rattle.cha_decide.proofs.MateSearch.{search_finds}
 use Rattle.cha_decide.proofs.searching.+first_mate.Goals as goal
 
 pub returns-in-Some : goal.returns-in-Some

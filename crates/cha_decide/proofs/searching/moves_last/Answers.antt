@@ -1,6 +1,6 @@
 use Rattle.std.proofs.Common.{ap, ◌∙◌}
 use Rattle.cha_board.specs.Men.{same_color}
-use Rattle.cha_decide.proofs.Lines.{last_or_none}
+use Rattle.cha_decide.proofs.MateSearch.{last_or_none}
 use Rattle.cha_decide.proofs.searching.moves_last.Goals as goal
 
 pub returns : goal.returns

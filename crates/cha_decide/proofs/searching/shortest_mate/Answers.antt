@@ -1,7 +1,7 @@
 use Rattle.std.proofs.Common.{◌+◌, sym, ◌∙◌, arith, below_more}
 use Rattle.cha_moves.specs.MateLines.{mate_lines}
-use Rattle.cha_decide.proofs.Pieces.{empty_without_first}
-use Rattle.cha_decide.proofs.Lines.{shortest, none_within}
+use Rattle.cha_decide.proofs.Concatenated.{empty_without_first}
+use Rattle.cha_decide.proofs.MateSearch.{shortest, none_within}
 use Rattle.cha_decide.proofs.searching.shortest_mate.Goals as goal
 
 pub returns-in-Some : goal.returns-in-Some

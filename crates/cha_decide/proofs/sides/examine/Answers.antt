@@ -3,7 +3,7 @@ use Rattle.cha_board.specs.Men.{other_color}
 use Rattle.cha_moves.specs.Step.{Move}
 use Rattle.cha_moves.specs.MateLines.{is_mated}
 use Rattle.cha_verdict.specs.Sound.{IsShortestMate}
-use Rattle.cha_decide.proofs.Lines.{on_board_shortest}
+use Rattle.cha_decide.proofs.MateSearch.{on_board_shortest}
 use Rattle.cha_decide.proofs.sides.examine.Goals as goal
 
 pub returns-then-is_mate-clause-holds : goal.returns-then-is_mate-clause-holds

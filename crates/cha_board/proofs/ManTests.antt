@@ -1,4 +1,4 @@
--- What the tests of men mean, as far as the law needs it.
+-- What follows from the tests of colours and kinds.
 use Rattle.std.proofs.Common.{◌≡◌, ◌≢◌, true, false, not, ◌⊎◌, Option, Some, refl, subst, ap, inl, inr}
 use Rattle.std.proofs.lemmas.Bool.{and_parts, and_from, both_ways, false_from_ne_true}
 use Rattle.cha_board.specs.declared.men.Color.{Color}
@@ -7,8 +7,7 @@ use Rattle.cha_board.specs.declared.men.Kind.{Kind}
 use Rattle.cha_board.specs.declared.men.Kind.TheVariants.{King}
 use Rattle.cha_board.specs.declared.men.Man.{Man}
 use Rattle.cha_board.specs.Men.{other_color, same_color, same_kind, is_man, is_non_king}
-use Rattle.cha_moves.specs.Moves.{may_enter}
-use Rattle.cha_board.proofs.Identity.{one_color, same_kind_equal, same_kind_self}
+use Rattle.cha_board.proofs.Identity.{one_color, same_color_self, same_kind_equal, same_kind_self}
 
 -- a colour is a side's or the other's
 pub either_color : (a c : Color) → (a ≡ c) ⊎ (a ≡ other_color c)
@@ -23,6 +22,22 @@ other_color_of White Black h = refl
 other_color_of Black White h = refl
 other_color_of White White h = cc
 other_color_of Black Black h = cc
+
+pub same_color_from : (a b : Color) → a ≡ b → same_color a b ≡ true
+same_color_from a b e = rw e (same_color_self b)
+
+-- the test of two colours turns over with either of them
+pub flips : (a b : Color) → same_color (other_color a) b ≡ not (same_color a b)
+flips White White = refl
+flips White Black = refl
+flips Black White = refl
+flips Black Black = refl
+
+pub flips_back : (a b : Color) → same_color a (other_color b) ≡ not (same_color a b)
+flips_back White White = refl
+flips_back White Black = refl
+flips_back Black White = refl
+flips_back Black Black = refl
 
 -- a man of c is none of its enemy's
 pub not_of_other : (c : Color) (k : Kind) (o : Option Man) (man : Man) → o ≡ Some man → same_color man.color c ≡ true → is_man (other_color c) k o ≡ true → ⊥
@@ -44,7 +59,3 @@ same_kind_from a b e = rw e (same_kind_self b)
 -- a man of c that is no king
 pub is_non_king_from : (c : Color) (man : Man) → same_color man.color c ≡ true → same_kind man.kind King ≡ false → is_non_king c (Some man) ≡ true
 is_non_king_from c man own other = and_from (same_color man.color c) (not (same_kind man.kind King)) own (ap not other)
-
--- an enemy that is no king may be captured
-pub may_enter_enemy : (c : Color) (man : Man) → same_color man.color c ≡ false → same_kind man.kind King ≡ false → may_enter c (Some man) ≡ true
-may_enter_enemy c man enemy other = and_from (not (same_color man.color c)) (not (same_kind man.kind King)) (ap not enemy) (ap not other)

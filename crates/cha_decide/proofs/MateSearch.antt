@@ -7,13 +7,14 @@ use Rattle.cha_board.specs.declared.men.Color.{Color}
 use Rattle.cha_board.specs.declared.men.Color.TheVariants.{White, Black}
 use Rattle.cha_board.specs.Men.{other_color, same_color}
 use Rattle.cha_board.specs.Board.{Board}
+use Rattle.cha_board.proofs.ManTests.{flips, flips_back}
 use Rattle.cha_moves.specs.Step.{Move}
 use Rattle.cha_moves.specs.Moves.{after, legal}
 use Rattle.cha_moves.specs.Ends.{IsMatingLine, HasNoMateWithin}
 use Rattle.cha_moves.specs.MateLines.{is_mated, mate_lines}
 use Rattle.cha_verdict.specs.Sound.{IsShortestMate}
 use Rattle.cha_moves.proofs.MateLines.{begun, mating_line, line_of_mate}
-use Rattle.cha_decide.proofs.Pieces.{contains_first_of, contains_none, empty_without_first, without_piece, first_in_piece, first_image, no_piece, no_pieces}
+use Rattle.cha_decide.proofs.Concatenated.{contains_first_of, contains_none, empty_without_first, without_piece, first_in_piece, first_image, no_piece, no_pieces}
 
 -- without a list of so many moves no mating line has as many
 pub none_of_length : (n : ℕ) (q : Board) (winner : Color) → mate_lines n q winner ≡ [] → (ms : List Move) → length ms ≡ n → IsMatingLine q winner ms → ⊥
@@ -80,18 +81,6 @@ none_below_one q winner h (suc k) small = absurd (omega arith)
 -- a mate on the board is the shortest
 pub on_board_shortest : (plies : ℕ) (q : Board) (winner : Color) → is_mated q (other_color winner) ≡ true → IsShortestMate q winner plies []
 on_board_shortest plies q winner h = shortest 0 plies q winner [] (omega arith) (λ k small. absurd (omega arith)) (on_board q winner h)
-
-flips : (a b : Color) → same_color (other_color a) b ≡ not (same_color a b)
-flips White White = refl
-flips White Black = refl
-flips Black White = refl
-flips Black Black = refl
-
-flips_back : (a b : Color) → same_color a (other_color b) ≡ not (same_color a b)
-flips_back White White = refl
-flips_back White Black = refl
-flips_back Black White = refl
-flips_back Black Black = refl
 
 pub is_even : ℕ → Bool
 is_even n = n % 2 == 0

@@ -18,7 +18,7 @@ use Rattle.mob_law.specs.Reach.{is_fixed, is_open, is_leaper, guards_as, guards_
 use Rattle.mob_sets.specs.Mobility.{Sets}
 use Rattle.mob_law.specs.Closed.{has_fixed_enemy, IsClosed}
 use Rattle.mob_law.proofs.Facts.{Facts}
-use Rattle.mob_law.proofs.Men.{other_color_of, not_of_other, kinds_differ}
+use Rattle.cha_board.proofs.ManTests.{other_color_of, not_of_other, kinds_differ}
 use Rattle.mob_law.proofs.Geometry.{near, king_aims, aims_at_self, leap_clear}
 use Rattle.mob_law.proofs.Kings.{king_is_one}
 use Rattle.mob_law.proofs.Attackers.{attacks_by, clear_near}

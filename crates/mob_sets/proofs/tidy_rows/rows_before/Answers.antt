@@ -5,8 +5,8 @@ use Rattle.std.proofs.lemmas.List.Sorted.{IsPartitionPoint-from_clause, IsPartit
 use lib.Dec.{ltb}
 use Rattle.mob_sets.specs.Rows.{Row, row_place}
 use Rattle.mob_sets.proofs.Order.{rows_rise}
-use Rattle.mob_sets.proofs.places.rows_before.Goals as goal
-use Rattle.mob_sets.proofs.places.rows_before.Goals.{After-partition_point}
+use Rattle.mob_sets.proofs.tidy_rows.rows_before.Goals as goal
+use Rattle.mob_sets.proofs.tidy_rows.rows_before.Goals.{After-partition_point}
 
 cut : (c : After-partition_point) → IsPartitionPoint (λ y. ltb (row_place y) c.args.place ≡ true) (λ y. ltb (row_place y) c.args.place ≡ false) c.args.rows.now c.partition_point.result
 cut c =

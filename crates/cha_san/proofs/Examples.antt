@@ -6,7 +6,7 @@ use Rattle.cha_san.specs.declared.forms.Form.{Form}
 use Rattle.cha_san.specs.declared.forms.Form.TheVariants.{Long, Plain}
 use Rattle.cha_san.specs.Backwards.{last, front, before, without}
 use Rattle.cha_board.specs.Letters.{kind_of}
-use Rattle.cha_san.specs.Forms.{promotion_named, file_named, rank_named, promotion_at, file_at, rank_at, unpromoted, square_at, kind_at, parts, stem, is_short, is_long, unsigned_form, form_of}
+use Rattle.cha_san.specs.Forms.{promotion_named, file_named, rank_named, promotion_at, file_at, rank_at, unpromoted, square_at, kind_at, parts, is_sign, stem, is_short, is_long, unsigned_form, form_of}
 
 said : List ℕ → Option Form
 unfolding unsigned_form stem is_sign is_short is_long parts kind_at square_at unpromoted rank_at file_at promotion_at rank_named file_named promotion_named kind_of without before front last

@@ -8,7 +8,7 @@ use Rattle.cha_board.specs.Men.{same_kind}
 use Rattle.cha_board.specs.SquareSets.{empty_set, has_square}
 use Rattle.mob_sets.specs.Mobility.{Sets, IsWithin}
 use Rattle.mob_sets.specs.Rows.{has_entry, sets_of, place_of, sets_joined, sets_loosened}
-use Rattle.mob_sets.proofs.Order.{same_kind_tells, same_kind_self}
+use Rattle.cha_board.proofs.Identity.{same_kind_self, same_kind_equal}
 use Rattle.mob_solve.specs.declared.reach.Reach.{Reach}
 use Rattle.mob_solve.specs.Least.{IsLeast}
 use Rattle.mob_solve.specs.Reaching.{sets_in}
@@ -49,7 +49,7 @@ joined_within s new r o k more is given within =
                 let b = and_parts (o == p) (same_kind k j) a.0 in
                 let A : ℕ → Type 0 = λ x. r.has x j v ≡ true in
                 let B : Kind → Type 0 = λ x. r.has o x v ≡ true in
-                subst A (eqb-true o p b.0) (subst B (same_kind_tells k j b.1) (given v a.1)))
+                subst A (eqb-true o p b.0) (subst B (same_kind_equal k j b.1) (given v a.1)))
             | inr before ↦ within.has p j v before
           ]);
       loose = within.loose;

@@ -1,5 +1,5 @@
 -- What the one move of a list tells of the moves that fit a word.
-use Rattle.std.proofs.Common.{◌≡◌, ℕ, ◌≤◌, List, [], ◌∷◌, length, Option, Some, None, Result, Err, IfOk, refl, sym, ◌∙◌, ap, subst, arith}
+use Rattle.std.proofs.Common.{◌≡◌, ℕ, ◌≤◌, List, [], ◌∷◌, length, if◌then◌else◌, is_some, Option, Some, None, Result, Err, IfOk, refl, sym, ◌∙◌, ap, subst, arith}
 use Rattle.std.specs.List.{filter, Contains}
 use Rattle.cha_board.specs.Board.{Board}
 use Rattle.cha_moves.specs.Step.{Move}
@@ -10,12 +10,11 @@ use Rattle.cha_san.specs.declared.faults.SanFault.TheVariants.{NotSan, NoSuchMov
 use Rattle.cha_san.specs.declared.forms.Form.{Form}
 use Rattle.cha_san.specs.Forms.{form_of}
 use Rattle.cha_san.specs.Fitting.{fits}
-use Rattle.cha_san.specs.Resolving.{fitting_form, fitting, only, resolved_form, resolved}
+use Rattle.cha_san.specs.Resolving.{fitting_form, fitting, only, resolved}
 
 -- a word that says nothing
 pub says_nothing : (q : Board) (word : List ℕ) (o : Option Form) → o ≡ form_of word → o ≡ None → Err NotSan ≡ resolved q word
-unfolding resolved_form
-says_nothing q word o is none = ap (resolved_form q) (sym none ∙ is)
+says_nothing q word o is none = sym (ap (λ f. if is_some f then only (fitting q word) else Err NotSan) (sym is ∙ none))
 
 -- how the answer for a word comes to be
 pub record Answers (q : Board) (word : List ℕ) (form : Form) (r : Result Move SanFault) : Type 0 where
@@ -27,8 +26,8 @@ unfolding fitting_form
 fitting_are q word form r h = ap (fitting_form q) h.said
 
 pub answers_resolved : (q : Board) (word : List ℕ) (form : Form) (r : Result Move SanFault) → Answers q word form r → r ≡ resolved q word
-unfolding resolved_form
-answers_resolved q word form r h = h.chosen ∙ sym (ap (resolved_form q) h.said)
+answers_resolved q word form r h =
+    h.chosen ∙ sym (ap only (fitting_are q word form r h)) ∙ sym (ap (λ f. if is_some f then only (fitting q word) else Err NotSan) h.said)
 
 only_none : (ms : List Move) → only ms ≡ Err NoSuchMove → ms ≡ []
 only_none [] e = refl

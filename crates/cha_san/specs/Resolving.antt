@@ -1,5 +1,5 @@
 -- The move that a word names.
-use Rattle.std.specs.Prelude.{ℕ, List, [], ◌∷◌, filter, Option, Some, None, Result, Ok, Err}
+use Rattle.std.specs.Prelude.{ℕ, if◌then◌else◌, List, [], ◌∷◌, filter, Option, Some, None, is_some, Result, Ok, Err}
 use Rattle.cha_board.specs.Board.{Board}
 use Rattle.cha_moves.specs.Step.{Move}
 use Rattle.cha_moves.specs.Moves.{legal}
@@ -24,11 +24,6 @@ only [] = Err NoSuchMove
 only (m ∷ []) = Ok m
 only (m ∷ n ∷ rest) = Err Ambiguous
 
--- the one legal move that fits, or what is wrong
-unfoldable pub resolved_form : Board → Option Form → Result Move SanFault
-resolved_form q None = Err NotSan
-resolved_form q (Some form) = only (filter (fits q form) (legal q))
-
 -- the one legal move that fits a word, or what is wrong with the word (PGN standard, 8.2.3)
 abbrev pub resolved : Board → List ℕ → Result Move SanFault
-resolved q word = resolved_form q (form_of word)
+resolved q word = if is_some (form_of word) then only (fitting q word) else Err NotSan

@@ -17,6 +17,10 @@ use Rattle.adjudicate.specs.Checks.{IsAnswerTo, IsReadAs, IsValidAtFirst}
 use Rattle.adjudicate.specs.Report.{IsReport, HasBegun, HasWholeBlocks}
 use Rattle.adjudicate.specs.Runs.{Grew}
 
+-- nothing is written
+pub nothing_answered : (bytes : List ℕ) (a : Option (List ℕ)) → Grew a a (HasWholeBlocks CheckCert bytes)
+nothing_answered bytes a = ([], appends_nothing a, refl)
+
 -- the line is written whole
 pub answered : (bytes line shown : List ℕ) (old new : Option (List ℕ)) → IsAnswerTo (cert_of bytes) line → shown ≡ line → Appends old new shown → Grew old new (IsReport CheckCert bytes)
 answered bytes line shown old new is same added = (line, subst (Appends old new) same added, is)
@@ -35,3 +39,15 @@ of_text (Err refused) bytes c P e h = tt
 -- a text that is none of a certificate
 pub no_text : (bytes : List ℕ) (fault : CertFault) (P : Certificate → Type 0) → cert_of bytes ≡ Err fault → IsReadAs P bytes → ⊥
 no_text bytes fault P e text = let f = sym text.1 ∙ e in cc
+
+-- a certificate begins at one position
+same_first : (p p' : Board) (nodes : List Node) → BeginsAt p nodes → BeginsAt p' nodes → p' ≡ p
+same_first p p' [] a b = absurd a
+same_first p p' (node ∷ nodes) a b = sym b ∙ a
+
+-- a certificate whose check fails is not valid
+pub not_valid : (p : Board) (c : Certificate) (checked : Checked) (n : ℕ) → BeginsAt p c.cert → ((checked ≡ Accepted) ↔ IsValidCert p c.winner c.cert) → checked ≡ Fails n → IsValidAtFirst c → ⊥
+not_valid p c checked n begins accepted is valid =
+    let same : valid.0 ≡ p = same_first p valid.0 c.cert begins valid.1.begins in
+    let yes : checked ≡ Accepted = accepted.1 (subst (λ q. IsValidCert q c.winner c.cert) same valid.1) in
+    let f = sym yes ∙ is in cc

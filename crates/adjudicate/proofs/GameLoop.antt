@@ -171,6 +171,9 @@ module _ (limits : Bounds) (certs : Bool) (left left' old now : Option (List ℕ
       n : Outside
       n = outside left' f' next g'
 
+pub room_at : (limits : Bounds) (certs : Bool) (left left' old now : Option (List ℕ)) (taken : List ℕ) (given : ℕ) (s : Summary) → IsAt limits certs left left' old now taken given s → given < 2 ^ 63 → HasRoom s
+room_at limits certs left left' old now taken given s at few = room_for_one limits certs (game_items taken) (drop given (game_items taken)) old now s at.written (omega (arith, at.number))
+
 -- a source that has ended has nothing left
 pub at_end : (was now : Bool) (l l' : Option (List ℕ)) → (was ≡ true → IsAtEnd l) → (was ≡ true → l' ≡ l) → (was ≡ false → now ≡ true → IsAtEnd l') → now ≡ true → IsAtEnd l'
 at_end true now l l' before same end h = subst IsAtEnd (sym (same refl)) (before refl)

@@ -119,5 +119,15 @@ cut_summary limits certs summary items old now next s last n w last_is added =
       (os, [], take n last, all, w.2.2, refl, (drop n last, text)),
     )
 
+-- one more item can be counted
+pub room_for_one : (limits : Bounds) (certs : Bool) (all here : List Item) (old now : Option (List ℕ)) (s : Summary) → WroteUpTo limits certs all here old now s → s.items < 2 ^ 63 → HasRoom s
+room_for_one limits certs all here old now s w few =
+    let os = w.2.0 in
+    let number : s.items ≡ length os = ap (λ t. t.items) w.2.4 in
+    let bad : s.bad ≤ length os = rw (ap (λ t. t.bad) w.2.4) (count_by-le-length is_bad os) in
+    let third : s.third ≤ length os = rw (ap (λ t. t.third) w.2.4) (count_by-le-length is_third os) in
+    let undecided : s.undecided ≤ length os = rw (ap (λ t. t.undecided) w.2.4) (count_by-le-length is_open os) in
+    record { few_items = few; few_bad = omega arith; few_third = omega arith; few_undecided = omega arith }
+
 pub one_counted : (limits : Bounds) (certs : Bool) (item : Item) (s : Summary) (judged : Judged) → Judges limits certs item s judged → judged.totals.items ≡ s.items + 1
 one_counted limits certs item s judged j = ap (λ t. t.items) j.3

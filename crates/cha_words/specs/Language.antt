@@ -188,3 +188,10 @@ order_of (word ∷ words) = order_behind (command_named word) words
 -- the same of the texts of the words
 abbrev pub order : List (String Global) → Option Order
 order words = order_of (map string_bytes words)
+
+-- what an order lets a search spend; a check searches nothing
+abbrev pub limits_in : Order → Option Bounds
+limits_in (AdjudicateGames spend certs) = Some spend
+limits_in (JudgePositions spend certs) = Some spend
+limits_in CheckCert = None
+limits_in (GenGames spend seed count) = Some spend

@@ -1,16 +1,22 @@
 //! The language of the words behind the program's name.
 //!
 //! `commands` has the first word, `settings` the options with a number, `numbers` the numbers, `given` what the parts of the
-//! words behind the command give, `reading` the cut into parts, and `orders` what the words order.
+//! words behind the command give, `reading` the cut into parts, `orders` what the words order, and `faults` what is wrong with
+//! words that order nothing.
 #![tactic(auto)]
 
 mod commands;
+mod faults;
 mod given;
 mod numbers;
 mod orders;
+#[cfg(test)]
+mod random_rows;
 mod reading;
 mod settings;
 #[cfg(test)]
 mod tests;
 
+pub use faults::{UsageFault, usage_fault};
 pub use orders::{Order, parse};
+pub use settings::{Setting, least, most};

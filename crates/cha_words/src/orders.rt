@@ -1,7 +1,7 @@
 //! What the words order.
 
 ghost use Rattle.std.specs.Prelude.{◌≡◌, ◌≤◌, [], map, string_bytes, unwrap_or};
-ghost use Rattle.cha_words.specs.Language.{least_of, most_of, order, order_by};
+ghost use Rattle.cha_words.specs.Language.{least_of, most_of, limits_in, order, order_by};
 ghost use Rattle.cha_words.specs.Reading.{HasRanges, limits_from, order_from, value_in};
 ghost use Rattle.cha_words.specs.declared.commands.Command.TheVariants.{Check, Gen};
 
@@ -39,6 +39,20 @@ pub enum Order {
         /// How many games are made, from 1 to 1,000.
         count: u32,
     },
+}
+
+impl Order {
+    /// What a search may spend on a side, where the order needs a search: a check needs none.
+    pub fn limits(&self) -> Option<Limits>
+        ensures { result ≡ limits_in self.now }
+    {
+        match self {
+            Order::AdjudicateGames { limits, .. }
+            | Order::JudgePositions { limits, .. }
+            | Order::GenGames { limits, .. } => Some(*limits),
+            Order::CheckCert => None,
+        }
+    }
 }
 
 /// What the words order, which leave out the program's name, or None where they are not in the language.

@@ -1,12 +1,13 @@
 //! Lists of words, and what each orders.
 
-use crate::{Order, parse};
+use crate::random_rows::{MORE_RANDOM_ROWS, RANDOM_ROWS};
+use crate::{Order, Setting, UsageFault, parse, usage_fault};
 use cha_verdict::Limits;
 use std::alloc::Global;
 use std::test::Fail;
 
 /// What is in no language.
-const NOTHING: &str = "nothing";
+pub const NOTHING: &str = "nothing";
 
 /// Each row is words between single spaces, and then what they order: the command, the positions expanded for a side, the plies
 /// of the rounds, the workers, the rows of each shard, and whether certificates are printed, or the seed and the number of games.
@@ -154,19 +155,92 @@ fn said_of(alloc: Global, order: &Option<Order>) -> Result<String, Fail> {
     Ok(text)
 }
 
+/// The words between single spaces.
+fn words_of(alloc: Global, line: &str) -> Result<Vec<String>, Fail> {
+    let mut words = Vec::new(alloc);
+    for word in line.split(' ') {
+        words.push(String::from_str(alloc, word)?)?;
+    }
+    Ok(words)
+}
+
+/// Whether each row orders what it should.
+fn are_ordered(alloc: Global, rows: &[(&str, &str)]) -> Result<bool, Fail> {
+    let mut all = true;
+    for (line, wanted) in rows {
+        let words = words_of(alloc, line)?;
+        let said = said_of(alloc, &parse(words.as_slice()))?;
+        all = all && said.as_str() == *wanted;
+    }
+    Ok(all)
+}
+
 #[test]
 fn words_order_what_the_language_says(rt: HostRuntime) -> Result<(), Fail> {
     let alloc = rt.alloc();
-    for (line, wanted) in ROWS {
-        let mut words = Vec::new(alloc);
-        for word in line.split(' ') {
-            words.push(String::from_str(alloc, word)?)?;
-        }
-        let said = said_of(alloc, &parse(&words))?;
-        assert_eq!(rt; said.as_str(), *wanted, "{line}");
-    }
+    assert!(rt; are_ordered(alloc, ROWS)?);
     let none = Vec::new(alloc);
     let said = said_of(alloc, &parse(&none))?;
     assert_eq!(rt; said.as_str(), NOTHING);
+    Ok(())
+}
+
+/// Lists of words that order nothing, and the first word at which they leave the language.
+const FAULTS: &[(&str, UsageFault)] = &[
+    ("solve", UsageFault::UnknownCommand),
+    ("check --certs", UsageFault::Unexpected(2)),
+    ("position --", UsageFault::Unexpected(2)),
+    ("position --help", UsageFault::Unexpected(2)),
+    ("position 5", UsageFault::Unexpected(2)),
+    ("adjudicate --certs=yes", UsageFault::Unexpected(2)),
+    ("adjudicate --certs --certs", UsageFault::Twice(3)),
+    ("adjudicate --depth 4 --depth 4", UsageFault::Twice(4)),
+    (
+        "adjudicate --workers 17",
+        UsageFault::OutOfRange(3, Setting::Workers),
+    ),
+    (
+        "adjudicate --budget=0",
+        UsageFault::OutOfRange(2, Setting::Budget),
+    ),
+    (
+        "adjudicate --entries",
+        UsageFault::NoValue(Setting::Entries),
+    ),
+    ("gen", UsageFault::TooFew),
+    ("gen 1", UsageFault::TooFew),
+    ("gen x 1", UsageFault::NoSeed(2)),
+    ("gen 1 0", UsageFault::NoCount(3)),
+    ("gen 1 2 3", UsageFault::Unexpected(4)),
+    ("gen 1 2 --certs", UsageFault::Unexpected(4)),
+];
+
+#[test]
+fn faults_name_the_first_wrong_word(rt: HostRuntime) -> Result<(), Fail> {
+    let alloc = rt.alloc();
+    assert_eq!(rt; usage_fault(&[]), Some(UsageFault::NoCommand));
+    for (line, fault) in FAULTS {
+        let words = words_of(alloc, line)?;
+        assert_eq!(rt; usage_fault(words.as_slice()), Some(*fault));
+    }
+    for (line, ordered) in ROWS {
+        let words = words_of(alloc, line)?;
+        assert_eq!(rt;
+            usage_fault(words.as_slice()).is_none(),
+            *ordered != NOTHING
+        );
+    }
+    Ok(())
+}
+
+#[test]
+fn random_words_order_what_the_language_says(rt: HostRuntime) -> Result<(), Fail> {
+    assert!(rt; are_ordered(rt.alloc(), RANDOM_ROWS)?);
+    Ok(())
+}
+
+#[test]
+fn more_random_words_order_what_the_language_says(rt: HostRuntime) -> Result<(), Fail> {
+    assert!(rt; are_ordered(rt.alloc(), MORE_RANDOM_ROWS)?);
     Ok(())
 }

@@ -28,13 +28,18 @@ fn kings(white: usize, black: usize) -> Option<Position>
         color: Color::Black,
         kind: Kind::King,
     });
+    built(&men)
+}
+
+/// These men with Black to move, where they may stand so.
+fn built(men: &[Option<Man>; 64]) -> Option<Position> {
     let rights = Rights {
         white_king: false,
         white_queen: false,
         black_king: false,
         black_queen: false,
     };
-    match Position::build(&men, Color::Black, rights, None) {
+    match Position::build(men, Color::Black, rights, None) {
         Ok(position) => Some(position),
         Err(_) => None,
     }
@@ -76,63 +81,102 @@ fn known_at<R: Wait>(rt: &R, table: &Table, pass: &mut TablePass, key: &Key) -> 
     known(&mut facts, key)
 }
 
-/// Stores what is known of White's king on a1 and Black's on a square, and whether it is found right after: 1, or 0.
-fn store_one<R: Wait>(rt: &R, table: &Table, pass: &mut TablePass, black: usize) -> usize
+/// White's king, Black's king and a white knight, each on the square that a number below 32,768 gives it, with Black to move,
+/// where they may stand so.
+fn numbered(number: usize) -> Option<Position>
+    requires { number < 32768 }
+{
+    let mut men = [None; 64];
+    men[number / 4096 * 8] = Some(Man {
+        color: Color::White,
+        kind: Kind::Knight,
+    });
+    men[number % 64] = Some(Man {
+        color: Color::White,
+        kind: Kind::King,
+    });
+    men[number / 64 % 64] = Some(Man {
+        color: Color::Black,
+        kind: Kind::King,
+    });
+    built(&men)
+}
+
+/// Stores what is known of a numbered position, and answers whether it stands, and is found right after.
+fn store_one<R: Wait>(rt: &R, table: &Table, pass: &mut TablePass, number: usize) -> Tried
     requires of { IsOfTable table.now pass.old }
-    requires black { black < 64 }
+    requires number { number < 32768 }
     ensures of { IsOfTable table.now pass.new }
     ensures first { StaysFirst pass.old pass.new }
-    ensures few { result ≤ 1 }
+    ensures few { (result.stand ≤ 1) × (result.found ≤ 1) }
 {
-    let Some(position) = kings(0, black) else {
-        return 0;
+    let none = Tried { stand: 0, found: 0 };
+    let Some(position) = numbered(number) else {
+        return none;
     };
     let Some(row) = no_mate(&position, 0) else {
-        return 0;
+        return none;
     };
     let key = row.key();
     table.store(rt, pass, row);
     match known_at(rt, table, pass, &key) {
-        Some(_) => 1,
-        None => 0,
+        Some(_) => Tried { stand: 1, found: 1 },
+        None => Tried { stand: 1, found: 0 },
     }
 }
 
-/// A pass, and how many rows were found with it.
+/// How many positions stand, and how many of them were found.
+#[derive(Clone, Copy, Debug, PartialEq, Eq)]
+struct Tried {
+    stand: usize,
+    found: usize,
+}
+
+/// A pass, and what was found with it.
 #[derive(Drop)]
 struct Finds {
     pass: TablePass,
-    rows: usize,
+    tried: Tried,
 }
 
-/// The same for 32 squares of Black's king.
-fn store_32<R: Wait>(rt: &R, table: &Table, mut pass: TablePass, from: usize) -> Finds
+/// How many numbers each thread tries: of these, more than 10,000 positions stand.
+const EACH: usize = 15_000;
+
+/// The same for all the numbers of a thread.
+fn store_all<R: Wait>(rt: &R, table: &Table, mut pass: TablePass, from: usize) -> Finds
     requires of { IsOfTable table.now pass }
-    requires from { from ≤ 32 }
+    requires from { from ≤ 7500 }
     ensures of { IsOfTable table.now result.pass }
     ensures first { StaysFirst pass result.pass }
 {
-    let mut rows = 0;
-    for black in from..from + 32 {
-        rows += store_one(rt, table, &mut pass, black);
+    let mut tried = Tried { stand: 0, found: 0 };
+    for number in from..from + EACH {
+        let one = store_one(rt, table, &mut pass, number);
+        tried = Tried {
+            stand: tried.stand + one.stand,
+            found: tried.found + one.found,
+        };
     }
-    Finds { pass, rows }
+    Finds { pass, tried }
 }
 
-/// How many of the same are in the shards that are theirs.
-fn count_rows(shards: &mut [Shard]) -> usize
+/// How many positions of both threads stand, and how many of them are in the shards that are theirs.
+fn count_rows(shards: &mut [Shard]) -> Tried
     requires { length shards.old ≡ 8 }
 {
-    let mut rows = 0;
-    for black in 16..64 {
-        if let Some(position) = kings(0, black) {
+    let mut tried = Tried { stand: 0, found: 0 };
+    for number in 0..EACH / 2 * 3 {
+        if let Some(position) = numbered(number)
+            && !is_mate(&position, Color::White)
+        {
+            tried.stand += 1;
             let key = Key::of(&position, Color::White);
             if known(&mut shards[shard_of(&key) as usize], &key).is_some() {
-                rows += 1;
+                tried.found += 1;
             }
         }
     }
-    rows
+    tried
 }
 
 #[test]
@@ -173,17 +217,19 @@ fn a_shard_of_one_row_keeps_the_last_key(rt: HostRuntime) -> Result<(), Fail> {
 
 #[test]
 fn two_threads_fill_a_table(rt: HostRuntime) {
-    let Ok((table, mut first)) = Table::new(rt.alloc(), 64) else {
+    let Ok((table, mut first)) = Table::new(rt.alloc(), 4_096) else {
         panic!(rt; "no memory");
     };
     let second = table.split(&mut first);
     let (one, two) = thread::join(
         &rt,
-        || store_32(&rt, &table, first, 16),
-        || store_32(&rt, &table, second, 32),
+        || store_all(&rt, &table, first, 0),
+        || store_all(&rt, &table, second, EACH / 2),
     );
-    assert_eq!(rt; one.rows, 32);
-    assert_eq!(rt; two.rows, 32);
+    assert!(rt; one.tried.stand >= 10_000);
+    assert_eq!(rt; one.tried.found, one.tried.stand);
+    assert!(rt; two.tried.stand >= 10_000);
+    assert_eq!(rt; two.tried.found, two.tried.stand);
     let Err(still) = table.close(one.pass) else {
         panic!(rt; "closed with a pass out");
     };
@@ -195,7 +241,10 @@ fn two_threads_fill_a_table(rt: HostRuntime) {
     assert_eq!(rt; passes, 2);
     table.join(&mut first, two.pass);
     match table.close(first) {
-        Ok(mut shards) => assert_eq!(rt; count_rows(&mut shards), 48),
+        Ok(mut shards) => {
+            let all = count_rows(&mut shards);
+            assert_eq!(rt; all.found, all.stand);
+        }
         Err(_) => panic!(rt; "a pass is still out"),
     }
 }

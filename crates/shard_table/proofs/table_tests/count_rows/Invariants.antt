@@ -1,5 +1,8 @@
-use Rattle.std.proofs.Common.{◌≤◌, ◌-◌}
+use Rattle.std.proofs.Common.{◌≤◌}
 use Rattle.shard_table.proofs.table_tests.count_rows.Given as goal
 
-abbrev pub invariant-loop-black : goal.invariant-loop-black
-invariant-loop-black l = l.rows ≤ l.black - 16
+abbrev pub invariant-loop-number : goal.invariant-loop-number
+invariant-loop-number l = record {
+  stand : l.tried.stand ≤ l.number;
+  found : l.tried.found ≤ l.number;
+}

@@ -19,7 +19,7 @@ use Rattle.cha_outside.specs.Faults.{Rose}
 use Rattle.cha_outside.specs.declared.gathering.ReadEnd.TheVariants as ends
 use Rattle.adjudicate.specs.declared.orders.Order.{Order}
 use Rattle.adjudicate.specs.declared.orders.Order.TheVariants.{AdjudicateGames}
-use Rattle.adjudicate.specs.Outcomes.{Item, game_item, game_items}
+use Rattle.adjudicate.specs.Outcomes.{Item, item_of, game_item, game_items}
 use Rattle.adjudicate.specs.Report.{HasWholeBlocksOn}
 use Rattle.adjudicate.specs.Runs.{Outside, outside, Grew, BeginsWhole, IsRun}
 use Rattle.adjudicate.specs.Steps.{Judges, HasRoom}
@@ -49,7 +49,7 @@ retake : (limits : Bounds) (certs : Bool) (all all' : List Item) (g : ℕ) (old 
 retake limits certs all all' g old now s number w same =
     let done = w.0 in
     let outcomes = w.2.0 in
-    let size : length done ≡ g = sym (ap length w.2.1) ∙ length-map outcomes (λ o. o.item) ∙ sym (ap (λ t. t.items) w.2.4) ∙ number in
+    let size : length done ≡ g = sym (ap length w.2.1) ∙ length-map outcomes item_of ∙ sym (ap (λ t. t.items) w.2.4) ∙ number in
     let front : take g all ≡ done = ap (take g) w.1 ∙ ap (λ n. take n (done ++ drop g all)) (sym size) ∙ take-append_seam done (drop g all) in
     (done, sym (take-append-drop g all') ∙ ap (λ x. x ++ drop g all') (same ∙ front), w.2)
 

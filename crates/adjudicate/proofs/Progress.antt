@@ -8,7 +8,7 @@ use Rattle.cha_outside.proofs.Adding.{appends_nothing, appends_more}
 use Rattle.cha_verdict.specs.Bounds.{Bounds}
 use Rattle.flag_report.specs.declared.totals.Summary.{Summary}
 use Rattle.adjudicate.specs.declared.judging.Judged.{Judged}
-use Rattle.adjudicate.specs.Outcomes.{Item, Outcome, IsSoundOutcome, AllSound, block_of, block, blocks, summary_of, is_bad, is_third, is_open}
+use Rattle.adjudicate.specs.Outcomes.{Item, Outcome, item_of, IsSoundOutcome, AllSound, block, blocks, summary_of, is_bad, is_third, is_open}
 use Rattle.adjudicate.specs.Report.{IsReportOn, HasBegunOn, HasWholeBlocksOn}
 use Rattle.adjudicate.specs.Runs.{Grew}
 use Rattle.adjudicate.specs.Steps.{one_if, Judges, HasRoom, counted}
@@ -17,7 +17,7 @@ use Rattle.adjudicate.specs.Steps.{one_if, Judges, HasRoom, counted}
 abbrev pub WroteUpTo : Bounds → Bool → List Item → List Item → Option (List ℕ) → Option (List ℕ) → Summary → Type 0
 WroteUpTo limits certs all later old new s =
     (done : List Item) × (all ≡ done ++ later)
-    × ((os : List Outcome) × (map (λ o. o.item) os ≡ done) × AllSound limits os × Appends old new (blocks certs 1 os) × (s ≡ summary_of os))
+    × ((os : List Outcome) × (map item_of os ≡ done) × AllSound limits os × Appends old new (blocks certs 1 os) × (s ≡ summary_of os))
 
 -- one more outcome
 sound_more : (limits : Bounds) (os : List Outcome) (o : Outcome) → AllSound limits os → IsSoundOutcome limits o → AllSound limits (os ++ o ∷ [])
@@ -53,19 +53,19 @@ pub one_more : (limits : Bounds) (certs : Bool) (all here later : List Item) (it
     → Appends now next judged.block → WroteUpTo limits certs all later old next judged.totals
 one_more limits certs all here later item old now next s judged w here_is j added =
     let os = w.2.0 in
-    let o : Outcome = record { item = item; decision = j.0 } in
+    let o : Outcome = j.0 in
     let number : s.items ≡ length os = ap (λ t. t.items) w.2.4 in
-    let text : judged.block ≡ block certs (1 + length os) o = j.2 ∙ ap (λ k. block_of certs k item j.0) (let e : s.items + 1 ≡ 1 + length os = omega arith in e) in
+    let text : judged.block ≡ block certs (1 + length os) o = j.3 ∙ ap (λ k. block certs k o) (let e : s.items + 1 ≡ 1 + length os = omega arith in e) in
     let out : Appends old next (blocks certs 1 os ++ judged.block) = appends_more old now next (blocks certs 1 os) judged.block w.2.3 added in
     let whole : blocks certs 1 os ++ judged.block ≡ blocks certs 1 (os ++ o ∷ []) = ap (λ x. blocks certs 1 os ++ x) text ∙ sym (blocks_more certs 1 os o) in (
       w.0 ++ item ∷ [],
       w.1 ∙ ap (λ x. w.0 ++ x) here_is ∙ sym (append_assoc w.0 (item ∷ []) later),
       (
         os ++ o ∷ [],
-        map-append (λ x. x.item) os (o ∷ []) ∙ ap (λ x. x ++ item ∷ []) w.2.1,
-        sound_more limits os o w.2.2 j.1,
+        map-append item_of os (o ∷ []) ∙ ap (λ x. x ++ item_of o ∷ []) w.2.1 ∙ ap (λ x. w.0 ++ x ∷ []) j.1,
+        sound_more limits os o w.2.2 j.2,
         subst (λ x. Appends old next x) whole out,
-        j.3 ∙ ap (λ t. counted t o) w.2.4 ∙ summary_more os o,
+        j.4 ∙ ap (λ t. counted t o) w.2.4 ∙ summary_more os o,
       ),
     )
 
@@ -75,8 +75,8 @@ pub cut_block : (limits : Bounds) (certs : Bool) (summary : Summary → List ℕ
 cut_block limits certs summary items here later item old now next s judged n w here_is j added =
     let os = w.2.0 in
     let number : s.items ≡ length os = ap (λ t. t.items) w.2.4 in
-    let text : block_of certs (length os + 1) item j.0 ≡ take n judged.block ++ drop n judged.block =
-    ap (λ k. block_of certs (k + 1) item j.0) (sym number) ∙ sym j.2 ∙ sym (take-append-drop n judged.block) in (
+    let text : block certs (length os + 1) j.0 ≡ take n judged.block ++ drop n judged.block =
+    ap (λ k. block certs (k + 1) j.0) (sym number) ∙ sym j.3 ∙ sym (take-append-drop n judged.block) in (
       blocks certs 1 os ++ take n judged.block,
       appends_more old now next (blocks certs 1 os) (take n judged.block) w.2.3 added,
       (
@@ -86,7 +86,7 @@ cut_block limits certs summary items here later item old now next s judged n w h
         w.1 ∙ ap (λ x. w.0 ++ x) here_is ∙ ap (λ x. x ++ item ∷ later) (sym w.2.1),
         w.2.2,
         refl,
-        (j.0, j.1, (drop n judged.block, text)),
+        (j.0, j.1, j.2, (drop n judged.block, text)),
       ),
     )
 
@@ -101,7 +101,7 @@ pub finished : (limits : Bounds) (certs : Bool) (summary : Summary → List ℕ)
     → Appends now next last → Grew old next (IsReportOn limits certs summary items)
 finished limits certs summary items old now next s last w last_is added =
     let os = w.2.0 in
-    let all : map (λ o. o.item) os ≡ items = w.2.1 ∙ sym (w.1 ∙ append-nil w.0) in (
+    let all : map item_of os ≡ items = w.2.1 ∙ sym (w.1 ∙ append-nil w.0) in (
       blocks certs 1 os ++ last,
       appends_more old now next (blocks certs 1 os) last w.2.3 added,
       (os, all, w.2.2, ap (λ x. blocks certs 1 os ++ x) (last_is ∙ ap summary w.2.4)),
@@ -112,7 +112,7 @@ pub cut_summary : (limits : Bounds) (certs : Bool) (summary : Summary → List �
     → Appends now next (take n last) → Grew old next (HasBegunOn limits certs summary items)
 cut_summary limits certs summary items old now next s last n w last_is added =
     let os = w.2.0 in
-    let all : items ≡ map (λ o. o.item) os ++ [] = w.1 ∙ ap (λ x. x ++ []) (sym w.2.1) in
+    let all : items ≡ map item_of os ++ [] = w.1 ∙ ap (λ x. x ++ []) (sym w.2.1) in
     let text : summary (summary_of os) ≡ take n last ++ drop n last = sym (last_is ∙ ap summary w.2.4) ∙ sym (take-append-drop n last) in (
       blocks certs 1 os ++ take n last,
       appends_more old now next (blocks certs 1 os) (take n last) w.2.3 added,
@@ -130,4 +130,4 @@ room_for_one limits certs all here old now s w few =
     record { few_items = few; few_bad = omega arith; few_third = omega arith; few_undecided = omega arith }
 
 pub one_counted : (limits : Bounds) (certs : Bool) (item : Item) (s : Summary) (judged : Judged) → Judges limits certs item s judged → judged.totals.items ≡ s.items + 1
-one_counted limits certs item s judged j = ap (λ t. t.items) j.3
+one_counted limits certs item s judged j = ap (λ t. t.items) j.4

@@ -81,24 +81,26 @@ game_item game = item_unless game.fault game
 abbrev pub game_items : List ℕ → List Item
 game_items bytes = map game_item (games bytes)
 
--- an item, and the verdicts on its position if it has one
-pub record Outcome : Type 0 where
-  pub item : Item
-  pub decision : Option Decision
+-- what is found about an item: the verdicts on a position, or on the final position of a game, or nothing
+pub data Outcome : Type 0 where
+  JudgedPosition : Board → Decision → Outcome
+  Refused : FenFault → Outcome
+  JudgedGame : Board → ResultMark → Bool → Decision → Outcome
+  GivenUp : Unreadable → Outcome
 
--- The verdicts are true of the item's position, and there are none where it has no position.
-abbrev pub IsSoundFor : Bounds → Item → Option Decision → Type 0
-IsSoundFor limits (PositionLine q) (Some d) = IsSound q White limits d
-IsSoundFor limits (PositionLine q) None = ⊥
-IsSoundFor limits (RefusedLine fault) (Some d) = ⊥
-IsSoundFor limits (RefusedLine fault) None = ⊤
-IsSoundFor limits (PlayedGame q recorded forfeit) (Some d) = IsSound q (first_of recorded) limits d
-IsSoundFor limits (PlayedGame q recorded forfeit) None = ⊥
-IsSoundFor limits (UnreadableGame why) (Some d) = ⊥
-IsSoundFor limits (UnreadableGame why) None = ⊤
+-- the item that an outcome is of
+unfoldable pub item_of : Outcome → Item
+item_of (JudgedPosition q d) = PositionLine q
+item_of (Refused fault) = RefusedLine fault
+item_of (JudgedGame q recorded forfeit d) = PlayedGame q recorded forfeit
+item_of (GivenUp why) = UnreadableGame why
 
-abbrev pub IsSoundOutcome : Bounds → Outcome → Type 0
-IsSoundOutcome limits o = IsSoundFor limits o.item o.decision
+-- the verdicts are true of the position
+unfoldable pub IsSoundOutcome : Bounds → Outcome → Type 0
+IsSoundOutcome limits (JudgedPosition q d) = IsSound q White limits d
+IsSoundOutcome limits (Refused fault) = ⊤
+IsSoundOutcome limits (JudgedGame q recorded forfeit d) = IsSound q (first_of recorded) limits d
+IsSoundOutcome limits (GivenUp why) = ⊤
 
 -- each outcome is sound
 abbrev pub AllSound : Bounds → List Outcome → Type 0
@@ -109,17 +111,12 @@ AllSound limits (o ∷ os) = IsSoundOutcome limits o × AllSound limits os
 abbrev pub judgment_of : Board → ResultMark → Bool → Decision → Judgment
 judgment_of q recorded forfeit d = ruling_of (standing_of q) recorded forfeit d.white d.black
 
--- the block of an item under a number, with or without certificates
-unfoldable pub block_of : Bool → ℕ → Item → Option Decision → List ℕ
-block_of certs number (PositionLine q) (Some d) = position_text number q (standing_of q) d.white d.black certs
-block_of certs number (PositionLine q) None = []
-block_of certs number (RefusedLine fault) d = refused_text number fault
-block_of certs number (PlayedGame q recorded forfeit) (Some d) = game_text number q (standing_of q) recorded d.white d.black (judgment_of q recorded forfeit d) certs
-block_of certs number (PlayedGame q recorded forfeit) None = []
-block_of certs number (UnreadableGame why) d = unreadable_text number why
-
-abbrev pub block : Bool → ℕ → Outcome → List ℕ
-block certs number o = block_of certs number o.item o.decision
+-- the block of an outcome under a number, with or without certificates
+unfoldable pub block : Bool → ℕ → Outcome → List ℕ
+block certs number (JudgedPosition q d) = position_text number q (standing_of q) d.white d.black certs
+block certs number (Refused fault) = refused_text number fault
+block certs number (JudgedGame q recorded forfeit d) = game_text number q (standing_of q) recorded d.white d.black (judgment_of q recorded forfeit d) certs
+block certs number (GivenUp why) = unreadable_text number why
 
 -- the blocks of outcomes, numbered from here on
 unfoldable pub blocks : Bool → ℕ → List Outcome → List ℕ
@@ -127,35 +124,28 @@ blocks certs number [] = []
 blocks certs number (o ∷ os) = block certs number o ++ blocks certs (number + 1) os
 
 -- an item that is refused or unreadable
-abbrev pub is_bad_item : Item → Bool
-is_bad_item (PositionLine q) = false
-is_bad_item (RefusedLine fault) = true
-is_bad_item (PlayedGame q recorded forfeit) = false
-is_bad_item (UnreadableGame why) = true
+unfoldable pub is_bad : Outcome → Bool
+is_bad (JudgedPosition q d) = false
+is_bad (Refused fault) = true
+is_bad (JudgedGame q recorded forfeit d) = false
+is_bad (GivenUp why) = true
 
 -- a position whose state is dead, or a game whose result changes
-abbrev pub is_third_item : Item → Option Decision → Bool
-is_third_item (PositionLine q) (Some d) = has_dead_status (standing_of q) d.white d.black
-is_third_item (PositionLine q) None = false
-is_third_item (RefusedLine fault) d = false
-is_third_item (PlayedGame q recorded forfeit) (Some d) = is_changed recorded (judgment_of q recorded forfeit d).mark
-is_third_item (PlayedGame q recorded forfeit) None = false
-is_third_item (UnreadableGame why) d = false
+unfoldable pub is_third : Outcome → Bool
+is_third (JudgedPosition q d) = has_dead_status (standing_of q) d.white d.black
+is_third (Refused fault) = false
+is_third (JudgedGame q recorded forfeit d) = is_changed recorded (judgment_of q recorded forfeit d).mark
+is_third (GivenUp why) = false
 
 -- a side of which nothing was shown
-abbrev pub has_open_side : Option Decision → Bool
-has_open_side None = false
-has_open_side (Some d) = is_undecided d.white || is_undecided d.black
-
--- the same of outcomes
-unfoldable pub is_bad : Outcome → Bool
-is_bad o = is_bad_item o.item
-
-unfoldable pub is_third : Outcome → Bool
-is_third o = is_third_item o.item o.decision
+abbrev pub has_open_side : Decision → Bool
+has_open_side d = is_undecided d.white || is_undecided d.black
 
 unfoldable pub is_open : Outcome → Bool
-is_open o = has_open_side o.decision
+is_open (JudgedPosition q d) = has_open_side d
+is_open (Refused fault) = false
+is_open (JudgedGame q recorded forfeit d) = has_open_side d
+is_open (GivenUp why) = false
 
 -- what is counted over outcomes
 abbrev pub summary_of : List Outcome → Summary

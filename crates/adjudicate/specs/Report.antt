@@ -2,18 +2,17 @@
 use Rattle.std.specs.Prelude.{◌≡◌, ℕ, ◌+◌, Bool, List, [], ◌∷◌, ◌++◌, length, map, Option}
 use Rattle.flag_report.specs.declared.totals.Summary.{Summary}
 use Rattle.flag_report.specs.Totals.{game_summary_text, position_summary_text}
-use Rattle.cha_verdict.specs.declared.decisions.Decision.{Decision}
 use Rattle.cha_verdict.specs.Bounds.{Bounds}
 use Rattle.cert_text.specs.Texts.{cert_of}
 use Rattle.adjudicate.specs.declared.orders.Order.{Order}
 use Rattle.adjudicate.specs.declared.orders.Order.TheVariants.{AdjudicateGames, JudgePositions, CheckCert}
-use Rattle.adjudicate.specs.Outcomes.{Item, Outcome, IsSoundFor, AllSound, block_of, blocks, summary_of, game_items, position_items}
+use Rattle.adjudicate.specs.Outcomes.{Item, Outcome, item_of, IsSoundOutcome, AllSound, block, blocks, summary_of, game_items, position_items}
 use Rattle.adjudicate.specs.Checks.{IsAnswerTo}
 
 -- there is one sound outcome for each item, in order, and the output is their blocks, numbered from 1, and their summary
 abbrev pub IsReportOn : Bounds → Bool → (Summary → List ℕ) → List Item → List ℕ → Type 0
 IsReportOn limits certs summary items out =
-    (os : List Outcome) × (map (λ o. o.item) os ≡ items) × AllSound limits os × (out ≡ blocks certs 1 os ++ summary (summary_of os))
+    (os : List Outcome) × (map item_of os ≡ items) × AllSound limits os × (out ≡ blocks certs 1 os ++ summary (summary_of os))
 
 -- what an order has written for an input: of games and positions a report, of a certificate the answer of its check
 abbrev pub IsReport : Order → List ℕ → List ℕ → Type 0
@@ -29,13 +28,13 @@ IsFront front whole = (rest : List ℕ) × (whole ≡ front ++ rest)
 abbrev pub IsPart : Bounds → Bool → (Summary → List ℕ) → List Outcome → List Item → List ℕ → Type 0
 IsPart limits certs summary os [] part = IsFront part (summary (summary_of os))
 IsPart limits certs summary os (item ∷ later) part =
-    (d : Option Decision) × IsSoundFor limits item d × IsFront part (block_of certs (length os + 1) item d)
+    (o : Outcome) × (item_of o ≡ item) × IsSoundOutcome limits o × IsFront part (block certs (length os + 1) o)
 
 -- the output is the blocks of sound outcomes of the first items, and a part of what comes next
 abbrev pub HasBegunOn : Bounds → Bool → (Summary → List ℕ) → List Item → List ℕ → Type 0
 HasBegunOn limits certs summary items out =
     (os : List Outcome) × (later : List Item) × (part : List ℕ)
-    × (items ≡ map (λ o. o.item) os ++ later) × AllSound limits os × (out ≡ blocks certs 1 os ++ part) × IsPart limits certs summary os later part
+    × (items ≡ map item_of os ++ later) × AllSound limits os × (out ≡ blocks certs 1 os ++ part) × IsPart limits certs summary os later part
 
 -- the output is the front of what an order has written
 abbrev pub HasBegun : Order → List ℕ → List ℕ → Type 0
@@ -46,7 +45,7 @@ HasBegun CheckCert bytes out = (whole : List ℕ) × IsAnswerTo (cert_of bytes) 
 -- the output is the blocks of sound outcomes of the first items
 abbrev pub HasWholeBlocksOn : Bounds → Bool → List Item → List ℕ → Type 0
 HasWholeBlocksOn limits certs items out =
-    (os : List Outcome) × (later : List Item) × (items ≡ map (λ o. o.item) os ++ later) × AllSound limits os × (out ≡ blocks certs 1 os)
+    (os : List Outcome) × (later : List Item) × (items ≡ map item_of os ++ later) × AllSound limits os × (out ≡ blocks certs 1 os)
 
 -- the output is whole blocks of what an order has written; of the answer on a certificate nothing is
 abbrev pub HasWholeBlocks : Order → List ℕ → List ℕ → Type 0

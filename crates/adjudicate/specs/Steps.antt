@@ -2,7 +2,6 @@
 use Rattle.std.specs.Prelude.{◌≡◌, ◌≢◌, ℕ, ◌+◌, ◌^◌, ◌<◌, ◌≤◌, Bool, if◌then◌else◌, List, Option}
 use Rattle.cha_outside.specs.Faults.{Rose}
 use Rattle.flag_report.specs.declared.totals.Summary.{Summary}
-use Rattle.cha_verdict.specs.declared.decisions.Decision.{Decision}
 use Rattle.cha_verdict.specs.Bounds.{Bounds}
 use Rattle.adjudicate.specs.declared.judging.Judged.{Judged}
 use Rattle.adjudicate.specs.declared.orders.Order.{Order}
@@ -11,7 +10,7 @@ use Rattle.adjudicate.specs.declared.endings.Status.TheVariants.{Done, Usage, Re
 use Rattle.adjudicate.specs.Checks.{IsAccepted}
 use Rattle.adjudicate.specs.Report.{IsReport, HasBegun, HasWholeBlocks}
 use Rattle.adjudicate.specs.Runs.{Grew}
-use Rattle.adjudicate.specs.Outcomes.{Item, Outcome, IsSoundFor, block_of, is_bad, is_third, is_open}
+use Rattle.adjudicate.specs.Outcomes.{Item, Outcome, item_of, IsSoundOutcome, block, is_bad, is_third, is_open}
 
 abbrev pub one_if : Bool → ℕ
 one_if b = if b then 1 else 0
@@ -39,7 +38,7 @@ pub record HasRoom (s : Summary) : Type 0 where
 -- the block of an item with sound verdicts, under the next number, and the totals with it
 abbrev pub Judges : Bounds → Bool → Item → Summary → Judged → Type 0
 Judges limits certs item s judged =
-    (d : Option Decision) × IsSoundFor limits item d × (judged.block ≡ block_of certs (s.items + 1) item d) × (judged.totals ≡ counted s (record { item = item; decision = d }))
+    (o : Outcome) × (item_of o ≡ item) × IsSoundOutcome limits o × (judged.block ≡ block certs (s.items + 1) o) × (judged.totals ≡ counted s o)
 
 -- how the writing of the answer on a certificate ended, where all of it was written
 abbrev pub ended_by : Bool → Status

@@ -53,7 +53,7 @@ pub fn adjudicate_games<S: Source, K: Sink>(
 fn end_games<K: Sink>(alloc: Global, totals: &Summary, sink: &mut K) -> Status
     ensures whole { result ≡ Status.Done → Appends (K.written sink.old) (K.written sink.new) (game_summary_text totals.now) }
     ensures cut { result ≡ Status.WriteFault → (n : ℕ) × Appends (K.written sink.old) (K.written sink.new) (take n (game_summary_text totals.now)) }
-    ensures refused { result ≡ Status.NoMemory → (K.written sink.new ≡ K.written sink.old) }
+    ensures no_memory { result ≡ Status.NoMemory → (K.written sink.new ≡ K.written sink.old) }
     ensures cause { result ≡ Status.WriteFault → Rose (K.faults sink.old) (K.faults sink.new) }
     ensures either { (result ≡ Status.Done) ⊎ ((result ≡ Status.WriteFault) ⊎ (result ≡ Status.NoMemory)) }
     ensures later { K.faults sink.old ≤ K.faults sink.new }

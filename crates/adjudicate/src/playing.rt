@@ -129,7 +129,7 @@ fn judge_stopped(
 
 /// Whether a word named no move because memory was refused.
 fn lacks_memory(fault: SanFault) -> bool
-    ensures refused { OnTrue result (fault ≡ SanFault.NoMemory) }
+    ensures no_memory { OnTrue result (fault ≡ SanFault.NoMemory) }
     ensures of_word { OnFalse result (IsNotWantOfMemory fault) }
 {
     match fault {

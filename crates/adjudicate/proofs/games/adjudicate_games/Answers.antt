@@ -42,7 +42,7 @@ returns-in_default-found g c =
     let end = at_end c.loop-found.reader.ended c.next.new.self.ended _ _ c.loop-found.invariant.end (λ h. ap (λ x. g.S.Source.left x) (c.next.ensures.no_more_reads h).0) c.next.ensures.end none.0 in
     let last = c.end_games.ensures in
     all_judged _ _ _ _ _ _ _ _ _ _ _ _ _ at (omega (arith, c.next.ensures.later, c.loop-found.invariant.source_later)) _ _ (omega (arith, last.later, c.loop-found.invariant.sink_later)) few none.1 end
-    last.whole last.cut last.refused (λ e. rose_in _ _ _ c.loop-found.invariant.sink_later (last.cause e)) last.either
+    last.whole last.cut last.no_memory (λ e. rose_in _ _ _ c.loop-found.invariant.sink_later (last.cause e)) last.either
 
 pub judge_game-requires-clause-few : goal.judge_game-requires-clause-few
 judge_game-requires-clause-few g c =

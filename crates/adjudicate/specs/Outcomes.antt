@@ -21,7 +21,7 @@ use Rattle.flag_report.specs.declared.totals.Summary.{Summary}
 use Rattle.cha_verdict.specs.Verdicts.{is_undecided}
 use Rattle.cha_moves.specs.Standings.{standing_of}
 use Rattle.flag_report.specs.Rulings.{ruling_of, first_of, is_changed}
-use Rattle.flag_report.specs.Blocks.{has_dead_status, position_text, refused_text}
+use Rattle.flag_report.specs.Blocks.{status_of, is_dead, position_text, refused_text}
 use Rattle.flag_report.specs.Games.{game_text, unreadable_text}
 use Rattle.cha_verdict.specs.declared.decisions.Decision.{Decision}
 use Rattle.cha_verdict.specs.Bounds.{Bounds}
@@ -132,7 +132,7 @@ is_bad (GivenUp why) = true
 
 -- a position whose state is dead, or a game whose result changes
 unfoldable pub is_third : Outcome → Bool
-is_third (JudgedPosition q d) = has_dead_status (standing_of q) d.white d.black
+is_third (JudgedPosition q d) = is_dead (status_of (standing_of q) d.white d.black)
 is_third (Refused fault) = false
 is_third (JudgedGame q recorded forfeit d) = is_changed recorded (judgment_of q recorded forfeit d).mark
 is_third (GivenUp why) = false

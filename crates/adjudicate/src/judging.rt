@@ -13,7 +13,7 @@ use cha_fen::{FenFault, read};
 use cha_list::{NoMemory, Text};
 use cha_moves::state;
 use cha_verdict::{Limits, Verdict, is_undecided};
-use flag_report::{Summary, has_dead_state, position_block, refused_block};
+use flag_report::{Summary, position_block, refused_block, status_of};
 use std::alloc::Global;
 
 /// The block of an item, and what it adds to the last line.
@@ -70,7 +70,7 @@ fn judge_position(
         black,
         certs,
     )?;
-    let dead = has_dead_state(standing, white, black);
+    let dead = status_of(standing, white, black).is_dead();
     Ok(Judged {
         block,
         totals: with_one(totals, false, dead, some_undecided(white, black)),

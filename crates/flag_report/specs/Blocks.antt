@@ -1,5 +1,5 @@
 -- The texts that are printed for positions (this project).
-use Rattle.std.specs.Prelude.{ℕ, Bool, false, ◌||◌, if◌then◌else◌, List, [], ◌∷◌, ◌++◌, length, codes, decimal}
+use Rattle.std.specs.Prelude.{ℕ, Bool, true, false, ◌||◌, if◌then◌else◌, List, [], ◌∷◌, ◌++◌, length, codes, decimal}
 use Rattle.cha_board.specs.declared.men.Color.{Color}
 use Rattle.cha_board.specs.declared.men.Color.TheVariants.{White, Black}
 use Rattle.cha_board.specs.Board.{Board}
@@ -13,6 +13,8 @@ use Rattle.cert_text.specs.Spelled.{cert_text}
 use Rattle.cha_verdict.specs.declared.verdicts.Verdict.{Verdict}
 use Rattle.cha_verdict.specs.declared.verdicts.Verdict.TheVariants.{Winnable, Unwinnable, Undecided, Skipped}
 use Rattle.cha_verdict.specs.Verdicts.{is_winnable, are_dead}
+use Rattle.flag_report.specs.declared.status.PositionStatus.{PositionStatus}
+use Rattle.flag_report.specs.declared.status.PositionStatus.TheVariants.{Checkmate, Stalemate as Stalemated, Dead, Live, Unclear}
 use Rattle.flag_report.specs.Reasons.{fen_fault_text}
 
 -- a line
@@ -51,29 +53,30 @@ cert_part certs winner Skipped = []
 abbrev pub side_text : List ℕ → Color → Verdict → Bool → List ℕ
 side_text label winner verdict certs = line (label ++ verdict_text verdict) ++ cert_part certs winner verdict
 
--- the state of a position with neither mate nor stalemate
-unfoldable pub open_status_text : Verdict → Verdict → List ℕ
-open_status_text white black =
-    if are_dead white black then codes "dead"
-    else (if is_winnable white || is_winnable black then codes "live" else codes "unclear")
+-- the status of a position: the first that fits of checkmate, stalemate, dead, live and unclear
+unfoldable pub status_of : Standing → Verdict → Verdict → PositionStatus
+status_of (Mate winner) white black = Checkmate
+status_of Stalemate white black = Stalemated
+status_of Running white black = if are_dead white black then Dead else (if is_winnable white || is_winnable black then Live else Unclear)
 
--- the state of a position: the first that fits of checkmate, stalemate, dead, live and unclear
-unfoldable pub status_text : Standing → Verdict → Verdict → List ℕ
-status_text (Mate winner) white black = codes "checkmate"
-status_text Stalemate white black = codes "stalemate"
-status_text Running white black = open_status_text white black
+-- its word
+unfoldable pub status_text : PositionStatus → List ℕ
+status_text Checkmate = codes "checkmate"
+status_text Stalemated = codes "stalemate"
+status_text Dead = codes "dead"
+status_text Live = codes "live"
+status_text Unclear = codes "unclear"
 
--- the state of a position is `dead`: neither mate nor stalemate, and neither side can mate
-unfoldable pub has_dead_status : Standing → Verdict → Verdict → Bool
-has_dead_status (Mate winner) white black = false
-has_dead_status Stalemate white black = false
-has_dead_status Running white black = are_dead white black
+-- neither mate nor stalemate, and neither side can mate
+unfoldable pub is_dead : PositionStatus → Bool
+is_dead Dead = true
+is_dead _ = false
 
 -- the four lines on a position that positions and games share, with the certificates of the sides between them
 unfoldable pub findings_text : Board → Standing → Verdict → Verdict → Bool → List ℕ
 findings_text q standing white black certs =
     line (codes "fen: " ++ fen_text q) ++ side_text (codes "white: ") White white certs ++ side_text (codes "black: ") Black black certs
-    ++ line (codes "status: " ++ status_text standing white black)
+    ++ line (codes "status: " ++ status_text (status_of standing white black))
 
 -- the first line of the block of a position
 abbrev pub position_heading : ℕ → List ℕ

@@ -21,5 +21,5 @@ pub use games::{game_block, unreadable_block};
 pub use positions::{position_block, refused_block};
 pub use reasons::Unreadable;
 pub use rulings::{Cause, Judgment, changes_result, first_examined, ruling};
-pub use status::has_dead_state;
+pub use status::{PositionStatus, status_of};
 pub use totals::{Summary, game_summary, position_summary};

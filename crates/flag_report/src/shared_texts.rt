@@ -5,7 +5,7 @@ ghost use Rattle.flag_report.specs.Blocks.{line, count_text, moves_text, winnabl
 ghost use Rattle.cha_verdict.specs.Verdicts.{IsPrintable};
 ghost use Rattle.cha_fen.specs.Written.{fen_text};
 
-use crate::status::put_status;
+use crate::status::{put_status, status_of};
 use cha_board::{Color, Position};
 use cha_fen::write;
 use cha_list::{NoMemory, Text};
@@ -153,7 +153,7 @@ pub fn put_findings(
     put_side(alloc, b"white: ", Color::White, white, certs, text)?;
     put_side(alloc, b"black: ", Color::Black, black, certs, text)?;
     text.append(b"status: ")?;
-    put_status(standing, white, black, text)?;
+    put_status(status_of(standing, white, black), text)?;
     text.append(b"\n")?;
     Ok(())
 }

@@ -1,51 +1,67 @@
-//! The state of a position.
+//! The status of a position.
 
 ghost use Rattle.std.specs.Prelude.{◌≡◌, ◌++◌, OnOk};
-ghost use Rattle.flag_report.specs.Blocks.{open_status_text, has_dead_status, status_text};
+ghost use Rattle.flag_report.specs.Blocks.{status_of as status_from, status_text, is_dead as is_dead_status};
 
 use cha_list::{NoMemory, Text};
 use cha_moves::Standing;
 use cha_verdict::{Verdict, are_dead, is_winnable};
 
-/// Whether the state of a position is `dead`, by how it stands: neither mate nor stalemate, and neither side can mate.
-#[tactic(auto, unfolding(crate::specs::Blocks::has_dead_status))]
-pub fn has_dead_state(standing: Standing, white: &Verdict, black: &Verdict) -> bool
-    ensures { result ≡ has_dead_status standing white.now black.now }
+/// The status of a position: the first of these that fits.
+#[derive(Clone, Copy, Debug, PartialEq, Eq)]
+pub enum PositionStatus {
+    /// The side to move is checkmated.
+    Checkmate,
+    /// The side to move is stalemated.
+    Stalemate,
+    /// Neither side can mate.
+    Dead,
+    /// A side can mate.
+    Live,
+    /// Of no side it was shown that it can mate, and not of both that they cannot.
+    Unclear,
+}
+
+/// The status of a position, by how it stands and the verdicts on both sides.
+#[tactic(auto, unfolding(crate::specs::Blocks::status_of))]
+pub fn status_of(standing: Standing, white: &Verdict, black: &Verdict) -> PositionStatus
+    ensures { result ≡ status_from standing white.now black.now }
 {
     match standing {
-        Standing::Mate(_) => false,
-        Standing::Stalemate => false,
-        Standing::Running => are_dead(white, black),
+        Standing::Mate(_) => PositionStatus::Checkmate,
+        Standing::Stalemate => PositionStatus::Stalemate,
+        Standing::Running => {
+            if are_dead(white, black) {
+                return PositionStatus::Dead;
+            }
+            if is_winnable(white) || is_winnable(black) {
+                return PositionStatus::Live;
+            }
+            PositionStatus::Unclear
+        }
     }
 }
 
-/// Appends the state of a position with neither mate nor stalemate.
-#[tactic(auto, unfolding(crate::specs::Blocks::open_status_text))]
-fn put_open_status(white: &Verdict, black: &Verdict, text: &mut Text) -> Result<(), NoMemory>
-    ensures { OnOk result (text.new ≡ text.old ++ open_status_text white.now black.now) }
-{
-    if are_dead(white, black) {
-        return text.append(b"dead");
+impl PositionStatus {
+    /// Whether neither side can mate, with neither mate nor stalemate on the board.
+    #[tactic(auto, unfolding(crate::specs::Blocks::is_dead))]
+    pub fn is_dead(self) -> bool
+        ensures { result ≡ is_dead_status self }
+    {
+        matches!(self, PositionStatus::Dead)
     }
-    if is_winnable(white) || is_winnable(black) {
-        return text.append(b"live");
-    }
-    text.append(b"unclear")
 }
 
-/// Appends the state of a position.
+/// Appends the word for a status.
 #[tactic(auto, unfolding(crate::specs::Blocks::status_text))]
-pub fn put_status(
-    standing: Standing,
-    white: &Verdict,
-    black: &Verdict,
-    text: &mut Text,
-) -> Result<(), NoMemory>
-    ensures { OnOk result (text.new ≡ text.old ++ status_text standing white.now black.now) }
+pub fn put_status(status: PositionStatus, text: &mut Text) -> Result<(), NoMemory>
+    ensures { OnOk result (text.new ≡ text.old ++ status_text status) }
 {
-    match standing {
-        Standing::Mate(_) => text.append(b"checkmate"),
-        Standing::Stalemate => text.append(b"stalemate"),
-        Standing::Running => put_open_status(white, black, text),
+    match status {
+        PositionStatus::Checkmate => text.append(b"checkmate"),
+        PositionStatus::Stalemate => text.append(b"stalemate"),
+        PositionStatus::Dead => text.append(b"dead"),
+        PositionStatus::Live => text.append(b"live"),
+        PositionStatus::Unclear => text.append(b"unclear"),
     }
 }

@@ -10,5 +10,5 @@ returns c = (
   refl,
   c.in_ok-decision.ensures.sound,
   rw c.state-standing.ensures.value at c.in_ok-block.ensures,
-  rw (c.has_dead_state-dead.ensures, c.state-standing.ensures.value, c.some_undecided.ensures) at c.with_one.ensures,
+  rw (c.is_dead-dead.ensures, c.status_of.ensures, c.state-standing.ensures.value, c.some_undecided.ensures) at c.with_one.ensures,
 )

@@ -1,0 +1,2 @@
+-- inside the crate
+pub mod Mates

@@ -1,3 +1,4 @@
+pub mod PartsInOrder
 pub mod Choosing
 pub mod Resolved
 pub mod Replayed

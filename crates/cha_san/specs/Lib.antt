@@ -1,6 +1,7 @@
 -- what public contracts say
 pub mod Backwards
 pub mod Forms
+pub mod InOrder
 pub mod Fitting
 pub mod Resolving
 pub mod Playing

@@ -1,7 +1,7 @@
 //! SAN, the text of a move, and the positions of a game (PGN standard, 8.2.3).
 //!
 //! `faults` says why a word names no move. A word is read from its end: `backwards` has its last byte and what is in front,
-//! `letters` what bytes mean, `reading` what a word says, kept as `forms` has it. `fitting` has the moves that fit, `resolving`
+//! `letters` what bytes mean, `reading` what a word says, kept as `forms` has it, and `order` the law of the parts of a word. `fitting` has the moves that fit, `resolving`
 //! the one that a word names, and `playing` the positions of a game.
 #![tactic(auto)]
 
@@ -10,6 +10,7 @@ mod faults;
 mod fitting;
 mod forms;
 mod letters;
+mod order;
 mod playing;
 mod reading;
 mod resolving;
@@ -17,5 +18,6 @@ mod resolving;
 mod tests;
 
 pub use faults::{PlayFault, SanFault};
+pub use order::parts_stand_in_order;
 pub use playing::play;
 pub use resolving::resolve;

@@ -1,0 +1,5 @@
+use Rattle.cha_san.proofs.PartsInOrder.{in_order}
+use Rattle.cha_san.proofs.order.parts_stand_in_order.Goals as goal
+
+pub returns : goal.returns
+returns c = in_order

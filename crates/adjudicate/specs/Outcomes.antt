@@ -17,7 +17,8 @@ use Rattle.cha_san.specs.Playing.{positions}
 use Rattle.flag_report.specs.declared.reasons.Unreadable.{Unreadable}
 use Rattle.flag_report.specs.declared.reasons.Unreadable.TheVariants.{Tokens, Moves}
 use Rattle.flag_report.specs.declared.rulings.Judgment.{Judgment}
-use Rattle.flag_report.specs.declared.totals.Summary.{Summary}
+use Rattle.flag_report.specs.declared.totals.GameTotals.{GameTotals}
+use Rattle.flag_report.specs.declared.totals.PositionTotals.{PositionTotals}
 use Rattle.cha_verdict.specs.Verdicts.{is_undecided}
 use Rattle.cha_moves.specs.Standings.{standing_of}
 use Rattle.flag_report.specs.Rulings.{ruling_of, first_of, is_changed}
@@ -123,19 +124,23 @@ unfoldable pub blocks : Bool → ℕ → List Outcome → List ℕ
 blocks certs number [] = []
 blocks certs number (o ∷ os) = block certs number o ++ blocks certs (number + 1) os
 
--- an item that is refused or unreadable
-unfoldable pub is_bad : Outcome → Bool
-is_bad (JudgedPosition q d) = false
-is_bad (Refused fault) = true
-is_bad (JudgedGame q recorded forfeit d) = false
-is_bad (GivenUp why) = true
+-- a line that is refused, and a position whose status is dead
+unfoldable pub is_refused : Outcome → Bool
+is_refused (Refused fault) = true
+is_refused _ = false
 
--- a position whose state is dead, or a game whose result changes
-unfoldable pub is_third : Outcome → Bool
-is_third (JudgedPosition q d) = is_dead (status_of (standing_of q) d.white d.black)
-is_third (Refused fault) = false
-is_third (JudgedGame q recorded forfeit d) = is_changed recorded (judgment_of q recorded forfeit d).mark
-is_third (GivenUp why) = false
+unfoldable pub is_dead_position : Outcome → Bool
+is_dead_position (JudgedPosition q d) = is_dead (status_of (standing_of q) d.white d.black)
+is_dead_position _ = false
+
+-- a game that cannot be read, and one whose result changes
+unfoldable pub is_unreadable : Outcome → Bool
+is_unreadable (GivenUp why) = true
+is_unreadable _ = false
+
+unfoldable pub is_changed_game : Outcome → Bool
+is_changed_game (JudgedGame q recorded forfeit d) = is_changed recorded (judgment_of q recorded forfeit d).mark
+is_changed_game _ = false
 
 -- a side of which nothing was shown
 abbrev pub has_open_side : Decision → Bool
@@ -147,6 +152,9 @@ is_open (Refused fault) = false
 is_open (JudgedGame q recorded forfeit d) = has_open_side d
 is_open (GivenUp why) = false
 
--- what is counted over outcomes
-abbrev pub summary_of : List Outcome → Summary
-summary_of os = record { items = length os; bad = count_by is_bad os; third = count_by is_third os; undecided = count_by is_open os }
+-- what is counted over the outcomes of games and of positions
+abbrev pub game_totals : List Outcome → GameTotals
+game_totals os = record { games = length os; unreadable = count_by is_unreadable os; changed = count_by is_changed_game os; undecided = count_by is_open os }
+
+abbrev pub position_totals : List Outcome → PositionTotals
+position_totals os = record { positions = length os; refused = count_by is_refused os; dead = count_by is_dead_position os; undecided = count_by is_open os }

@@ -1,23 +1,29 @@
 -- What is written for an input (this project).
 use Rattle.std.specs.Prelude.{◌≡◌, ℕ, ◌+◌, Bool, List, [], ◌∷◌, ◌++◌, length, map, Option}
-use Rattle.flag_report.specs.declared.totals.Summary.{Summary}
 use Rattle.flag_report.specs.Totals.{game_summary_text, position_summary_text}
 use Rattle.cha_verdict.specs.Bounds.{Bounds}
 use Rattle.cert_text.specs.Texts.{cert_of}
 use Rattle.adjudicate.specs.declared.orders.Order.{Order}
 use Rattle.adjudicate.specs.declared.orders.Order.TheVariants.{AdjudicateGames, JudgePositions, CheckCert}
-use Rattle.adjudicate.specs.Outcomes.{Item, Outcome, item_of, IsSoundOutcome, AllSound, block, blocks, summary_of, game_items, position_items}
+use Rattle.adjudicate.specs.Outcomes.{Item, Outcome, item_of, IsSoundOutcome, AllSound, block, blocks, game_totals, position_totals, game_items, position_items}
 use Rattle.adjudicate.specs.Checks.{IsAnswerTo}
 
+-- the summary of the outcomes of games and of positions
+abbrev pub last_of_games : List Outcome → List ℕ
+last_of_games os = game_summary_text (game_totals os)
+
+abbrev pub last_of_positions : List Outcome → List ℕ
+last_of_positions os = position_summary_text (position_totals os)
+
 -- there is one sound outcome for each item, in order, and the output is their blocks, numbered from 1, and their summary
-abbrev pub IsReportOn : Bounds → Bool → (Summary → List ℕ) → List Item → List ℕ → Type 0
-IsReportOn limits certs summary items out =
-    (os : List Outcome) × (map item_of os ≡ items) × AllSound limits os × (out ≡ blocks certs 1 os ++ summary (summary_of os))
+abbrev pub IsReportOn : Bounds → Bool → (List Outcome → List ℕ) → List Item → List ℕ → Type 0
+IsReportOn limits certs last items out =
+    (os : List Outcome) × (map item_of os ≡ items) × AllSound limits os × (out ≡ blocks certs 1 os ++ last os)
 
 -- what an order has written for an input: of games and positions a report, of a certificate the answer of its check
 abbrev pub IsReport : Order → List ℕ → List ℕ → Type 0
-IsReport (AdjudicateGames limits certs) bytes out = IsReportOn limits certs game_summary_text (game_items bytes) out
-IsReport (JudgePositions limits certs) bytes out = IsReportOn limits certs position_summary_text (position_items bytes) out
+IsReport (AdjudicateGames limits certs) bytes out = IsReportOn limits certs last_of_games (game_items bytes) out
+IsReport (JudgePositions limits certs) bytes out = IsReportOn limits certs last_of_positions (position_items bytes) out
 IsReport CheckCert bytes out = IsAnswerTo (cert_of bytes) out
 
 -- a list is the front of another
@@ -25,21 +31,21 @@ abbrev pub IsFront : List ℕ → List ℕ → Type 0
 IsFront front whole = (rest : List ℕ) × (whole ≡ front ++ rest)
 
 -- a front of the block of the next item, or of the summary where no item is left
-abbrev pub IsPart : Bounds → Bool → (Summary → List ℕ) → List Outcome → List Item → List ℕ → Type 0
-IsPart limits certs summary os [] part = IsFront part (summary (summary_of os))
-IsPart limits certs summary os (item ∷ later) part =
+abbrev pub IsPart : Bounds → Bool → (List Outcome → List ℕ) → List Outcome → List Item → List ℕ → Type 0
+IsPart limits certs last os [] part = IsFront part (last os)
+IsPart limits certs last os (item ∷ later) part =
     (o : Outcome) × (item_of o ≡ item) × IsSoundOutcome limits o × IsFront part (block certs (length os + 1) o)
 
 -- the output is the blocks of sound outcomes of the first items, and a part of what comes next
-abbrev pub HasBegunOn : Bounds → Bool → (Summary → List ℕ) → List Item → List ℕ → Type 0
-HasBegunOn limits certs summary items out =
+abbrev pub HasBegunOn : Bounds → Bool → (List Outcome → List ℕ) → List Item → List ℕ → Type 0
+HasBegunOn limits certs last items out =
     (os : List Outcome) × (later : List Item) × (part : List ℕ)
-    × (items ≡ map item_of os ++ later) × AllSound limits os × (out ≡ blocks certs 1 os ++ part) × IsPart limits certs summary os later part
+    × (items ≡ map item_of os ++ later) × AllSound limits os × (out ≡ blocks certs 1 os ++ part) × IsPart limits certs last os later part
 
 -- the output is the front of what an order has written
 abbrev pub HasBegun : Order → List ℕ → List ℕ → Type 0
-HasBegun (AdjudicateGames limits certs) bytes out = HasBegunOn limits certs game_summary_text (game_items bytes) out
-HasBegun (JudgePositions limits certs) bytes out = HasBegunOn limits certs position_summary_text (position_items bytes) out
+HasBegun (AdjudicateGames limits certs) bytes out = HasBegunOn limits certs last_of_games (game_items bytes) out
+HasBegun (JudgePositions limits certs) bytes out = HasBegunOn limits certs last_of_positions (position_items bytes) out
 HasBegun CheckCert bytes out = (whole : List ℕ) × IsAnswerTo (cert_of bytes) whole × IsFront out whole
 
 -- the output is the blocks of sound outcomes of the first items

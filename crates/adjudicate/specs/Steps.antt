@@ -1,44 +1,69 @@
 -- What the judging of one item and the writing of a report give.
 use Rattle.std.specs.Prelude.{◌≡◌, ◌≢◌, ℕ, ◌+◌, ◌^◌, ◌<◌, ◌≤◌, Bool, if◌then◌else◌, List, Option}
 use Rattle.cha_outside.specs.Faults.{Rose}
-use Rattle.flag_report.specs.declared.totals.Summary.{Summary}
+use Rattle.flag_report.specs.declared.totals.GameTotals.{GameTotals}
+use Rattle.flag_report.specs.declared.totals.PositionTotals.{PositionTotals}
 use Rattle.cha_verdict.specs.Bounds.{Bounds}
-use Rattle.adjudicate.specs.declared.judging.Judged.{Judged}
+use Rattle.adjudicate.specs.declared.judging.LineBlock.{LineBlock}
+use Rattle.adjudicate.specs.declared.playing.GameBlock.{GameBlock}
 use Rattle.adjudicate.specs.declared.orders.Order.{Order}
 use Rattle.adjudicate.specs.declared.endings.Status.{Status}
 use Rattle.adjudicate.specs.declared.endings.Status.TheVariants.{Done, Usage, ReadFault, WriteFault, TooLong, NoMemory, NotAccepted}
 use Rattle.adjudicate.specs.Checks.{IsAccepted}
 use Rattle.adjudicate.specs.Report.{IsReport, HasBegun, HasWholeBlocks}
 use Rattle.adjudicate.specs.Runs.{Grew}
-use Rattle.adjudicate.specs.Outcomes.{Item, Outcome, item_of, IsSoundOutcome, block, is_bad, is_third, is_open}
+use Rattle.adjudicate.specs.Outcomes.{Item, Outcome, item_of, IsSoundOutcome, block, is_refused, is_dead_position, is_unreadable, is_changed_game, is_open}
 
 abbrev pub one_if : Bool → ℕ
 one_if b = if b then 1 else 0
 
--- one more item is counted: whether it is bad, counted third, or open
-abbrev pub counted_as : Summary → Bool → Bool → Bool → Summary
-counted_as s bad third open_side = record {
-  items = s.items + 1;
-  bad = s.bad + one_if bad;
-  third = s.third + one_if third;
+-- one more game is counted: whether it is unreadable, changed or open; and one more outcome of a game
+abbrev pub game_counted_as : GameTotals → Bool → Bool → Bool → GameTotals
+game_counted_as s unreadable changed open_side = record {
+  games = s.games + 1;
+  unreadable = s.unreadable + one_if unreadable;
+  changed = s.changed + one_if changed;
   undecided = s.undecided + one_if open_side;
 }
 
--- one more outcome is counted
-abbrev pub counted : Summary → Outcome → Summary
-counted s o = counted_as s (is_bad o) (is_third o) (is_open o)
+abbrev pub game_counted : GameTotals → Outcome → GameTotals
+game_counted s o = game_counted_as s (is_unreadable o) (is_changed_game o) (is_open o)
+
+-- one more line is counted: whether it is refused, a dead position or open; and one more outcome of a line
+abbrev pub line_counted_as : PositionTotals → Bool → Bool → Bool → PositionTotals
+line_counted_as s refused dead open_side = record {
+  positions = s.positions + 1;
+  refused = s.refused + one_if refused;
+  dead = s.dead + one_if dead;
+  undecided = s.undecided + one_if open_side;
+}
+
+abbrev pub line_counted : PositionTotals → Outcome → PositionTotals
+line_counted s o = line_counted_as s (is_refused o) (is_dead_position o) (is_open o)
 
 -- one more outcome can be counted
-pub record HasRoom (s : Summary) : Type 0 where
-  pub few_items : s.items < 2 ^ 63
-  pub few_bad : s.bad < 2 ^ 63
-  pub few_third : s.third < 2 ^ 63
+pub record GameRoom (s : GameTotals) : Type 0 where
+  pub few_games : s.games < 2 ^ 63
+  pub few_unreadable : s.unreadable < 2 ^ 63
+  pub few_changed : s.changed < 2 ^ 63
   pub few_undecided : s.undecided < 2 ^ 63
 
--- the block of an item with sound verdicts, under the next number, and the totals with it
-abbrev pub Judges : Bounds → Bool → Item → Summary → Judged → Type 0
-Judges limits certs item s judged =
-    (o : Outcome) × (item_of o ≡ item) × IsSoundOutcome limits o × (judged.block ≡ block certs (s.items + 1) o) × (judged.totals ≡ counted s o)
+pub record LineRoom (s : PositionTotals) : Type 0 where
+  pub few_positions : s.positions < 2 ^ 63
+  pub few_refused : s.refused < 2 ^ 63
+  pub few_dead : s.dead < 2 ^ 63
+  pub few_undecided : s.undecided < 2 ^ 63
+
+-- a sound outcome of an item, its block under the next number, and the totals with it
+abbrev pub Judges : {T : Type 0} → (T → Outcome → T) → Bounds → Bool → Item → ℕ → T → List ℕ → T → Type 0
+Judges counted limits certs item number s text totals =
+    (o : Outcome) × (item_of o ≡ item) × IsSoundOutcome limits o × (text ≡ block certs (number + 1) o) × (totals ≡ counted s o)
+
+abbrev pub JudgesGame : Bounds → Bool → Item → GameTotals → GameBlock → Type 0
+JudgesGame limits certs item s judged = Judges game_counted limits certs item s.games s judged.block judged.totals
+
+abbrev pub JudgesLine : Bounds → Bool → Item → PositionTotals → LineBlock → Type 0
+JudgesLine limits certs item s judged = Judges line_counted limits certs item s.positions s judged.block judged.totals
 
 -- how the writing of the answer on a certificate ended, where all of it was written
 abbrev pub ended_by : Bool → Status

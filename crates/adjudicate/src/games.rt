@@ -12,7 +12,7 @@ use crate::playing::judge_game;
 use crate::writing::{finish, put};
 use cha_outside::{Sink, Source, Wrote};
 use cha_verdict::Limits;
-use flag_report::{Summary, game_summary};
+use flag_report::{GameTotals, game_summary};
 use pgn_games::Reader;
 use std::alloc::Global;
 
@@ -27,7 +27,7 @@ pub fn adjudicate_games<S: Source, K: Sink>(
 ) -> Status
     ensures { IsRun (AdjudicateGames limits.now certs) result (outside (S.left source.old) (S.faults source.old) (K.written sink.old) (K.faults sink.old)) (outside (S.left source.new) (S.faults source.new) (K.written sink.new) (K.faults sink.new)) }
 {
-    let mut totals = Summary::new();
+    let mut totals = GameTotals::new();
     let Ok(mut reader) = Reader::new(alloc) else {
         return Status::NoMemory;
     };
@@ -50,7 +50,7 @@ pub fn adjudicate_games<S: Source, K: Sink>(
 }
 
 /// Writes the last line of a report of games.
-fn end_games<K: Sink>(alloc: Global, totals: &Summary, sink: &mut K) -> Status
+fn end_games<K: Sink>(alloc: Global, totals: &GameTotals, sink: &mut K) -> Status
     ensures whole { result ≡ Status.Done → Appends (K.written sink.old) (K.written sink.new) (game_summary_text totals.now) }
     ensures cut { result ≡ Status.WriteFault → (n : ℕ) × Appends (K.written sink.old) (K.written sink.new) (take n (game_summary_text totals.now)) }
     ensures no_memory { result ≡ Status.NoMemory → (K.written sink.new ≡ K.written sink.old) }

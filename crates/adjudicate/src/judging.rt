@@ -1,11 +1,11 @@
-//! What is found about one item of the input.
+//! What is found about one line of the input.
 
 ghost use Rattle.std.specs.Prelude.{◌≡◌, ◌||◌, Bool, IfOk};
 ghost use Rattle.cha_verdict.specs.Verdicts.{is_undecided as is_undecided_verdict};
 ghost use Rattle.cha_verdict.specs.Bounds.{Bounds};
 ghost use Rattle.adjudicate.specs.Outcomes.{line_item};
 ghost use Rattle.adjudicate.specs.Outcomes.Item.{PositionLine, RefusedLine};
-ghost use Rattle.adjudicate.specs.Steps.{Judges, HasRoom, counted_as};
+ghost use Rattle.adjudicate.specs.Steps.{JudgesLine, LineRoom, line_counted_as};
 
 use cha_board::{Color, Position};
 use cha_decide::decide;
@@ -13,29 +13,29 @@ use cha_fen::{FenFault, read};
 use cha_list::{NoMemory, Text};
 use cha_moves::state;
 use cha_verdict::{Limits, Verdict, is_undecided};
-use flag_report::{Summary, position_block, refused_block, status_of};
+use flag_report::{PositionTotals, position_block, refused_block, status_of};
 use std::alloc::Global;
 
-/// The block of an item, and what it adds to the last line.
+/// The block of a line, and the totals with it.
 #[derive(Drop)]
-pub struct Judged {
+pub struct LineBlock {
     pub block: Text,
-    pub totals: Summary,
+    pub totals: PositionTotals,
 }
 
 /// The most bytes that a line may have.
 const MOST_LINE_BYTES: usize = 4096;
 
-/// Judges a line that is not blank. Where `certs` says so, its block has the certificates of sides that cannot mate.
+/// JudgesLine a line that is not blank. Where `certs` says so, its block has the certificates of sides that cannot mate.
 pub fn judge_line(
     alloc: Global,
     line: &[u8],
     limits: &Limits,
     certs: bool,
-    totals: &Summary,
-) -> Result<Judged, NoMemory>
-    requires { HasRoom totals.now }
-    ensures { IfOk result (Judges limits.now certs (line_item line.now) totals.now) }
+    totals: &PositionTotals,
+) -> Result<LineBlock, NoMemory>
+    requires { LineRoom totals.now }
+    ensures { IfOk result (JudgesLine limits.now certs (line_item line.now) totals.now) }
 {
     if line.len() > MOST_LINE_BYTES {
         return refuse(alloc, FenFault::Shape, totals);
@@ -46,16 +46,16 @@ pub fn judge_line(
     }
 }
 
-/// Judges a position.
+/// JudgesLine a position.
 fn judge_position(
     alloc: Global,
     position: &Position,
     limits: &Limits,
     certs: bool,
-    totals: &Summary,
-) -> Result<Judged, NoMemory>
-    requires { HasRoom totals.now }
-    ensures { IfOk result (Judges limits.now certs (PositionLine position.now) totals.now) }
+    totals: &PositionTotals,
+) -> Result<LineBlock, NoMemory>
+    requires { LineRoom totals.now }
+    ensures { IfOk result (JudgesLine limits.now certs (PositionLine position.now) totals.now) }
 {
     let decision = decide(alloc, position, Color::White, limits)?;
     let standing = state(position);
@@ -63,7 +63,7 @@ fn judge_position(
     let black = &decision.black;
     let block = position_block(
         alloc,
-        totals.items + 1,
+        totals.positions + 1,
         position,
         standing,
         white,
@@ -71,9 +71,9 @@ fn judge_position(
         certs,
     )?;
     let dead = status_of(standing, white, black).is_dead();
-    Ok(Judged {
+    Ok(LineBlock {
         block,
-        totals: with_one(totals, false, dead, some_undecided(white, black)),
+        totals: with_line(totals, false, dead, some_undecided(white, black)),
     })
 }
 
@@ -85,25 +85,25 @@ pub fn some_undecided(white: &Verdict, black: &Verdict) -> bool
 }
 
 /// Refuses a line that is no position.
-fn refuse(alloc: Global, fault: FenFault, totals: &Summary) -> Result<Judged, NoMemory>
-    requires { HasRoom totals.now }
-    ensures { (limits : Bounds) (certs : Bool) → IfOk result (Judges limits certs (RefusedLine fault) totals.now) }
+fn refuse(alloc: Global, fault: FenFault, totals: &PositionTotals) -> Result<LineBlock, NoMemory>
+    requires { LineRoom totals.now }
+    ensures { (limits : Bounds) (certs : Bool) → IfOk result (JudgesLine limits certs (RefusedLine fault) totals.now) }
 {
-    Ok(Judged {
-        block: refused_block(alloc, totals.items + 1, fault)?,
-        totals: with_one(totals, true, false, false),
+    Ok(LineBlock {
+        block: refused_block(alloc, totals.positions + 1, fault)?,
+        totals: with_line(totals, true, false, false),
     })
 }
 
-/// The totals with one more item, which is bad, counted third or open.
-pub fn with_one(totals: &Summary, bad: bool, third: bool, undecided: bool) -> Summary
-    requires { HasRoom totals.now }
-    ensures { result ≡ counted_as totals.now bad third undecided }
+/// The totals with one more line, which is refused, dead or open.
+fn with_line(totals: &PositionTotals, refused: bool, dead: bool, undecided: bool) -> PositionTotals
+    requires { LineRoom totals.now }
+    ensures { result ≡ line_counted_as totals.now refused dead undecided }
 {
-    Summary {
-        items: totals.items + 1,
-        bad: totals.bad + u64::from(bad),
-        third: totals.third + u64::from(third),
+    PositionTotals {
+        positions: totals.positions + 1,
+        refused: totals.refused + u64::from(refused),
+        dead: totals.dead + u64::from(dead),
         undecided: totals.undecided + u64::from(undecided),
     }
 }

@@ -7,9 +7,9 @@ ghost use Rattle.std.specs.Bool.{OnTrue, OnFalse};
 ghost use Rattle.cha_san.specs.Playing.{positions};
 ghost use Rattle.cha_verdict.specs.Bounds.{Bounds};
 ghost use Rattle.adjudicate.specs.Outcomes.Item.{PlayedGame, UnreadableGame};
-ghost use Rattle.adjudicate.specs.Steps.{Judges, HasRoom};
+ghost use Rattle.adjudicate.specs.Steps.{JudgesGame, GameRoom, game_counted_as};
 
-use crate::judging::{Judged, some_undecided, with_one};
+use crate::judging::some_undecided;
 use cha_board::Position;
 use cha_decide::decide;
 use cha_list::{NoMemory, Text, text_of};
@@ -17,10 +17,17 @@ use cha_moves::state;
 use cha_san::{PlayFault, SanFault, play};
 use cha_verdict::Limits;
 use flag_report::{
-    Summary, Unreadable, changes_result, first_examined, game_block, ruling, unreadable_block,
+    GameTotals, Unreadable, changes_result, first_examined, game_block, ruling, unreadable_block,
 };
 use pgn_games::{Game, ResultMark};
 use std::alloc::Global;
+
+/// The block of a game, and the totals with it.
+#[derive(Drop)]
+pub struct GameBlock {
+    pub block: Text,
+    pub totals: GameTotals,
+}
 
 /// Judges a game. Where `certs` says so, its block has the certificates of sides that cannot mate.
 #[tactic(auto, unfolding(crate::specs::Outcomes::game_item))]
@@ -29,11 +36,11 @@ pub fn judge_game(
     game: Game,
     limits: &Limits,
     certs: bool,
-    totals: &Summary,
-) -> Result<Judged, NoMemory>
-    requires room { HasRoom totals.now }
+    totals: &GameTotals,
+) -> Result<GameBlock, NoMemory>
+    requires room { GameRoom totals.now }
     requires few { game.fault ≡ None → length game.words ≤ 12000 }
-    ensures { IfOk result (Judges limits.now certs (game_item game) totals.now) }
+    ensures { IfOk result (JudgesGame limits.now certs (game_item game) totals.now) }
 {
     match game.fault {
         Some(fault) => give_up(alloc, &Unreadable::Tokens(fault), totals),
@@ -47,12 +54,12 @@ fn judge_played(
     game: &Game,
     limits: &Limits,
     certs: bool,
-    totals: &Summary,
-) -> Result<Judged, NoMemory>
-    requires room { HasRoom totals.now }
+    totals: &GameTotals,
+) -> Result<GameBlock, NoMemory>
+    requires room { GameRoom totals.now }
     requires readable { game.now.fault ≡ None }
     requires few { length game.now.words ≤ 12000 }
-    ensures { IfOk result (Judges limits.now certs (played_item game.now (positions game.now.start game.now.words)) totals.now) }
+    ensures { IfOk result (JudgesGame limits.now certs (played_item game.now (positions game.now.start game.now.words)) totals.now) }
 {
     match play(alloc, game) {
         Ok(played) => {
@@ -85,24 +92,24 @@ fn judge_final(
     forfeit: bool,
     limits: &Limits,
     certs: bool,
-    totals: &Summary,
-) -> Result<Judged, NoMemory>
-    requires { HasRoom totals.now }
-    ensures { IfOk result (Judges limits.now certs (PlayedGame position.now recorded forfeit) totals.now) }
+    totals: &GameTotals,
+) -> Result<GameBlock, NoMemory>
+    requires { GameRoom totals.now }
+    ensures { IfOk result (JudgesGame limits.now certs (PlayedGame position.now recorded forfeit) totals.now) }
 {
     let decision = decide(alloc, position, first_examined(recorded), limits)?;
     let standing = state(position);
     let white = &decision.white;
     let black = &decision.black;
     let judgment = ruling(standing, recorded, forfeit, white, black);
-    let number = totals.items + 1;
+    let number = totals.games + 1;
     let block = game_block(
         alloc, number, position, standing, recorded, white, black, judgment, certs,
     )?;
     let changed = changes_result(recorded, judgment);
-    Ok(Judged {
+    Ok(GameBlock {
         block,
-        totals: with_one(totals, false, changed, some_undecided(white, black)),
+        totals: with_game(totals, false, changed, some_undecided(white, black)),
     })
 }
 
@@ -111,12 +118,12 @@ fn judge_stopped(
     alloc: Global,
     game: &Game,
     stop: PlayFault,
-    totals: &Summary,
-) -> Result<Judged, NoMemory>
-    requires room { HasRoom totals.now }
+    totals: &GameTotals,
+) -> Result<GameBlock, NoMemory>
+    requires room { GameRoom totals.now }
     requires of_word { IsNotWantOfMemory stop.fault }
     requires inside { (1 ≤ stop.ply) × (stop.ply ≤ length game.now.words) }
-    ensures { (limits : Bounds) (certs : Bool) → IfOk result (Judges limits certs (UnreadableGame (stopped_by game.now stop)) totals.now) }
+    ensures { (limits : Bounds) (certs : Bool) → IfOk result (JudgesGame limits certs (UnreadableGame (stopped_by game.now stop)) totals.now) }
 {
     let word = &game.words.items()[stop.ply as usize - 1];
     let why = Unreadable::Moves {
@@ -141,13 +148,26 @@ fn lacks_memory(fault: SanFault) -> bool
 }
 
 /// Gives up a game that cannot be read.
-fn give_up(alloc: Global, why: &Unreadable, totals: &Summary) -> Result<Judged, NoMemory>
-    requires room { HasRoom totals.now }
+fn give_up(alloc: Global, why: &Unreadable, totals: &GameTotals) -> Result<GameBlock, NoMemory>
+    requires room { GameRoom totals.now }
     requires of_game { IsReason why.now }
-    ensures { (limits : Bounds) (certs : Bool) → IfOk result (Judges limits certs (UnreadableGame why.now) totals.now) }
+    ensures { (limits : Bounds) (certs : Bool) → IfOk result (JudgesGame limits certs (UnreadableGame why.now) totals.now) }
 {
-    Ok(Judged {
-        block: unreadable_block(alloc, totals.items + 1, why)?,
-        totals: with_one(totals, true, false, false),
+    Ok(GameBlock {
+        block: unreadable_block(alloc, totals.games + 1, why)?,
+        totals: with_game(totals, true, false, false),
     })
+}
+
+/// The totals with one more game, which is unreadable, changed or open.
+fn with_game(totals: &GameTotals, unreadable: bool, changed: bool, undecided: bool) -> GameTotals
+    requires { GameRoom totals.now }
+    ensures { result ≡ game_counted_as totals.now unreadable changed undecided }
+{
+    GameTotals {
+        games: totals.games + 1,
+        unreadable: totals.unreadable + u64::from(unreadable),
+        changed: totals.changed + u64::from(changed),
+        undecided: totals.undecided + u64::from(undecided),
+    }
 }

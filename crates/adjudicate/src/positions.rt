@@ -12,7 +12,7 @@ use crate::writing::{finish, put};
 use cha_list::{Class, all_of};
 use cha_outside::{MOST_BYTES, Sink, Source, Wrote, read_all};
 use cha_verdict::Limits;
-use flag_report::{Summary, position_summary};
+use flag_report::{PositionTotals, position_summary};
 use std::alloc::Global;
 
 /// Judges each line of a source that is not blank, and writes its block, and at the end the summary. It reads the whole
@@ -43,7 +43,7 @@ fn judge_lines<K: Sink>(
     requires { length bytes.now < 2 ^ 62 }
     ensures { IsWritten (JudgePositions limits.now certs) bytes.now result (K.written sink.old) (K.faults sink.old) (K.written sink.new) (K.faults sink.new) }
 {
-    let mut totals = Summary::new();
+    let mut totals = PositionTotals::new();
     let mut rest = bytes;
     while !rest.is_empty() {
         let (line, later) = next_line(rest);

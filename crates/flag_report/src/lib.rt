@@ -22,4 +22,4 @@ pub use positions::{position_block, refused_block};
 pub use reasons::Unreadable;
 pub use rulings::{Cause, Judgment, changes_result, first_examined, ruling};
 pub use status::{PositionStatus, status_of};
-pub use totals::{Summary, game_summary, position_summary};
+pub use totals::{GameTotals, PositionTotals, game_summary, position_summary};

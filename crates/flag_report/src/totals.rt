@@ -7,28 +7,55 @@ use crate::shared_texts::put_count;
 use cha_list::{NoMemory, Text};
 use std::alloc::Global;
 
-/// What is counted over all items of the input, which are games or positions.
+/// What is counted over the games of an input.
 #[derive(Clone, Copy, Debug, PartialEq, Eq)]
-pub struct Summary {
-    /// How many items there are.
-    pub items: u64,
-    /// How many of the games cannot be read, or how many of the positions are refused.
-    pub bad: u64,
-    /// Of the games, how many have another result than the recorded one; of the positions, how many are dead.
-    pub third: u64,
+pub struct GameTotals {
+    /// How many games there are.
+    pub games: u64,
+    /// How many of them cannot be read.
+    pub unreadable: u64,
+    /// How many have another result than the recorded one.
+    pub changed: u64,
     /// How many have a side about which nothing was shown.
     pub undecided: u64,
 }
 
-impl Summary {
-    /// The summary of no items.
-    pub fn new() -> Summary
-        ensures { result ≡ record { items = 0; bad = 0; third = 0; undecided = 0 } }
+/// What is counted over the positions of an input.
+#[derive(Clone, Copy, Debug, PartialEq, Eq)]
+pub struct PositionTotals {
+    /// How many lines there are that are not blank.
+    pub positions: u64,
+    /// How many of them are refused.
+    pub refused: u64,
+    /// How many are dead positions.
+    pub dead: u64,
+    /// How many have a side about which nothing was shown.
+    pub undecided: u64,
+}
+
+impl GameTotals {
+    /// The totals of no games.
+    pub fn new() -> GameTotals
+        ensures { result ≡ record { games = 0; unreadable = 0; changed = 0; undecided = 0 } }
     {
-        Summary {
-            items: 0,
-            bad: 0,
-            third: 0,
+        GameTotals {
+            games: 0,
+            unreadable: 0,
+            changed: 0,
+            undecided: 0,
+        }
+    }
+}
+
+impl PositionTotals {
+    /// The totals of no positions.
+    pub fn new() -> PositionTotals
+        ensures { result ≡ record { positions = 0; refused = 0; dead = 0; undecided = 0 } }
+    {
+        PositionTotals {
+            positions: 0,
+            refused: 0,
+            dead: 0,
             undecided: 0,
         }
     }
@@ -36,28 +63,28 @@ impl Summary {
 
 /// The last line for games, as `games: 2, unreadable: 1, changed: 1, undecided: 0`.
 #[tactic(auto, unfolding(crate::specs::Totals::game_summary_text))]
-pub fn game_summary(alloc: Global, s: &Summary) -> Result<Text, NoMemory>
-    ensures { IfOk result (λ text. text ≡ game_summary_text s.now) }
+pub fn game_summary(alloc: Global, totals: &GameTotals) -> Result<Text, NoMemory>
+    ensures { IfOk result (λ text. text ≡ game_summary_text totals.now) }
 {
     let mut text = Text::new(alloc);
-    put_count(alloc, b"games: ", s.items, &mut text)?;
-    put_count(alloc, b", unreadable: ", s.bad, &mut text)?;
-    put_count(alloc, b", changed: ", s.third, &mut text)?;
-    put_count(alloc, b", undecided: ", s.undecided, &mut text)?;
+    put_count(alloc, b"games: ", totals.games, &mut text)?;
+    put_count(alloc, b", unreadable: ", totals.unreadable, &mut text)?;
+    put_count(alloc, b", changed: ", totals.changed, &mut text)?;
+    put_count(alloc, b", undecided: ", totals.undecided, &mut text)?;
     text.append(b"\n")?;
     Ok(text)
 }
 
 /// The last line for positions, as `positions: 3, refused: 1, dead: 2, undecided: 0`.
 #[tactic(auto, unfolding(crate::specs::Totals::position_summary_text))]
-pub fn position_summary(alloc: Global, s: &Summary) -> Result<Text, NoMemory>
-    ensures { IfOk result (λ text. text ≡ position_summary_text s.now) }
+pub fn position_summary(alloc: Global, totals: &PositionTotals) -> Result<Text, NoMemory>
+    ensures { IfOk result (λ text. text ≡ position_summary_text totals.now) }
 {
     let mut text = Text::new(alloc);
-    put_count(alloc, b"positions: ", s.items, &mut text)?;
-    put_count(alloc, b", refused: ", s.bad, &mut text)?;
-    put_count(alloc, b", dead: ", s.third, &mut text)?;
-    put_count(alloc, b", undecided: ", s.undecided, &mut text)?;
+    put_count(alloc, b"positions: ", totals.positions, &mut text)?;
+    put_count(alloc, b", refused: ", totals.refused, &mut text)?;
+    put_count(alloc, b", dead: ", totals.dead, &mut text)?;
+    put_count(alloc, b", undecided: ", totals.undecided, &mut text)?;
     text.append(b"\n")?;
     Ok(text)
 }

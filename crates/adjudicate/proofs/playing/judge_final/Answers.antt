@@ -1,14 +1,14 @@
 use Rattle.std.proofs.Common.{refl}
-use Rattle.adjudicate.specs.Outcomes.{item_of, IsSoundOutcome, is_bad, is_third, is_open, block}
+use Rattle.adjudicate.specs.Outcomes.{item_of, IsSoundOutcome, is_unreadable, is_changed_game, is_open, block}
 use Rattle.adjudicate.specs.Outcomes.Outcome.{JudgedGame}
 use Rattle.adjudicate.proofs.playing.judge_final.Goals as goal
 
 pub returns : goal.returns
-unfolding item_of IsSoundOutcome is_bad is_third is_open block
+unfolding item_of IsSoundOutcome is_unreadable is_changed_game is_open block
 returns c = (
   JudgedGame c.args.position.now c.args.recorded c.args.forfeit c.in_ok-decision.decision,
   refl,
   rw c.first_examined.ensures at c.in_ok-decision.ensures.sound,
   rw (c.ruling-judgment.ensures, c.state-standing.ensures.value) at c.in_ok-block.ensures,
-  rw (c.changes_result-changed.ensures, c.ruling-judgment.ensures, c.state-standing.ensures.value, c.some_undecided.ensures) at c.with_one.ensures,
+  rw (c.changes_result-changed.ensures, c.ruling-judgment.ensures, c.state-standing.ensures.value, c.some_undecided.ensures) at c.with_game.ensures,
 )

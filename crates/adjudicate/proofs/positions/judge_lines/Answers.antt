@@ -3,14 +3,14 @@ use Rattle.std.proofs.lemmas.Bool.Decides.{nat_tests}
 use Rattle.flag_report.specs.Totals.{position_summary_text}
 use Rattle.adjudicate.specs.Outcomes.{position_items}
 use Rattle.adjudicate.proofs.Items.{blank_line, next_item, no_item}
-use Rattle.adjudicate.proofs.Progress.{nothing_written, one_more, one_counted}
+use Rattle.adjudicate.proofs.Progress.{of_positions, nothing_written, one_more, one_counted, room_for_line}
 use Rattle.adjudicate.proofs.LineLoop.{lines_without_memory, lines_cut, lines_ended}
 use Rattle.adjudicate.proofs.RunEndings.{rose_in}
 use Rattle.adjudicate.proofs.positions.judge_lines.Goals as goal
 
 pub loop-rest-init : goal.loop-rest-init
 loop-rest-init g c = record {
-  written = rw c.new-totals.ensures (nothing_written c.args.limits.now c.args.certs (position_items c.args.bytes.now) (g.K.Sink.written c.args.sink.now));
+  written = rw c.new-totals.ensures (nothing_written of_positions c.args.limits.now c.args.certs (position_items c.args.bytes.now) (g.K.Sink.written c.args.sink.now));
   room = rw c.new-totals.ensures (omega arith);
   later = omega arith;
 }
@@ -36,9 +36,9 @@ returns-in-Failed g c =
 pub loop-rest-preserved : goal.loop-rest-preserved
 loop-rest-preserved g c =
     let next = next_item c.loop-rest.rest.now _ _ c.next_line.ensures.line (sym c.all_of.ensures ∙ c.if-all_of.false) in
-    let counted = one_counted _ _ _ _ c.in-Ok.judged c.in-Ok.ensures in
+    let counted = one_counted of_positions (λ t o. refl) _ _ _ _ c.in-Ok.judged.block c.in-Ok.judged.totals c.in-Ok.ensures in
     record {
-      written = one_more _ _ _ _ _ _ _ _ _ _ c.in-Ok.judged c.loop-rest.invariant.written next c.in-Ok.ensures (rw c.items.ensures at c.in-All.ensures.bytes);
+      written = one_more of_positions _ _ _ _ _ _ _ _ _ _ c.in-Ok.judged.block c.in-Ok.judged.totals c.loop-rest.invariant.written next c.in-Ok.ensures (rw c.items.ensures at c.in-All.ensures.bytes);
       room = omega (arith, counted, c.next_line.ensures.shorter, c.loop-rest.invariant.room);
       later = omega (arith, c.in-All.ensures.cause, c.loop-rest.invariant.later);
     }

@@ -1,0 +1,9 @@
+mod Calling
+mod Waiting
+mod Members
+mod Places
+mod Opening
+mod Popping
+mod Trying
+mod Certifying
+mod Lines

@@ -1,0 +1,45 @@
+-- Whether the node that was taken is a leaf.
+use Rattle.std.proofs.Common.{◌≡◌, ℕ, List, Option, None, Some, IsTrue, slice_get, sym, subst, ◌∙◌}
+use Rattle.std.specs.Option.{IfSome, IfNone}
+use Rattle.std.proofs.lemmas.Option.{same_Some}
+use Rattle.cha_board.specs.declared.men.Color.{Color}
+use Rattle.cha_board.specs.Board.{Board}
+use Rattle.cha_moves.specs.Moves.{is_zeroing}
+use Rattle.mob_law.specs.Closed.{IsClosed}
+use Rattle.mob_law.specs.Threats.{HasNoMate}
+use Rattle.mob_law.specs.Static.{IsStaticallyUnwinnable}
+use Rattle.mob_sets.specs.Rows.{SetRows, sets_of}
+use Rattle.cha_cert.specs.declared.nodes.Part.TheVariants.{Leaf}
+use Rattle.cha_cert.specs.Certificates.{LeafHolds}
+use Rattle.node_store.specs.declared.origin.Origin.{Origin}
+use Rattle.node_store.specs.Nodes.{Node, origins, IsAt}
+use Rattle.forced_graph.specs.Regions.{IsLeaf, IsLeafPart, IsOpen}
+
+-- the root came by no move
+pub open_root : (nodes : List Node) (name : ℕ) (w : Color) → slice_get (origins nodes) name ≡ Some None → IsOpen nodes name w
+unfolding IsOpen
+open_root nodes name w none o p q from parent here zeroing shown = cc
+
+-- the move was neither a capture nor a pawn's
+pub open_quiet : (nodes : List Node) (name : ℕ) (w : Color) (o : Origin) (p : Board) → slice_get (origins nodes) name ≡ Some (Some o) → IsAt nodes o.parent p → (IsTrue (is_zeroing p o.by) → ⊥) → IsOpen nodes name w
+unfolding IsOpen
+open_quiet nodes name w o p from at quiet o2 p2 q from2 at2 here zeroing shown =
+    let o_is : o2 ≡ o = same_Some o2 o (same_Some (Some o2) (Some o) (sym from2 ∙ from)) in
+    let p_at : IsAt nodes o.parent p2 = subst (λ (x : Origin). IsAt nodes x.parent p2) o_is at2 in
+    let p_is : p2 ≡ p = same_Some p2 p (sym p_at ∙ at) in
+    quiet (subst (λ (b : Board). IsTrue (is_zeroing b o.by)) p_is (subst (λ (x : Origin). IsTrue (is_zeroing p2 x.by)) o_is zeroing))
+
+-- no closed sets are without a mate
+pub open_unshown : (nodes : List Node) (name : ℕ) (w : Color) (q : Board) (verdict : Option SetRows) → IsAt nodes name q → verdict ≡ None → IfNone verdict (IsStaticallyUnwinnable q w → ⊥) → IsOpen nodes name w
+unfolding IsOpen
+open_unshown nodes name w q (Some sets) at none unshown o p q2 from parent here zeroing shown = cc
+open_unshown nodes name w q None at none unshown o p q2 from parent here zeroing shown =
+    unshown (subst (λ (b : Board). IsStaticallyUnwinnable b w) (same_Some q2 q (sym here ∙ at)) shown)
+
+-- these are
+pub leaf_shown : (nodes : List Node) (name : ℕ) (w : Color) (q : Board) (verdict : Option SetRows) (sets : SetRows) → IsAt nodes name q → verdict ≡ Some sets → IfSome verdict (λ s. IsClosed q (sets_of s)) → IfSome verdict (λ s. HasNoMate q (sets_of s) w) → IsLeafPart nodes name w (Leaf sets)
+unfolding IsLeafPart IsLeaf
+leaf_shown nodes name w q None sets at some closed no_mate q2 here = cc
+leaf_shown nodes name w q (Some s) sets at some closed no_mate q2 here =
+    let holds : LeafHolds w q s = record { closed = closed; no_mate = no_mate } in
+    subst (λ (b : Board). LeafHolds w b sets) (same_Some q q2 (sym at ∙ here)) (subst (LeafHolds w q) (same_Some s sets some) holds)

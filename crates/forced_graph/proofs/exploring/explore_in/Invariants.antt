@@ -1,0 +1,16 @@
+use Rattle.std.proofs.Common.{◌-◌, ◌≤◌}
+use Rattle.forced_graph.specs.Regions.{IsBetween, IsTaskOf}
+use Rattle.forced_graph.proofs.Calling.{HasMade}
+use Rattle.forced_graph.proofs.exploring.explore_in.Given as goal
+
+abbrev pub invariant-loop-region : goal.invariant-loop-region
+invariant-loop-region g l = record {
+  ready : g.F.Facts.ready l.facts;
+  between : IsBetween l.region;
+  task : IsTaskOf l.position l.winner l.region;
+  few : l.region.count ≤ l.budget;
+  calls : HasMade g.F.Facts.made l.fn.facts l.facts;
+}
+
+abbrev pub decreases-loop-region : goal.decreases-loop-region
+decreases-loop-region g l = l.budget - l.region.count

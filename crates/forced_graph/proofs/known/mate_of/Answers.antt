@@ -1,0 +1,13 @@
+use Rattle.std.proofs.Common.{List, sym, ◌∙◌, subst}
+use Rattle.cha_fact.specs.declared.fact.Fact.TheVariants.{Mate}
+use Rattle.cha_moves.specs.Step.{Move}
+use Rattle.cha_moves.specs.Ends.{IsMatingLine}
+use Rattle.forced_graph.proofs.Lines.{true_of_asked}
+use Rattle.forced_graph.proofs.known.mate_of.Goals as goal
+
+pub returns-in-Mate : goal.returns-in-Mate
+returns-in-Mate c =
+    let row = c.args.row.now in
+    let L : List Move → Type 0 = λ l. IsMatingLine c.args.position.now c.args.winner l in
+    subst L (sym c.copy.ensures)
+    (true_of_asked c.position-valid.result row.position c.args.position.now row.winner c.args.winner row.fact (Mate c.in-Mate.line) c.position-valid.ensures.valid c.position-valid.ensures.value c.known.ensures c.requires c.fact.ensures.holds (sym c.fact.ensures.value ∙ c.in-Mate.is))

@@ -1,0 +1,53 @@
+//! The exploration.
+
+ghost use Rattle.std.specs.Prelude.{◌≡◌, ◌<◌, List, IfOk};
+ghost use Rattle.cha_board.specs.Men.{other_color};
+ghost use Rattle.cha_moves.specs.Ends.{IsMated};
+ghost use Rattle.cha_fact.specs.Entries.{Entry};
+ghost use Rattle.mob_law.specs.Static.{IsStaticallyUnwinnable};
+ghost use Rattle.forced_graph.specs.Outcomes.{IsOutcome, HasManyIfSpent};
+
+use crate::explored::Explored;
+use crate::known::known_mate;
+use crate::region::Region;
+use cha_board::{Color, Position};
+use cha_fact::Facts;
+use cha_list::NoMemory;
+use std::alloc::Global;
+
+/// Explores what legal moves reach from a position that is no mate for the winner and not statically unwinnable for it, the
+/// position first that the guide puts first. At most `budget` positions are expanded. Where a move changed a position for
+/// good and its closed sets have no mate, it is a leaf, which is never expanded and costs nothing.
+///
+/// A place that keeps facts is asked for each position that is expanded; a mate that it knows ends the exploration.
+pub fn explore_in<F: Facts>(
+    alloc: Global,
+    position: &Position,
+    winner: Color,
+    budget: u32,
+    facts: &mut F,
+) -> Result<Explored, NoMemory>
+    requires ready { F.ready facts.old }
+    requires some { 0 < budget }
+    requires running { IsMated position.now (other_color winner) → ⊥ }
+    requires unshown { IsStaticallyUnwinnable position.now winner → ⊥ }
+    ensures stays_ready { F.ready facts.new }
+    ensures holds { IfOk result (IsOutcome position.now winner budget) }
+    ensures many { IfOk result (HasManyIfSpent position.now budget) }
+    ensures calls { (entries : List Entry) × F.made facts.old entries facts.new }
+{
+    let mut region = Region::new(alloc, position, winner)?;
+    while let Some(name) = region.next(alloc)? {
+        if region.count == budget {
+            return Ok(Explored::Spent { count: budget });
+        }
+        let here = region.store.position(name);
+        if let Some(line) = known_mate(&here, winner, facts) {
+            return Ok(Explored::Mate(region.line_by(alloc, name, line.moves())?));
+        }
+        if let Some(moves) = region.expand(alloc, name)? {
+            return Ok(Explored::Mate(moves));
+        }
+    }
+    Ok(Explored::Closed(region.into_cert(alloc)?))
+}

@@ -1,0 +1,18 @@
+//! Moves that change a position for good.
+
+ghost use Rattle.std.specs.Prelude.{IsTrue};
+ghost use Rattle.cha_moves.specs.Moves.{is_zeroing};
+
+use cha_board::{Kind, Position, is_man_of};
+use cha_moves::Move;
+
+/// Whether a move changes what no later move brings back: a capture, a pawn's move, or one by which a castling right or an
+/// en passant target goes. Only after such a move can closed sets be smaller than they were.
+pub fn is_lasting(before: &Position, by: Move, next: &Position) -> bool
+    ensures { IsTrue (is_zeroing before.now by) → IsTrue result }
+{
+    is_man_of(before.man(by.from), before.side(), Kind::Pawn)
+        || before.man(by.to).is_some()
+        || before.rights() != next.rights()
+        || before.target().is_some()
+}

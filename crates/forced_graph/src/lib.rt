@@ -1,0 +1,24 @@
+//! The exploration of all that can be reached from a position, guided, until a mate is met, nothing waits, or as many
+//! positions were expanded as are allowed.
+//!
+//! `explored` has what an exploration answers, `region` the positions that were met, `lasting` the moves after which a
+//! position is looked at by its sets, `taking` how the next one is taken, `expanding` how it is expanded, `closing` the
+//! certificate of a whole region, `known` what a place that keeps facts knows, `exploring` the exploration, and
+//! `table_exploring` the same at a table of facts.
+#![tactic(auto)]
+
+mod closing;
+mod expanding;
+mod explored;
+mod exploring;
+mod known;
+mod lasting;
+mod region;
+mod table_exploring;
+mod taking;
+#[cfg(test)]
+mod tests;
+
+pub use explored::Explored;
+pub use exploring::explore_in;
+pub use table_exploring::explore;

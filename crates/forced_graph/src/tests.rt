@@ -1,0 +1,154 @@
+//! Positions whose end is known.
+
+ghost use Rattle.std.specs.Prelude.{IfOk};
+ghost use Rattle.cha_board.specs.Men.{other_color};
+ghost use Rattle.cha_moves.specs.Ends.{IsMated};
+ghost use Rattle.mob_law.specs.Static.{IsStaticallyUnwinnable};
+
+use crate::{Explored, explore, explore_in};
+use cha_board::{Color, Position, Square, same_position};
+use cha_cert::{Checked, Part, check};
+use cha_fact::{Facts, Line, Proved};
+use cha_fen::read;
+use cha_moves::{Move, is_mate, replays};
+use mob_solve::static_verdict;
+use shard_table::{Shard, Table};
+use std::alloc::Global;
+use std::test::Fail;
+
+/// A lone queen is taken by the only move, and bare kings are left.
+const QUEEN_TAKEN: &str = "k7/1Q6/8/8/8/8/8/4K3 b - -";
+
+const BARE_KINGS: &str = "8/1k6/8/8/8/8/8/4K3 w - -";
+
+/// A rook mates on the last rank.
+const LAST_RANK: &str = "6k1/5ppp/8/8/8/8/5PPP/3R2K1 b - -";
+
+/// A lone knight mates nowhere, while a queen goes everywhere.
+const LONE_KNIGHT: &str = "8/8/8/4k3/3q4/8/8/4KN2 w - -";
+
+fn place(fen: &str) -> Result<Position, Fail> {
+    match read(fen.as_bytes()) {
+        Ok(position) => Ok(position),
+        Err(_) => Err("no position")?,
+    }
+}
+
+/// That an exploration for White may begin.
+fn begins(alloc: Global, position: &Position) -> Result<(), Fail>
+    ensures running { IfOk result (λ _. IsMated position.now (other_color Color.White) → ⊥) }
+    ensures unshown { IfOk result (λ _. IsStaticallyUnwinnable position.now Color.White → ⊥) }
+{
+    if is_mate(position, Color::White) {
+        Err("a mate")?;
+    }
+    match static_verdict(alloc, position, Color::White)? {
+        Some(_) => Err("decided by its sets")?,
+        None => Ok(()),
+    }
+}
+
+/// Whether the answer is a certificate of two nodes: the position, and bare kings as a leaf.
+fn is_two_nodes(alloc: Global, position: &Position, explored: &Explored) -> Result<bool, Fail> {
+    let Explored::Closed(cert) = explored else {
+        return Ok(false);
+    };
+    let nodes = cert.nodes();
+    if nodes.len() != 2 || check(alloc, position, Color::White, cert)? != Checked::Accepted {
+        return Ok(false);
+    }
+    Ok(
+        matches!(&nodes[0].part, Part::Inner)
+            && matches!(&nodes[1].part, Part::Leaf(_))
+            && same_position(&nodes[0].position, position)
+            && same_position(&nodes[1].position, &place(BARE_KINGS)?),
+    )
+}
+
+/// Explores for White with a place of one's own, where it may begin.
+fn explored(
+    alloc: Global,
+    position: &Position,
+    budget: u32,
+    shard: &mut Shard,
+) -> Result<Explored, Fail> {
+    if budget == 0 {
+        Err("no budget")?;
+    }
+    begins(alloc, position)?;
+    Ok(explore_in(alloc, position, Color::White, budget, shard)?)
+}
+
+#[test]
+fn a_graph_that_a_capture_ends_is_closed(rt: HostRuntime) -> Result<(), Fail> {
+    let alloc = rt.alloc();
+    let position = place(QUEEN_TAKEN)?;
+    let mut shard = Shard::new(alloc, 16)?;
+    let closed = explored(alloc, &position, 1, &mut shard)?;
+    assert!(rt; is_two_nodes(alloc, &position, &closed)?);
+    Ok(())
+}
+
+#[test]
+fn a_mate_is_found_with_its_line(rt: HostRuntime) -> Result<(), Fail> {
+    let alloc = rt.alloc();
+    let position = place(LAST_RANK)?;
+    let mut shard = Shard::new(alloc, 16)?;
+    match explored(alloc, &position, 1000, &mut shard)? {
+        Explored::Mate(moves) => {
+            assert!(rt; replays(&position, Color::White, moves.items()));
+        }
+        _ => Err("no mate")?,
+    }
+    Ok(())
+}
+
+#[test]
+fn a_budget_is_spent_to_the_last(rt: HostRuntime) -> Result<(), Fail> {
+    let alloc = rt.alloc();
+    let position = place(LONE_KNIGHT)?;
+    let mut shard = Shard::new(alloc, 16)?;
+    match explored(alloc, &position, 50, &mut shard)? {
+        Explored::Spent { count } => {
+            assert_eq!(rt; count, 50);
+        }
+        _ => Err("not spent")?,
+    }
+    Ok(())
+}
+
+#[test]
+fn a_mate_that_a_place_knows_ends_it(rt: HostRuntime) -> Result<(), Fail> {
+    let alloc = rt.alloc();
+    let position = place("7k/8/6K1/8/8/8/8/R7 w - -")?;
+    let mut shard = Shard::new(alloc, 16)?;
+    let mut line = Line::new();
+    let first = Move {
+        from: Square::new(0).ok_or("no square")?,
+        to: Square::new(56).ok_or("no square")?,
+        promotion: None,
+    };
+    line.push(first);
+    if !replays(&position, Color::White, line.moves()) {
+        Err("no mate")?;
+    }
+    let _stored = shard.store(Proved::mate(&position, Color::White, line));
+    match explored(alloc, &position, 1, &mut shard)? {
+        Explored::Mate(moves) => {
+            assert!(rt; moves.items() == [first].as_slice());
+        }
+        _ => Err("no mate")?,
+    }
+    Ok(())
+}
+
+#[test]
+fn a_table_is_asked_too(rt: HostRuntime) -> Result<(), Fail> {
+    let alloc = rt.alloc();
+    let position = place(QUEEN_TAKEN)?;
+    let (table, mut pass) = Table::new(alloc, 1024)?;
+    begins(alloc, &position)?;
+    let closed = explore(&rt, alloc, &position, Color::White, 1, &table, &mut pass)?;
+    assert!(rt; is_two_nodes(alloc, &position, &closed)?);
+    Ok(())
+}

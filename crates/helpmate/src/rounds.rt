@@ -1,6 +1,6 @@
 //! A round: the search of a position to a depth, and how many positions it expanded.
 
-ghost use Rattle.std.specs.Prelude.{◌≡◌, ◌≤◌, Some, IsNone, Ok, IfOk};
+ghost use Rattle.std.specs.Prelude.{◌≡◌, ◌+◌, ◌≤◌, Some, IsNone, Ok, IfOk};
 ghost use Rattle.helpmate.specs.Lines.{AreUnits};
 ghost use Rattle.helpmate.specs.Rounds.{IsAnswer, IsAllowed, RoundCalls};
 
@@ -15,7 +15,7 @@ use std::alloc::Global;
 /// Looks for a mate for a side within `depth` plies, with a place that keeps facts. At most `allowance` positions are
 /// expanded, if one is given; else the depth is at most 2.
 ///
-/// A mate that the place knows may have more plies than the depth.
+/// A mate that the place knows may have more plies than the depth, at most 32. No line has more than these and the depth.
 pub fn round_in<F: Facts>(
     alloc: Global,
     position: &Position,
@@ -28,7 +28,7 @@ pub fn round_in<F: Facts>(
     requires few { depth ≤ 8 }
     requires bounded { IsNone allowance → depth ≤ 2 }
     ensures stays_ready { F.ready facts.new }
-    ensures holds { IfOk result (λ done. IsAnswer position.now winner depth 40 done.round) }
+    ensures holds { IfOk result (λ done. IsAnswer position.now winner depth (32 + depth) done.round) }
     ensures allowed { IfOk result (λ done. IsAllowed allowance done.units) }
     ensures units { IfOk result (λ done. AreUnits position.now depth done.units) }
     ensures spent { IfOk result (λ done. done.round ≡ RoundAnswer.Spent → allowance ≡ Some done.units) }

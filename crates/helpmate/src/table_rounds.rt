@@ -1,6 +1,6 @@
 //! A round at a table at which others take turns too.
 
-ghost use Rattle.std.specs.Prelude.{◌≡◌, ◌≤◌, Some, IsNone, IfOk};
+ghost use Rattle.std.specs.Prelude.{◌≡◌, ◌+◌, ◌≤◌, Some, IsNone, IfOk};
 ghost use Rattle.shard_table.specs.Tables.{IsOfTable};
 ghost use Rattle.shard_table.specs.Makes.{Makes};
 ghost use Rattle.helpmate.specs.Lines.{AreUnits};
@@ -30,7 +30,7 @@ pub fn round<R: Wait>(
     requires few { depth ≤ 8 }
     requires bounded { IsNone allowance → depth ≤ 2 }
     ensures of { IsOfTable table.now pass.new }
-    ensures holds { IfOk result (λ done. IsAnswer position.now winner depth 40 done.round) }
+    ensures holds { IfOk result (λ done. IsAnswer position.now winner depth (32 + depth) done.round) }
     ensures allowed { IfOk result (λ done. IsAllowed allowance done.units) }
     ensures units { IfOk result (λ done. AreUnits position.now depth done.units) }
     ensures spent { IfOk result (λ done. done.round ≡ RoundAnswer.Spent → allowance ≡ Some done.units) }

@@ -1,0 +1,132 @@
+-- The rounds one after the other, and their calls.
+use Rattle.std.proofs.Common.{◌≡◌, ℕ, zero, suc, ◌+◌, ◌-◌, ◌%◌, ◌<◌, ◌≤◌, ◌⊎◌, List, [], ◌∷◌, ◌++◌, length, Option, Some, None, Result, Ok, inl, inr, refl, sym, ◌∙◌, ap, subst, arith}
+use Rattle.std.specs.List.{Contains, slice_get}
+use Rattle.std.proofs.lemmas.List.Elements.{Contains-append_left, Contains-append_right}
+use Rattle.std.proofs.lemmas.Option.{same_Some}
+use Rattle.cha_list.specs.declared.memory.NoMemory.{NoMemory}
+use Rattle.cha_board.specs.declared.men.Color.{Color}
+use Rattle.cha_board.specs.Board.{Board}
+use Rattle.cha_moves.specs.Step.{Move}
+use Rattle.cha_moves.specs.Moves.{after, legal}
+use Rattle.cha_moves.specs.Ends.{IsMatingLine, HasNoMateWithin}
+use Rattle.cha_moves.specs.Lines.{HasLines}
+use Rattle.cha_verdict.specs.Bounds.{Bounds}
+use Rattle.cha_fact.specs.declared.calls.Stored.{Stored}
+use Rattle.cha_fact.specs.Truths.{Claim}
+use Rattle.cha_fact.specs.Entries.{Entry, store_entry, IsSearched}
+use Rattle.cha_fact.proofs.Searching.{Within, searched_more}
+use Rattle.root_workers.specs.declared.task.Task.{Task}
+use Rattle.root_workers.specs.declared.work.Work.{Work}
+use Rattle.root_workers.specs.declared.answers.RoundsEnd.{RoundsEnd}
+use Rattle.root_workers.specs.declared.answers.RoundsEnd.TheVariants.{Mate, NoneWithin}
+use Rattle.root_workers.specs.declared.answers.RoundsDone.{RoundsDone}
+use Rattle.root_workers.specs.Shares.{IsWhole, IsShare, IsSpent, AreSharesSearched, ShareCalls, AllGrow}
+use Rattle.root_workers.specs.Ends.{IsEnd, IsAmple, claim_of, HasEndStore}
+use Rattle.root_workers.specs.Gathers.{AreShares, AreWhole}
+use Rattle.root_workers.specs.Deepens.{WorkerCalls, CrewCalls, RoundSearches, DeepenCalls, KeepCalls, KeptCalls}
+
+front_within : (xs ys : List Entry) → Within xs (xs ++ ys)
+front_within xs ys e there = Contains-append_left xs ys e there
+
+back_within : (xs ys : List Entry) → Within ys (xs ++ ys)
+back_within xs ys e there = Contains-append_right xs ys e there
+
+shares_within : (xs ys : List Entry) (q : Board) (w : Color) (d : ℕ) (moves : List Move) (number count : ℕ) → Within xs ys → AreSharesSearched xs q w d moves number count → AreSharesSearched ys q w d moves number count
+unfolding AreSharesSearched
+shares_within xs ys q w d moves number count all searched i m at own = searched_more xs ys all (after q m) w d (searched i m at own)
+
+-- the shares of a crew after a round
+pub are_shares : (leaves : ℕ → Work → Type 0) (task : Task) (moves : List Move) (count more : ℕ) → ((i : ℕ) (work : Work) → i < count → leaves i work → IsShare task moves i count work) → more ≡ count → AreShares leaves task moves more
+unfolding AreShares
+are_shares leaves task moves count more each same =
+    subst (λ (n : ℕ). (i : ℕ) (work : Work) → i < n → leaves i work → IsShare task moves i n work) (sym same) each
+
+-- where all workers cleared their root moves they searched them
+pub round_searches : {S : Type 0} (made_by : ℕ → S → List Entry → S → Type 0) (leaves : ℕ → Work → Type 0) (old new : S) (task : Task) (moves : List Move) (count more : ℕ)
+    → ((i : ℕ) (work : Work) → i < count → leaves i work → ShareCalls (made_by i) old new task moves i count work) → AreWhole leaves more → more ≡ count → moves ≡ legal task.position → RoundSearches made_by old new task count
+unfolding RoundSearches ShareCalls AreWhole
+round_searches made_by leaves old new task moves count more calls whole same listed i less =
+    let w = whole i (omega (arith, less, same)) in
+    let c = calls i w.0 less w.1 in
+    (c.0, c.1, subst (λ (ms : List Move). AreSharesSearched c.0 task.position task.winner (task.depth - 1) ms i count) listed (c.2 w.2))
+
+pub no_calls : {S : Type 0} (made_by : ℕ → S → List Entry → S → Type 0) (s : S) (q : Board) (w : Color) (from count : ℕ) → ((i : ℕ) (s : S) → made_by i s [] s) → CrewCalls made_by s s q w from from count
+unfolding CrewCalls WorkerCalls
+no_calls made_by s q w from count none i less = ([], none i s, (λ more. absurd (omega (arith, more))))
+
+-- one more round
+pub round_more : {S : Type 0} (made_by : ℕ → S → List Entry → S → Type 0) (old mid new : S) (q : Board) (w : Color) (from depth count other : ℕ) (task : Task)
+    → ((i : ℕ) (a b c : S) (xs ys : List Entry) → made_by i a xs b → made_by i b ys c → made_by i a (xs ++ ys) c)
+    → CrewCalls made_by old mid q w from depth count → RoundSearches made_by mid new task other → other ≡ count → task.position ≡ q → task.winner ≡ w → task.depth ≡ depth + 1 → CrewCalls made_by old new q w from (depth + 1) count
+unfolding CrewCalls WorkerCalls RoundSearches
+round_more made_by old mid new q w from depth count other task both before here same board side plies i less =
+    let b = before i less in
+    let h = here i (omega (arith, less, same)) in
+    let e : task.depth - 1 ≡ depth + 1 - 1 = omega arith in
+    let one = subst (λ (n : ℕ). AreSharesSearched h.0 task.position task.winner n (legal task.position) i other) e h.2 in
+    let two = subst (λ (n : ℕ). AreSharesSearched h.0 task.position task.winner (depth + 1 - 1) (legal task.position) i n) same one in
+    let three = subst (λ (x : Color). AreSharesSearched h.0 task.position x (depth + 1 - 1) (legal task.position) i count) side two in
+    let four = subst (λ (x : Board). AreSharesSearched h.0 x w (depth + 1 - 1) (legal x) i count) board three in
+    (b.0 ++ h.0, both i old mid new b.0 h.0 b.1 h.1, (λ more. shares_within h.0 (b.0 ++ h.0) q w (depth + 1 - 1) (legal q) i count (back_within b.0 h.0) four))
+
+-- a round ends the rounds
+pub ends_rounds : {S : Type 0} (made_by : ℕ → S → List Entry → S → Type 0) (old mid new : S) (q : Board) (w : Color) (from depth count other : ℕ) (result : Result RoundsDone NoMemory)
+    → ((i : ℕ) (a b c : S) (xs ys : List Entry) → made_by i a xs b → made_by i b ys c → made_by i a (xs ++ ys) c)
+    → CrewCalls made_by old mid q w from depth count → AllGrow made_by mid new other → other ≡ count → ((done : RoundsDone) (d : ℕ) → result ≡ Ok done → done.end ≡ NoneWithin d → d ≡ depth) → DeepenCalls made_by old new q w from count result
+unfolding CrewCalls WorkerCalls AllGrow DeepenCalls
+ends_rounds made_by old mid new q w from depth count other result both before grow same depths i less =
+    let b = before i less in
+    let h = grow i (omega (arith, less, same)) in (
+      b.0 ++ h.0,
+      both i old mid new b.0 h.0 b.1 h.1,
+      (λ done d is end more.
+          let e = depths done d is end in
+          let P : ℕ → Type 0 = λ n. AreSharesSearched (b.0 ++ h.0) q w (n - 1) (legal q) i count in
+          subst P (sym e) (shares_within b.0 (b.0 ++ h.0) q w (depth - 1) (legal q) i count (front_within b.0 h.0) (b.2 (omega (arith, more, e))))),
+    )
+
+-- the last round is done
+pub last_round : {S : Type 0} (made_by : ℕ → S → List Entry → S → Type 0) (old new : S) (q : Board) (w : Color) (from depth count : ℕ) (result : Result RoundsDone NoMemory)
+    → CrewCalls made_by old new q w from depth count → ((done : RoundsDone) (d : ℕ) → result ≡ Ok done → done.end ≡ NoneWithin d → d ≡ depth) → DeepenCalls made_by old new q w from count result
+unfolding CrewCalls WorkerCalls DeepenCalls
+last_round made_by old new q w from depth count result before depths i less =
+    let b = before i less in (
+      b.0,
+      b.1,
+      (λ done d is end more.
+          let e = depths done d is end in
+          let P : ℕ → Type 0 = λ n. AreSharesSearched b.0 q w (n - 1) (legal q) i count in
+          subst P (sym e) (b.2 (omega (arith, more, e)))),
+    )
+
+the_done : (a b : RoundsDone) (o : Result RoundsDone NoMemory) → o ≡ Ok a → o ≡ Ok b → a ≡ b
+the_done a b o e f = cc
+
+none_depth : (d e : ℕ) → NoneWithin d ≡ NoneWithin e → d ≡ e
+none_depth d e same = cc
+
+not_mate : (line : List Move) (d : ℕ) (P : Type 0) → Mate line ≡ NoneWithin d → P
+not_mate line d P same = cc
+
+pub depth_is : (depth units : ℕ) (done : RoundsDone) (d : ℕ) → (let o : Result RoundsDone NoMemory = Ok (record { end = NoneWithin depth; units = units }) in o) ≡ Ok done → done.end ≡ NoneWithin d → d ≡ depth
+depth_is depth units done d is end =
+    let e = the_done (record { end = NoneWithin depth; units = units }) done (Ok (record { end = NoneWithin depth; units = units })) refl is in
+    sym (none_depth depth d (ap (λ (x : RoundsDone). x.end) e ∙ end))
+
+pub mate_is_none : (line : List Move) (units : ℕ) (done : RoundsDone) (d depth : ℕ) → (let o : Result RoundsDone NoMemory = Ok (record { end = Mate line; units = units }) in o) ≡ Ok done → done.end ≡ NoneWithin d → d ≡ depth
+mate_is_none line units done d depth is end =
+    let e = the_done (record { end = Mate line; units = units }) done (Ok (record { end = Mate line; units = units })) refl is in
+    not_mate line d (d ≡ depth) (ap (λ (x : RoundsDone). x.end) e ∙ end)
+
+pub keeps : {S : Type 0} (made : S → List Entry → S → Type 0) (old new : S) (row claim : Claim) (reply : Stored) → made old (store_entry row reply ∷ []) new → row ≡ claim → KeepCalls made old new claim
+unfolding KeepCalls
+keeps made old new row claim reply stored is = (reply, subst (λ (r : Claim). made old (store_entry r reply ∷ []) new) is stored)
+
+-- what a round spent is the budget
+pub spent_lines : (task : Task) (depth budget : ℕ) → IsSpent task → task.depth ≡ depth + 1 → ((n : ℕ) → task.allowance ≡ Some n → (3 ≤ depth + 1) × (n ≡ budget)) → HasLines task.position depth budget × (2 ≤ depth)
+unfolding IsSpent
+spent_lines task depth budget spent plies bound =
+    let b = bound spent.0 spent.1 in
+    let e : task.depth - 1 ≡ depth = omega arith in
+    let more = b.0 in
+    (subst (λ (n : ℕ). HasLines task.position depth n) b.1 (subst (λ (d : ℕ). HasLines task.position d spent.0) e spent.2), omega arith)

@@ -1,0 +1,5 @@
+pub mod Numbering
+pub mod Sharing
+pub mod Gathering
+pub mod Going
+pub mod Ending

@@ -1,0 +1,9 @@
+use Rattle.std.proofs.Common.{sym, ◌∙◌, arith}
+use Rattle.cha_fact.specs.declared.fact.Fact.TheVariants.{NoneWithin}
+use Rattle.helpmate.proofs.Saying.{true_of_asked}
+use Rattle.root_workers.proofs.deepening.known_plies.Goals as goal
+
+pub returns-in-NoneWithin-clause-none : goal.returns-in-NoneWithin-clause-none
+returns-in-NoneWithin-clause-none c =
+    let row = c.args.row.now in
+    true_of_asked c.position-valid.result row.position c.args.position.now row.winner c.args.winner row.fact (NoneWithin c.in-NoneWithin.within) c.position-valid.ensures.valid c.position-valid.ensures.value c.known.ensures c.requires.key c.fact.ensures.holds (sym c.fact.ensures.value ∙ c.in-NoneWithin.is)

@@ -1,0 +1,18 @@
+use Rattle.std.proofs.Common.{◌≡◌, Ok, List, refl, sym, ◌∙◌}
+use Rattle.cha_list.specs.declared.memory.NoMemory.{NoMemory}
+use Rattle.cha_moves.specs.Step.{Move}
+use Rattle.root_workers.proofs.Gathering.{no_mate_behind, share_at, root_found, same_mate_answer}
+use Rattle.root_workers.proofs.gather.gather.Goals as goal
+
+pub returns-then-are_whole-clause-holds : goal.returns-then-are_whole-clause-holds
+returns-then-are_whole-clause-holds g c = no_mate_behind (g.C.Crew.leaves c.args.crew.now) c.args.task.now c.args.moves.now (g.C.Crew.count c.args.crew.now) c.if-are_whole.ensures.some c.requires.shares (c.if-are_whole.ensures.whole refl) c.requires.listed c.requires.running
+
+pub returns-in-Some-clause-lowest : goal.returns-in-Some-clause-lowest
+returns-in-Some-clause-lowest g c = λ line is.
+    let f = root_found c.args.task.now c.args.moves.now c.in-Some.mate c.in-Some.ensures.holds in
+    (c.in-Some.mate, f.0, f.1, same_mate_answer line c.led.result is ∙ c.led.ensures.begins f.0 f.1, c.in-Some.ensures.lowest)
+
+pub returns-then-is_spent-clause-spent : goal.returns-then-is_spent-clause-spent
+returns-then-is_spent-clause-spent g c = λ _.
+    let h = c.if-is_spent.ensures refl in
+    (share_at (g.C.Crew.leaves c.args.crew.now) c.args.task.now c.args.moves.now (g.C.Crew.count c.args.crew.now) h.0 h.1 c.requires.shares h.2 h.3).spent h.4

@@ -1,0 +1,57 @@
+-- The rounds from a depth on (this project).
+use Rattle.std.specs.Prelude.{◌≡◌, ℕ, ◌-◌, ◌<◌, ◌≤◌, ⊤, List, [], ◌∷◌, Result, Ok}
+use Rattle.cha_list.specs.declared.memory.NoMemory.{NoMemory}
+use Rattle.cha_board.specs.declared.men.Color.{Color}
+use Rattle.cha_board.specs.Board.{Board}
+use Rattle.cha_moves.specs.Moves.{legal}
+use Rattle.cha_verdict.specs.Bounds.{Bounds}
+use Rattle.cha_fact.specs.declared.fact.Fact.{Fact}
+use Rattle.cha_fact.specs.declared.fact.Fact.TheVariants.{Mate as MateFact, NoneWithin as NoneFact}
+use Rattle.cha_fact.specs.declared.calls.Stored.{Stored}
+use Rattle.cha_fact.specs.Truths.{Claim}
+use Rattle.cha_fact.specs.Entries.{Entry, store_entry}
+use Rattle.root_workers.specs.declared.task.Task.{Task}
+use Rattle.root_workers.specs.declared.answers.RoundsEnd.{RoundsEnd}
+use Rattle.root_workers.specs.declared.answers.RoundsEnd.TheVariants.{Mate, NoneWithin}
+use Rattle.root_workers.specs.declared.answers.RoundsDone.{RoundsDone}
+use Rattle.root_workers.specs.Shares.{AreSharesSearched}
+use Rattle.root_workers.specs.Ends.{claim_of, HasEndStore}
+
+-- up to which depth a fact shows that there is no mate
+abbrev pub plies_of : Fact → ℕ
+plies_of (MateFact line) = 0
+plies_of (NoneFact n) = n
+
+-- the answer is of a depth from one on
+abbrev pub IsFrom : ℕ → RoundsEnd → Type 0
+IsFrom from (Mate line) = ⊤
+IsFrom from (NoneWithin d) = from ≤ d
+
+-- the calls of worker i: each of its root moves was searched to one ply less than a depth, where a round was done
+unfoldable pub WorkerCalls : {S : Type 0} → (ℕ → S → List Entry → S → Type 0) → S → S → Board → Color → ℕ → ℕ → ℕ → ℕ → Type 0
+WorkerCalls made_by old new q w from depth i count =
+    (entries : List Entry) × made_by i old entries new × (from < depth → AreSharesSearched entries q w (depth - 1) (legal q) i count)
+
+-- the calls of all workers
+unfoldable pub CrewCalls : {S : Type 0} → (ℕ → S → List Entry → S → Type 0) → S → S → Board → Color → ℕ → ℕ → ℕ → Type 0
+CrewCalls made_by old new q w from depth count = (i : ℕ) → i < count → WorkerCalls made_by old new q w from depth i count
+
+-- the calls of one round that found no mate
+unfoldable pub RoundSearches : {S : Type 0} → (ℕ → S → List Entry → S → Type 0) → S → S → Task → ℕ → Type 0
+RoundSearches made_by old new task count =
+    (i : ℕ) → i < count → (entries : List Entry) × made_by i old entries new × AreSharesSearched entries task.position task.winner (task.depth - 1) (legal task.position) i count
+
+-- the calls of the rounds from a depth on: where there is no mate within d plies, and d is more than that depth, each root move
+-- was searched to one ply less by its worker
+unfoldable pub DeepenCalls : {S : Type 0} → (ℕ → S → List Entry → S → Type 0) → S → S → Board → Color → ℕ → ℕ → Result RoundsDone NoMemory → Type 0
+DeepenCalls made_by old new q w from count result =
+    (i : ℕ) → i < count → (entries : List Entry) × made_by i old entries new
+    × ((done : RoundsDone) (d : ℕ) → result ≡ Ok done → done.end ≡ NoneWithin d → from < d → AreSharesSearched entries q w (d - 1) (legal q) i count)
+
+-- one call, which gives something to keep
+unfoldable pub KeepCalls : {S : Type 0} → (S → List Entry → S → Type 0) → S → S → Claim → Type 0
+KeepCalls made old new row = (reply : Stored) × made old (store_entry row reply ∷ []) new
+
+-- the calls of a first worker that has given an answer to keep, where there is one
+unfoldable pub KeptCalls : {S : Type 0} → (S → List Entry → S → Type 0) → S → S → Board → Color → Result RoundsDone NoMemory → Type 0
+KeptCalls made old new q w result = (entries : List Entry) × made old entries new × ((done : RoundsDone) → result ≡ Ok done → HasEndStore entries q w done.end)

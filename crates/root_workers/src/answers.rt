@@ -1,0 +1,20 @@
+//! What the rounds answer.
+
+use cha_fact::Line;
+
+/// What is known after the rounds.
+#[derive(Drop)]
+pub enum RoundsEnd {
+    /// This line of at most 40 legal moves mates.
+    Mate(Line),
+    /// No list of at most so many legal moves mates. The number is at least 2.
+    NoneWithin(u8),
+}
+
+/// The end of the rounds.
+#[derive(Drop)]
+pub struct RoundsDone {
+    pub end: RoundsEnd,
+    /// How many positions were expanded, in all rounds and by all workers.
+    pub units: u64,
+}

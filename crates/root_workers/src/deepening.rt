@@ -1,0 +1,231 @@
+//! The rounds, one after the other.
+
+ghost use Rattle.std.specs.Prelude.{◌≡◌, ◌≢◌, ℕ, ◌+◌, ◌*◌, ◌^◌, ◌-◌, ◌<◌, ◌≤◌, ◌⊎◌, [], ◌∷◌, length, List, Some, None, Ok, IsNone, IfOk, Contains};
+ghost use Rattle.cha_board.specs.Men.{other_color};
+ghost use Rattle.cha_moves.specs.Step.{Move as Step};
+ghost use Rattle.cha_moves.specs.Moves.{legal as legal_moves};
+ghost use Rattle.cha_moves.specs.Ends.{IsMated, IsMatingLine, IsUnwinnable, HasNoMateWithin};
+ghost use Rattle.cha_fact.specs.Keys.{key_of};
+ghost use Rattle.cha_fact.specs.Entries.{probe_entry, store_entry};
+ghost use Rattle.helpmate.specs.Rounds.{IsAnswer, decided_by};
+ghost use Rattle.root_workers.specs.Shares.{IsSpent, AllGrow};
+ghost use Rattle.root_workers.specs.Ends.{IsMateEnd, IsEnd, IsAmple, RoundsCalls, claim_of, fact_of};
+ghost use Rattle.root_workers.specs.Deepens.{plies_of, IsFrom, CrewCalls, RoundSearches, DeepenCalls, KeepCalls, KeptCalls};
+
+use crate::answers::{RoundsDone, RoundsEnd};
+use crate::gather::{gather, units_of};
+use crate::task::Task;
+use crate::workers::Crew;
+use cha_board::{Color, Position};
+use cha_fact::{Fact, Key, Probe, Proved};
+use cha_list::NoMemory;
+use cha_moves::{Move, legal};
+use cha_verdict::Limits;
+use helpmate::{RoundAnswer, decided};
+use std::alloc::Global;
+
+/// The allowance of each worker in a round of a depth: none up to 2 plies, and then the budget.
+fn allowance_of(limits: &Limits, depth: u8) -> Option<u32>
+    ensures bounded { IsNone result → depth < 3 }
+    ensures value { (n : ℕ) → result ≡ Some n → (3 ≤ depth) × (n ≡ limits.now.budget) }
+{
+    if depth < 3 {
+        return None;
+    }
+    Some(limits.budget())
+}
+
+/// The end of a round: what it answers, and how many positions were expanded, the root among them.
+#[derive(Drop)]
+struct RootDone {
+    round: RoundAnswer,
+    units: u64,
+}
+
+/// One round.
+fn one_round<C: Crew>(
+    alloc: Global,
+    task: &Task,
+    moves: &[Move],
+    crew: &mut C,
+) -> Result<RootDone, NoMemory>
+    requires ready { C.ready crew.old }
+    requires listed { moves.now ≡ legal_moves task.now.position }
+    requires some { 1 ≤ task.now.depth }
+    requires few { task.now.depth ≤ 8 }
+    requires bounded { IsNone task.now.allowance → task.now.depth ≤ 3 }
+    requires running { IsMated task.now.position (other_color task.now.winner) → ⊥ }
+    ensures stays_ready { C.ready crew.new }
+    ensures count { C.count crew.new ≡ C.count crew.old }
+    ensures holds { IfOk result (λ done. IsAnswer task.now.position task.now.winner task.now.depth 40 done.round) }
+    ensures spent { IfOk result (λ done. done.round ≡ RoundAnswer.Spent → IsSpent task.now) }
+    ensures units { IfOk result (λ done. (0 < done.units) × (done.units ≤ 1 + 16 * 2 ^ 48)) }
+    ensures searched { IfOk result (λ done. done.round ≡ RoundAnswer.NoneWithin → RoundSearches C.made_by crew.old crew.new task.now (C.count crew.old)) }
+    ensures grow { AllGrow C.made_by crew.old crew.new (C.count crew.old) }
+{
+    crew.share_out(alloc, task, moves);
+    let round = gather(task, moves, crew)?;
+    Ok(RootDone {
+        round,
+        units: 1 + units_of(task, moves, crew),
+    })
+}
+
+/// Gives what the rounds found out to keep.
+fn keep<C: Crew>(position: &Position, winner: Color, end: &RoundsEnd, crew: &mut C)
+    requires ready { C.ready crew.old }
+    requires mate { (line : List Step) → end.now ≡ RoundsEnd.Mate line → IsMatingLine position.now winner line }
+    requires none { (depth : ℕ) → end.now ≡ RoundsEnd.NoneWithin depth → HasNoMateWithin position.now winner depth }
+    ensures stays_ready { C.ready crew.new }
+    ensures kept { KeepCalls C.made crew.old crew.new (claim_of position.now winner end.now) }
+{
+    let row = match end {
+        RoundsEnd::Mate(line) => Proved::mate(position, winner, line.copy()),
+        RoundsEnd::NoneWithin(depth) => Proved::none(position, winner, *depth),
+    };
+    let _stored = crew.store(row);
+}
+
+/// The rounds from a depth on at which there is no mate.
+fn deepen<C: Crew>(
+    alloc: Global,
+    position: &Position,
+    winner: Color,
+    limits: &Limits,
+    from: u8,
+    crew: &mut C,
+) -> Result<RoundsDone, NoMemory>
+    requires ready { C.ready crew.old }
+    requires none { HasNoMateWithin position.now winner from }
+    requires more { from < limits.now.depth }
+    ensures stays_ready { C.ready crew.new }
+    ensures count { C.count crew.new ≡ C.count crew.old }
+    ensures holds { IfOk result (λ done. IsEnd position.now winner limits.now done.end) }
+    ensures from { IfOk result (λ done. IsFrom from done.end) }
+    ensures units { IfOk result (λ done. 0 < done.units) }
+    ensures calls { DeepenCalls C.made_by crew.old crew.new position.now winner from (C.count crew.old) result }
+{
+    let moves = legal(alloc, position)?;
+    let mut depth = from;
+    let mut units = 0;
+    while depth < limits.depth() {
+        let task = Task {
+            position: *position,
+            winner,
+            depth: depth + 1,
+            allowance: allowance_of(limits, depth + 1),
+        };
+        let done = one_round(alloc, &task, &moves, crew)?;
+        units += done.units;
+        match done.round {
+            RoundAnswer::Mate(line) => {
+                return Ok(RoundsDone {
+                    end: RoundsEnd::Mate(line),
+                    units,
+                });
+            }
+            RoundAnswer::Spent => {
+                return Ok(RoundsDone {
+                    end: RoundsEnd::NoneWithin(depth),
+                    units,
+                });
+            }
+            RoundAnswer::NoneWithin => {}
+        }
+        depth += 1;
+    }
+    Ok(RoundsDone {
+        end: RoundsEnd::NoneWithin(depth),
+        units,
+    })
+}
+
+/// The rounds from a depth on, whose answer is given to keep.
+fn deepen_and_keep<C: Crew>(
+    alloc: Global,
+    position: &Position,
+    winner: Color,
+    limits: &Limits,
+    from: u8,
+    crew: &mut C,
+) -> Result<RoundsDone, NoMemory>
+    requires ready { C.ready crew.old }
+    requires none { HasNoMateWithin position.now winner from }
+    requires more { from < limits.now.depth }
+    ensures stays_ready { C.ready crew.new }
+    ensures count { C.count crew.new ≡ C.count crew.old }
+    ensures holds { IfOk result (λ done. IsEnd position.now winner limits.now done.end) }
+    ensures from { IfOk result (λ done. IsFrom from done.end) }
+    ensures units { IfOk result (λ done. 0 < done.units) }
+    ensures calls { DeepenCalls C.made_by crew.old crew.new position.now winner from (C.count crew.old) result }
+    ensures kept { KeptCalls C.made crew.old crew.new position.now winner result }
+{
+    let done = deepen(alloc, position, winner, limits, from, crew)?;
+    keep(position, winner, &done.end, crew);
+    Ok(done)
+}
+
+/// Up to which depth a fact that does not decide shows that there is no mate.
+fn known_plies(position: &Position, winner: Color, row: &Proved) -> u8
+    requires key { key_of row.now.position row.now.winner ≡ key_of position.now winner }
+    requires running { IsMated position.now (other_color winner) → ⊥ }
+    ensures value { result ≡ plies_of row.now.fact }
+    ensures none { HasNoMateWithin position.now winner result }
+{
+    // Keys tell valid positions.
+    position.known();
+    let _valid = row.position();
+    match row.fact() {
+        Fact::Mate(_) => 0,
+        Fact::NoneWithin(within) => *within,
+    }
+}
+
+/// Looks for a mate for a side in rounds of 1, 2 and so on up to so many plies as the limits have, whose root moves the workers
+/// of a crew share out. The position is no mate for the side.
+///
+/// The position is asked for first. Where what is found decides for the depth of the limits, that is the answer and nothing is
+/// expanded. In rounds of 1 and 2 plies as many positions are expanded as need be; from 3 on each worker expands at most the
+/// budget in a round, and where one has spent it and none has met a mate, the depth before is the answer. Of the mates that
+/// workers met the one with the lowest root move is the answer. What comes out is given to keep (this project).
+pub fn rounds_by<C: Crew>(
+    alloc: Global,
+    position: &Position,
+    winner: Color,
+    limits: &Limits,
+    crew: &mut C,
+) -> Result<RoundsDone, NoMemory>
+    requires ready { C.ready crew.old }
+    requires workers { C.count crew.old ≡ limits.now.workers }
+    requires running { IsMated position.now (other_color winner) → ⊥ }
+    ensures stays_ready { C.ready crew.new }
+    ensures count { C.count crew.new ≡ C.count crew.old }
+    ensures holds { IfOk result (λ done. IsEnd position.now winner limits.now done.end) }
+
+    // Whatever the number of workers and the order of their turns.
+    ensures finds_in_two { IfOk result (λ done. (line : List Step) → IsMatingLine position.now winner line → length line ≤ 2 → IsMateEnd done.end) }
+    ensures finds { IfOk result (λ done. (line : List Step) → IsAmple position.now limits.now → IsMatingLine position.now winner line → length line ≤ limits.now.depth → IsMateEnd done.end) }
+    ensures none { IfOk result (λ done. IsAmple position.now limits.now → IsUnwinnable position.now winner → done.end ≡ RoundsEnd.NoneWithin limits.now.depth) }
+
+    ensures calls { RoundsCalls C.made C.made_by (C.count crew.old) crew.old crew.new position.now winner limits.now result }
+{
+    let depth = limits.depth();
+    match crew.probe(&Key::of(position, winner)) {
+        Probe::Found(row) => match decided(position, winner, &row, depth) {
+            Some(RoundAnswer::Mate(line)) => Ok(RoundsDone {
+                end: RoundsEnd::Mate(line),
+                units: 0,
+            }),
+            Some(RoundAnswer::NoneWithin) => Ok(RoundsDone {
+                end: RoundsEnd::NoneWithin(depth),
+                units: 0,
+            }),
+            Some(RoundAnswer::Spent) => unreachable!(),
+            None => {
+                let from = known_plies(position, winner, &row);
+                deepen_and_keep(alloc, position, winner, limits, from, crew)
+            }
+        },
+        Probe::Miss => deepen_and_keep(alloc, position, winner, limits, 0, crew),
+    }
+}

@@ -1,0 +1,27 @@
+//! Rounds of the bounded search, one ply deeper each, whose root moves workers share out.
+//!
+//! `answers` has what the rounds answer, `task` what is to do in one round, `work` what a worker leaves of it, `gate` what is
+//! told of each root move, `share` one worker's part of a round, `workers` a crew of them as a whole, `alone` the crew that
+//! needs no thread, `gather` what the works of a round come to, and `deepening` the rounds one after the other.
+#![tactic(auto)]
+
+mod alone;
+mod answers;
+mod deepening;
+mod gate;
+mod gather;
+mod share;
+mod task;
+#[cfg(test)]
+mod tests;
+mod work;
+mod workers;
+
+pub use alone::Alone;
+pub use answers::{RoundsDone, RoundsEnd};
+pub use cha_verdict::Limits;
+pub use deepening::rounds_by;
+pub use gate::{Gate, OpenGate};
+pub use task::Task;
+pub use work::{RootMate, Work};
+pub use workers::Crew;

@@ -1,0 +1,111 @@
+//! One worker's part of a round.
+
+ghost use Rattle.std.specs.Prelude.{◌≡◌, ◌-◌, ◌<◌, ◌≤◌, Contains, Some, IsNone, IfOk};
+ghost use Rattle.cha_moves.specs.Moves.{after as position_after, legal as legal_moves};
+ghost use Rattle.helpmate.specs.Lines.{AreUnits};
+ghost use Rattle.helpmate.specs.Rounds.{IsAnswer, IsAllowed, RoundCalls};
+ghost use Rattle.root_workers.specs.Shares.{IsShare, ShareCalls};
+ghost use Rattle.root_workers.specs.Gathers.{left_after};
+
+use crate::gate::Gate;
+use crate::task::Task;
+use crate::work::{RootMate, Work};
+use cha_fact::Facts;
+use cha_list::NoMemory;
+use cha_moves::{Move, after};
+use helpmate::{RoundAnswer, RoundDone, round_in};
+use std::alloc::Global;
+
+/// What is left of an allowance.
+fn left_of(allowance: Option<u32>, units: u32) -> Option<u32>
+    requires { IsAllowed allowance units }
+    ensures { result ≡ left_after allowance units }
+{
+    match allowance {
+        Some(most) => Some(most - units),
+        None => None,
+    }
+}
+
+/// Searches the position after a root move to one ply less.
+fn search_root<F: Facts>(
+    alloc: Global,
+    task: &Task,
+    m: Move,
+    left: Option<u32>,
+    facts: &mut F,
+) -> Result<RoundDone, NoMemory>
+    requires ready { F.ready facts.old }
+    requires legal { Contains (legal_moves task.now.position) m }
+    requires some { 1 ≤ task.now.depth }
+    requires few { task.now.depth ≤ 8 }
+    requires bounded { IsNone left → task.now.depth ≤ 3 }
+    ensures stays_ready { F.ready facts.new }
+    ensures holds { IfOk result (λ done. IsAnswer (position_after task.now.position m) task.now.winner (task.now.depth - 1) 39 done.round) }
+    ensures allowed { IfOk result (λ done. IsAllowed left done.units) }
+    ensures units { IfOk result (λ done. AreUnits (position_after task.now.position m) (task.now.depth - 1) done.units) }
+    ensures spent { IfOk result (λ done. done.round ≡ RoundAnswer.Spent → left ≡ Some done.units) }
+    ensures calls { RoundCalls F.made facts.old facts.new (position_after task.now.position m) task.now.winner (task.now.depth - 1) result }
+{
+    let next = after(&task.position, m);
+    round_in(alloc, &next, task.winner, task.depth - 1, left, facts)
+}
+
+/// Searches the root moves of the worker with a number among `count` workers, in order, up to the first mate.
+pub fn share_of<F: Facts, G: Gate>(
+    alloc: Global,
+    task: &Task,
+    moves: &[Move],
+    number: u32,
+    count: u32,
+    facts: &mut F,
+    gate: &G,
+) -> Work
+    requires ready { F.ready facts.old }
+    requires listed { moves.now ≡ legal_moves task.now.position }
+    requires some { 1 ≤ task.now.depth }
+    requires few { task.now.depth ≤ 8 }
+    requires bounded { IsNone task.now.allowance → task.now.depth ≤ 3 }
+    requires number { number < count }
+    requires count { count ≤ 16 }
+    ensures stays_ready { F.ready facts.new }
+    ensures share { IsShare task.now moves.now number count result }
+    ensures calls { ShareCalls F.made facts.old facts.new task.now moves.now number count result }
+{
+    let mut work = Work::new(alloc);
+    let mut left = task.allowance;
+    let mut index = number as usize;
+    while index < moves.len() {
+        gate.enter(number, index as u32);
+        match search_root(alloc, task, moves[index], left, facts) {
+            Ok(done) => {
+                work.units += u64::from(done.units);
+                left = left_of(left, done.units);
+                match done.round {
+                    RoundAnswer::Mate(line) => {
+                        work.mate = Some(RootMate {
+                            root_move: index as u32,
+                            line,
+                        });
+                        return work;
+                    }
+                    RoundAnswer::Spent => {
+                        work.spent = true;
+                        return work;
+                    }
+                    RoundAnswer::NoneWithin => {}
+                }
+            }
+            Err(_) => {
+                work.refused = true;
+                return work;
+            }
+        }
+        let Ok(()) = work.cleared.push(index as u32) else {
+            work.refused = true;
+            return work;
+        };
+        index += count as usize;
+    }
+    work
+}

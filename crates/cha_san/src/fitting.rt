@@ -7,9 +7,9 @@ use crate::forms::{Form, Parts};
 use cha_board::{Kind, Position, files_between, is_man_of};
 use cha_moves::Move;
 
-/// Whether a move is castling.
+/// Whether a move is castling: the move of the king of the side to move over two files (Laws of Chess, Article 3.8.2).
 #[tactic(auto, unfolding(crate::specs::Fitting::is_castling))]
-fn castles(position: &Position, m: &Move) -> bool
+pub fn castles(position: &Position, m: &Move) -> bool
     ensures { result ≡ is_castling position.now m.now }
 {
     is_man_of(position.man(m.from), position.side(), Kind::King) && files_between(m.from, m.to) == 2

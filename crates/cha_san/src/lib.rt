@@ -18,6 +18,7 @@ mod resolving;
 mod tests;
 
 pub use faults::{PlayFault, SanFault};
+pub use fitting::castles;
 pub use order::parts_stand_in_order;
 pub use playing::play;
 pub use resolving::resolve;

@@ -1,0 +1,4 @@
+-- what public contracts say
+pub mod Words
+pub mod Games
+pub mod Made

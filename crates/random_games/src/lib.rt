@@ -1,0 +1,12 @@
+//! Games whose moves are drawn, as a text in PGN.
+//!
+//! `words` has a move as a word, `games` one game, and `texts` the text of many.
+#![tactic(auto)]
+
+mod games;
+#[cfg(test)]
+mod tests;
+mod texts;
+mod words;
+
+pub use texts::games_text;

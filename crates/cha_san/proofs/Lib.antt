@@ -1,4 +1,5 @@
 pub mod PartsInOrder
+pub mod ReadInOrder
 pub mod Choosing
 pub mod Resolved
 pub mod Replayed

@@ -14,27 +14,25 @@ use std::alloc::Global;
 /// A crew of one worker, which searches all root moves one after the other with a place of facts of its own. It makes no
 /// thread and waits for nobody, unless that place does.
 #[derive(Drop)]
-pub struct Alone<'a, F: Facts, G: Gate> {
+pub struct Alone<'a, F: Facts> {
     place: &'a mut F,
-    gate: &'a G,
     work: Work,
 }
 
-impl<'a, F: Facts, G: Gate> Alone<'a, F, G> {
+impl<'a, F: Facts> Alone<'a, F> {
     /// The worker with this place. It takes no memory.
-    pub fn new(alloc: Global, place: &'a mut F, gate: &'a G) -> Alone<'a, F, G>
+    pub fn new(alloc: Global, place: &'a mut F) -> Alone<'a, F>
         ensures same_place { result.place.ghost_name ≡ place.entry.ghost_name }
         ensures state { result.place.now ≡ place.old }
     {
         Alone {
             place,
-            gate,
             work: Work::new(alloc),
         }
     }
 }
 
-impl<'a, F: Facts, G: Gate> Facts for Alone<'a, F, G> {
+impl<'a, F: Facts> Facts for Alone<'a, F> {
     ghost use Rattle.std.specs.Prelude.{refl};
     ghost use Rattle.std.proofs.Common.{◌∙◌};
 
@@ -55,7 +53,7 @@ impl<'a, F: Facts, G: Gate> Facts for Alone<'a, F, G> {
     }
 }
 
-impl<'a, F: Facts, G: Gate> Crew for Alone<'a, F, G> {
+impl<'a, F: Facts> Crew for Alone<'a, F> {
     ghost use Rattle.std.specs.Prelude.{refl};
     ghost use Rattle.std.proofs.Common.{◌∙◌};
     ghost use Rattle.root_workers.specs.Making.{grow_alike, one_some};
@@ -88,7 +86,7 @@ impl<'a, F: Facts, G: Gate> Crew for Alone<'a, F, G> {
         &self.work
     }
 
-    fn share_out(&mut self, alloc: Global, task: &Task, moves: &[Move]) {
-        self.work = share_of(alloc, task, moves, 0, 1, self.place, self.gate);
+    fn share_out(&mut self, alloc: Global, task: &Task, moves: &[Move], gate: &(dyn Gate + Sync)) {
+        self.work = share_of(alloc, task, moves, 0, 1, self.place, gate);
     }
 }

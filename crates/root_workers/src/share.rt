@@ -52,14 +52,14 @@ fn search_root<F: Facts>(
 }
 
 /// Searches the root moves of the worker with a number among `count` workers, in order, up to the first mate.
-pub fn share_of<F: Facts, G: Gate>(
+pub fn share_of<F: Facts>(
     alloc: Global,
     task: &Task,
     moves: &[Move],
     number: u32,
     count: u32,
     facts: &mut F,
-    gate: &G,
+    gate: &(dyn Gate + Sync),
 ) -> Work
     requires ready { F.ready facts.old }
     requires listed { moves.now ≡ legal_moves task.now.position }

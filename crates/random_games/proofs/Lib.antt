@@ -1,2 +1,13 @@
 pub mod Plies
 pub mod Numbered
+pub mod Passed
+pub mod TagLines
+pub mod GameTokens
+pub mod GameFields
+pub mod SpelledWords
+pub mod ReadAgain
+pub mod WordParts
+pub mod Apart
+pub mod LegalApart
+pub mod Named
+pub mod PlayedAgain

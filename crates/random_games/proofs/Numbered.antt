@@ -1,7 +1,7 @@
 -- The text of games, game by game.
-use Rattle.std.proofs.Common.{◌≡◌, ℕ, zero, suc, ◌+◌, ◌-◌, ◌<◌, ◌≤◌, List, [], ◌∷◌, ◌++◌, refl, sym, ap, ◌∙◌, arith, append_assoc, append-nil}
+use Rattle.std.proofs.Common.{◌≡◌, ℕ, suc, ◌+◌, List, [], ◌++◌, sym, ap, ◌∙◌, append_assoc, append-nil}
 use Rattle.rand_pcg.specs.Lcg.{Lcg}
-use Rattle.random_games.specs.Games.{MadeGame, seeded, made_game, made_games}
+use Rattle.random_games.specs.Games.{seeded, made_game, made_games}
 use Rattle.random_games.specs.Made.{game_text, texts_from, made}
 
 -- the text so far, and the games that are still to be made

@@ -2,3 +2,4 @@
 pub mod Words
 pub mod Games
 pub mod Made
+pub mod AsRead

@@ -4,9 +4,11 @@
 #![tactic(auto)]
 
 mod games;
+mod law;
 #[cfg(test)]
 mod tests;
 mod texts;
 mod words;
 
+pub use law::made_games_are_read;
 pub use texts::games_text;

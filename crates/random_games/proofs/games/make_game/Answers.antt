@@ -1,7 +1,7 @@
-use Rattle.std.proofs.Common.{◌≡◌, ℕ, suc, ◌+◌, ◌-◌, sym, ap, ◌∙◌, arith}
+use Rattle.std.proofs.Common.{◌≡◌, ◌+◌, ◌-◌, sym, ◌∙◌, arith}
 use Rattle.rand_pcg.specs.Pcg.{pcg32}
 use Rattle.random_games.specs.Games.{made_game}
-use Rattle.random_games.proofs.Plies.{GoesOn, IsWhole, is_opening, begins, stops, is_over, moves_on, said_none, said_some}
+use Rattle.random_games.proofs.Plies.{is_opening, begins, stops, is_over, moves_on, said_none, said_some}
 use Rattle.random_games.proofs.games.make_game.Goals as goal
 
 pub loop-ply-init : goal.loop-ply-init

@@ -1,4 +1,4 @@
-use Rattle.std.proofs.Common.{◌≡◌, ℕ, suc, ◌+◌, ◌-◌, sym, ap, ◌∙◌, arith}
+use Rattle.std.proofs.Common.{◌+◌, ◌-◌, arith}
 use Rattle.random_games.specs.Made.{made}
 use Rattle.random_games.proofs.Numbered.{no_game_yet, one_game_more, all_games}
 use Rattle.random_games.proofs.texts.games_text.Goals as goal

@@ -1,0 +1,79 @@
+-- Lists no two elements of which are one.
+use Rattle.std.proofs.Common.{◌≡◌, ℕ, zero, suc, ◌+◌, ◌<◌, ◌≤◌, Bool, true, false, cond, List, [], ◌∷◌, ◌++◌, map, inl, inr, refl, sym, ◌∙◌, subst, arith}
+use Rattle.std.specs.List.{Contains, filter, flat_map, range_with_len}
+use Rattle.std.proofs.lemmas.List.Elements.{All-contains, All-filter, All-contains_itself, Contains-append_cases}
+use Rattle.std.proofs.lemmas.List.FromFn.{get_or-range_with_len, length-range_with_len}
+use Rattle.cha_moves.proofs.Contained.{Contains-cons_here, Contains-cons_there, Contains-map_parts, Contains-map_from, Contains-flat_map_parts}
+use Rattle.cha_list.specs.Distinct.{AreDistinct}
+
+pub none_apart : (X : Type 0) → AreDistinct {X = X} []
+unfolding AreDistinct
+none_apart X = tt
+
+pub one_more_apart : {X : Type 0} (x : X) (xs : List X) → (Contains xs x → ⊥) → AreDistinct xs → AreDistinct (x ∷ xs)
+unfolding AreDistinct
+one_more_apart x xs new rest = (new, rest)
+
+pub joined_apart : {X : Type 0} (xs ys : List X) → AreDistinct xs → AreDistinct ys → ((x : X) → Contains xs x → Contains ys x → ⊥) → AreDistinct (xs ++ ys)
+unfolding AreDistinct
+joined_apart [] ys a b none = b
+joined_apart (x ∷ xs) ys a b none = (
+  (λ there. elim (Contains-append_cases xs ys x there) [
+    | inl h ↦ a.0 h
+    | inr h ↦ none x (Contains-cons_here x xs x refl) h
+  ]),
+  joined_apart xs ys a.1 b (λ y here there. none y (Contains-cons_there x xs y here) there),
+)
+
+-- images under what tells elements apart
+pub images_apart : {X Y : Type 0} (f : X → Y) → ((a b : X) → f a ≡ f b → a ≡ b) → (xs : List X) → AreDistinct xs → AreDistinct (map f xs)
+unfolding AreDistinct
+images_apart f one [] d = tt
+images_apart {X = X} f one (x ∷ xs) d = (
+  (λ there.
+      let p = Contains-map_parts f xs (f x) there in
+      let P : X → Type 0 = λ y. Contains xs y in
+      d.0 (subst P (one p.0 x p.2) p.1)),
+  images_apart f one xs d.1,
+)
+
+-- elements whose images differ
+pub apart_by_images : {X Y : Type 0} (f : X → Y) (xs : List X) → AreDistinct (map f xs) → AreDistinct xs
+unfolding AreDistinct
+apart_by_images f [] d = tt
+apart_by_images f (x ∷ xs) d = ((λ there. d.0 (Contains-map_from f xs x there)), apart_by_images f xs d.1)
+
+kept_apart : {X : Type 0} (b : Bool) (x : X) (xs : List X) → (Contains xs x → ⊥) → AreDistinct xs → AreDistinct (cond b (x ∷ xs) xs)
+kept_apart true x xs new rest = one_more_apart x xs new rest
+kept_apart false x xs new rest = rest
+
+pub filtered_apart : {X : Type 0} (p : X → Bool) (xs : List X) → AreDistinct xs → AreDistinct (filter p xs)
+unfolding AreDistinct
+filtered_apart p [] d = tt
+filtered_apart p (x ∷ xs) d =
+    kept_apart (p x) x (filter p xs) (λ there. d.0 (All-contains (Contains xs) (filter p xs) x (All-filter p (Contains xs) xs (All-contains_itself xs)) there)) (filtered_apart p xs d.1)
+
+-- pieces that tell what they are made of
+pub pieces_apart : {X Y : Type 0} (f : X → List Y) → ((x : X) → AreDistinct (f x)) → ((a b : X) (y : Y) → Contains (f a) y → Contains (f b) y → a ≡ b) → (xs : List X) → AreDistinct xs → AreDistinct (flat_map f xs)
+unfolding AreDistinct
+pieces_apart f each one [] d = tt
+pieces_apart {X = X} f each one (x ∷ xs) d =
+    joined_apart (f x) (flat_map f xs) (each x) (pieces_apart f each one xs d.1) (λ y here there.
+    let p = Contains-flat_map_parts f xs y there in
+    let P : X → Type 0 = λ z. Contains xs z in
+    d.0 (subst P (one p.0 x y p.2 here) p.1))
+
+-- numbers in a row
+from_there : (a n x : ℕ) → Contains (range_with_len a n) x → a ≤ x
+from_there a n x h =
+    let k = h.0 in
+    let size = length-range_with_len a n in
+    let inside = h.1 in
+    let small : k < n = omega arith in
+    let e : a + k ≡ x = sym (get_or-range_with_len a n k x small) ∙ h.2 in
+    omega arith
+
+pub numbers_apart : (a n : ℕ) → AreDistinct (range_with_len a n)
+numbers_apart a zero = none_apart ℕ
+numbers_apart a (suc n) =
+    one_more_apart a (range_with_len (a + 1) n) (λ there. let more = from_there (a + 1) n a there in omega arith) (numbers_apart (a + 1) n)

@@ -22,3 +22,4 @@ pub mod SafeCastling
 pub mod Mated
 pub mod MateLines
 pub mod Captured
+pub mod MateMoves

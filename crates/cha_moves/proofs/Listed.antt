@@ -48,7 +48,7 @@ between_has s t (Some Pawn) (inr h) = cc
 between_has s t (Some King) (inl h) = cc
 between_has s t (Some King) (inr h) = cc
 
-promotes_listed : (q : Board) (m : Move) → is_legal_in q m ≡ true → (is_promotion m.promotion ≡ true) ⊎ (m.promotion ≡ None)
+pub promotes_listed : (q : Board) (m : Move) → is_legal_in q m ≡ true → (is_promotion m.promotion ≡ true) ⊎ (m.promotion ≡ None)
 unfolding is_legal_in
 promotes_listed q m h =
     let mover = may_gives q m (and_parts (is_pseudo_legal q m) (not (in_check (men_after q m) q.side)) h).0 in

@@ -59,7 +59,7 @@ filter_found p f all left rest x before next some e =
     not_nothing (filter p (f x)) (filter p (flat_map f rest)) some (sym (before ∙ ap (λ ys. filter p (flat_map f ys)) next ∙ filter-append p (f x) (flat_map f rest)) ∙ e)
 
 -- a pseudo-legal move is a way
-way_of : (q : Board) (m : Move) (man : Man) → Mover q m man → is_way q m.from m.to ≡ true
+pub way_of : (q : Board) (m : Move) (man : Man) → Mover q m man → is_way q m.from m.to ≡ true
 unfolding is_way goes_as
 way_of q m man may =
     and_from (goes_as q m.from m.to (man_at q.men m.from)) (may_enter q.side (man_at q.men m.to))

@@ -3,7 +3,7 @@
 //! `step` has the move, `sides` the ranks of a side's pawns, `passing` what a pawn passes over or captures in passing,
 //! `goes` how men go, `ways` where they may go, `makes` what a move changes, `afterwards` the position after one, `safety` which
 //! moves leave the king unattacked, `shields` what checks it and which men shield it, `legally` which ways are legal,
-//! `list` the legal moves, `some` whether there is one, `ends` how a position stands, `lines` the lines that end in mate,
+//! `list` the legal moves, `some` whether there is one, `ends` how a position stands, `mating` which of them mates, `lines` the lines that end in mate,
 //! and `text` the move's text.
 #![tactic(auto)]
 
@@ -14,6 +14,7 @@ mod legally;
 mod lines;
 mod list;
 mod makes;
+mod mating;
 mod passing;
 mod safety;
 mod shields;
@@ -29,6 +30,7 @@ pub use afterwards::after;
 pub use ends::{Standing, is_mate, state};
 pub use lines::{mate_lines_mate, replays};
 pub use list::{Moves, Positions, is_legal, legal};
+pub use mating::mating_move;
 pub use passing::{captured_on, passed_over};
 pub use sides::{double_step_rank, first_pawn_rank, promotion_rank};
 pub use some::any_legal;

@@ -27,7 +27,7 @@ pub type Positions = Listed<Position>;
 const ROOM: usize = 96;
 
 /// A promotion.
-fn promotion(from: Square, to: Square, kind: Kind) -> Move
+pub fn promotion(from: Square, to: Square, kind: Kind) -> Move
     ensures { result ≡ record { from = from; to = to; promotion = Some kind } }
 {
     Move {

@@ -2,7 +2,7 @@
 
 ghost use Rattle.std.specs.Prelude.{◌<◌};
 
-use crate::{Move, Standing, after, is_legal, legal, move_text, replays, state};
+use crate::{Move, Standing, after, is_legal, legal, mating_move, move_text, replays, state};
 use cha_board::{Color, Position, Square};
 use cha_list::Text;
 use std::test::Fail;
@@ -36,16 +36,20 @@ fn the_opening_has_twenty_moves_in_order(rt: HostRuntime) -> Result<(), Fail> {
 #[test]
 fn the_fools_mate_wins_for_black(rt: HostRuntime) {
     let opening = Position::start();
+    let last = from_to(59, 31);
     let line = [
         from_to(13, 21),
         from_to(52, 36),
         from_to(14, 30),
-        from_to(59, 31),
+        last,
     ];
     let mut now = opening;
     for m in &line {
         assert!(rt; state(&now) == Standing::Running);
         assert!(rt; is_legal(&now, *m));
+        let mates = if *m == last { Some(last) } else { None };
+        assert!(rt; mating_move(&now, Color::Black) == mates);
+        assert!(rt; mating_move(&now, Color::White).is_none());
         now = after(&now, *m);
     }
     assert!(rt; state(&now) == Standing::Mate(Color::Black));

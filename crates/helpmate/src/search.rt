@@ -12,6 +12,7 @@ ghost use Rattle.helpmate.specs.Searches.{Expands, Searches};
 
 use crate::answers::RoundAnswer;
 use crate::deciding::decided;
+use crate::last::search_last_ply;
 use cha_board::{Color, Position};
 use cha_fact::{Facts, Key, Line, Probe, Proved};
 use cha_list::NoMemory;
@@ -84,8 +85,8 @@ pub fn search<F: Facts>(
     }
 }
 
-/// Searches a position to a depth by searching each position after a legal move to one ply less. What comes out without a
-/// mate is given to keep.
+/// Searches a position to a depth by searching each position after a legal move to one ply less; for the last ply, the moves
+/// that mate are enough. What comes out without a mate is given to keep.
 #[cycle(searching)]
 fn expand<F: Facts>(
     alloc: Global,
@@ -112,6 +113,9 @@ fn expand<F: Facts>(
         return Ok(RoundAnswer::Spent);
     }
     *left -= 1;
+    if depth == 1 {
+        return Ok(search_last_ply(position, winner, facts));
+    }
     let moves = legal(alloc, position)?;
     for m in &moves {
         let next = after(position, *m);

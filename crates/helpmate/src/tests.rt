@@ -1,5 +1,6 @@
 //! Known helpmates, each found at its own depth and not before, and how many positions a round expands.
 
+use crate::known::KNOWN;
 use crate::{RoundAnswer, RoundDone, round, round_in};
 use cha_board::{Color, Position};
 use cha_fact::Proved;
@@ -8,49 +9,6 @@ use cha_moves::replays;
 use shard_table::{Shard, Table};
 use std::alloc::Global;
 use std::test::Fail;
-
-/// Positions, the sides that may mate, and in how few plies they can.
-const KNOWN: [(&str, Color, u8); 11] = [
-    ("7k/6Q1/6K1/8/8/8/8/8 b - -", Color::White, 0),
-    (
-        "rnb1kbnr/pppp1ppp/8/4p3/6Pq/5P2/PPPPP2P/RNBQKBNR w KQkq -",
-        Color::Black,
-        0,
-    ),
-    ("7k/8/6K1/8/8/8/8/R7 w - -", Color::White, 1),
-    ("6k1/5ppp/8/8/8/8/8/R3K3 w - -", Color::White, 1),
-    (
-        "rnbqkbnr/pppp1ppp/8/4p3/6P1/5P2/PPPPP2P/RNBQKBNR b KQkq g3",
-        Color::Black,
-        1,
-    ),
-    (
-        "r1bqkb1r/pppp1ppp/2n2n2/4p2Q/2B1P3/8/PPPP1PPP/RNB1K1NR w KQkq -",
-        Color::White,
-        1,
-    ),
-    ("6k1/5ppp/8/8/8/8/5PPP/3R2K1 b - -", Color::White, 2),
-    (
-        "rnbqkbnr/pppp1ppp/8/4p3/8/5P2/PPPPP1PP/RNBQKBNR w KQkq e6",
-        Color::Black,
-        2,
-    ),
-    (
-        "r1bqkbnr/pppp1ppp/2n5/4p2Q/2B1P3/8/PPPP1PPP/RNB1K1NR b KQkq -",
-        Color::White,
-        2,
-    ),
-    (
-        "rnbqkbnr/pppppppp/8/8/8/5P2/PPPPP1PP/RNBQKBNR b KQkq -",
-        Color::Black,
-        3,
-    ),
-    (
-        "rnbqkbnr/pppppppp/8/8/8/8/PPPPPPPP/RNBQKBNR w KQkq -",
-        Color::Black,
-        4,
-    ),
-];
 
 /// A lone queen is taken by the only move.
 const ONE_MOVE: &str = "k7/1Q6/8/8/8/8/8/4K3 b - -";

@@ -4,6 +4,7 @@ use Rattle.helpmate.specs.declared.answers.RoundAnswer.TheVariants.{Mate, NoneWi
 use Rattle.helpmate.proofs.Counting.{no_units, from_no_move, one_more_counted, all_counted}
 use Rattle.helpmate.proofs.Saying.{none_answered, no_answer}
 use Rattle.helpmate.proofs.Trying.{no_mate_yet, no_mate_more, no_mate_at_all, none_tried, one_more_tried, ends_otherwise, ends_below, all_tried, decides, expanded, undecided, missed}
+use Rattle.helpmate.proofs.LastPly.{one_unit, answer_at, calls_at}
 use Rattle.helpmate.proofs.search.+searching.Goals as goal
 
 pub expand-returns-then-is_mate-clause-units : goal.expand-returns-then-is_mate-clause-units
@@ -19,6 +20,16 @@ expand-returns-then-left-eq0-clause-units g t c = no_units c.args.position.now c
 pub expand-returns-then-left-eq0-clause-calls : goal.expand-returns-then-left-eq0-clause-calls
 expand-returns-then-left-eq0-clause-calls g t c =
     ends_otherwise g.F.Facts.made c.args.facts.now c.args.facts.now c.args.position.now c.args.winner c.args.depth 0 [] _ (none_tried g.F.Facts.made c.args.facts.now c.args.position.now c.args.winner 0 (g.met.F.Facts.none_made c.args.facts.now)) (λ e. cc)
+
+pub expand-returns-then-depth-eq1-clause-units : goal.expand-returns-then-depth-eq1-clause-units
+expand-returns-then-depth-eq1-clause-units g t c = (let some = c.if-left-eq0.false in one_unit c.args.position.now c.args.depth c.args.left.now c.if-depth-eq1.true (omega arith))
+
+pub expand-returns-then-depth-eq1-clause-holds : goal.expand-returns-then-depth-eq1-clause-holds
+expand-returns-then-depth-eq1-clause-holds g t c = answer_at c.args.position.now c.args.winner c.args.depth c.search_last_ply.result c.if-depth-eq1.true c.search_last_ply.ensures.holds
+
+pub expand-returns-then-depth-eq1-clause-calls : goal.expand-returns-then-depth-eq1-clause-calls
+expand-returns-then-depth-eq1-clause-calls g t c =
+    calls_at g.F.Facts.made c.args.facts.now c.search_last_ply.new.facts c.args.position.now c.args.winner c.args.depth (Ok c.search_last_ply.result) c.if-depth-eq1.true c.search_last_ply.ensures.calls
 
 pub expand-returns-in_err-moves-clause-calls : goal.expand-returns-in_err-moves-clause-calls
 expand-returns-in_err-moves-clause-calls g t c =

@@ -3,7 +3,7 @@ use Rattle.std.proofs.Common.{◌≡◌, ℕ, zero, suc, ◌+◌, ◌<◌, ◌�
 use Rattle.std.specs.List.{Contains, filter, flat_map, range_with_len}
 use Rattle.std.proofs.lemmas.List.Elements.{All-contains, All-filter, All-contains_itself, Contains-append_cases}
 use Rattle.std.proofs.lemmas.List.FromFn.{get_or-range_with_len, length-range_with_len}
-use Rattle.cha_moves.proofs.Contained.{Contains-cons_here, Contains-cons_there, Contains-map_parts, Contains-map_from, Contains-flat_map_parts}
+use Rattle.cha_moves.proofs.Contained.{Contains-cons_here, Contains-cons_there, Contains-map_from, Contains-flat_map_parts}
 use Rattle.cha_list.specs.Distinct.{AreDistinct}
 
 pub none_apart : (X : Type 0) → AreDistinct {X = X} []
@@ -23,18 +23,6 @@ joined_apart (x ∷ xs) ys a b none = (
     | inr h ↦ none x (Contains-cons_here x xs x refl) h
   ]),
   joined_apart xs ys a.1 b (λ y here there. none y (Contains-cons_there x xs y here) there),
-)
-
--- images under what tells elements apart
-pub images_apart : {X Y : Type 0} (f : X → Y) → ((a b : X) → f a ≡ f b → a ≡ b) → (xs : List X) → AreDistinct xs → AreDistinct (map f xs)
-unfolding AreDistinct
-images_apart f one [] d = tt
-images_apart {X = X} f one (x ∷ xs) d = (
-  (λ there.
-      let p = Contains-map_parts f xs (f x) there in
-      let P : X → Type 0 = λ y. Contains xs y in
-      d.0 (subst P (one p.0 x p.2) p.1)),
-  images_apart f one xs d.1,
 )
 
 -- elements whose images differ

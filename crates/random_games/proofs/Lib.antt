@@ -11,3 +11,4 @@ pub mod Apart
 pub mod LegalApart
 pub mod Named
 pub mod PlayedAgain
+pub mod Endings

@@ -37,12 +37,7 @@ fn the_opening_has_twenty_moves_in_order(rt: HostRuntime) -> Result<(), Fail> {
 fn the_fools_mate_wins_for_black(rt: HostRuntime) {
     let opening = Position::start();
     let last = from_to(59, 31);
-    let line = [
-        from_to(13, 21),
-        from_to(52, 36),
-        from_to(14, 30),
-        last,
-    ];
+    let line = [from_to(13, 21), from_to(52, 36), from_to(14, 30), last];
     let mut now = opening;
     for m in &line {
         assert!(rt; state(&now) == Standing::Running);

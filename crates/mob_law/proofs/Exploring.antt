@@ -29,7 +29,11 @@ reached q w n e (suc bound) (suc i) small r at =
 
 pub explored_positions : (q : Board) (w : Color) (n : ℕ) → IsExplored q w n → HasPositions q n
 unfolding HasPositions
-explored_positions q w n e =
-    (e.members, e.size, e.distinct, λ r there.
-        let at = slice_get_read e.members (length e.members) there.0 r refl there.1 (sym there.2) in
-        reached q w n e (suc there.0) there.0 (omega arith) r at)
+explored_positions q w n e = (
+  e.members,
+  e.size,
+  e.distinct,
+  λ r there.
+      let at = slice_get_read e.members (length e.members) there.0 r refl there.1 (sym there.2) in
+      reached q w n e (suc there.0) there.0 (omega arith) r at,
+)

@@ -1,0 +1,43 @@
+//! The men that a side has beside its king.
+
+ghost use Rattle.std.specs.Prelude.{◌≡◌, OnErr, IfOk};
+ghost use Rattle.cha_board.specs.Men.{is_non_king};
+ghost use Rattle.cha_board.specs.Board.{man_at};
+ghost use Rattle.cha_board.specs.SquareSets.{set_of};
+ghost use Rattle.mob_small.specs.Small.{HasBeside};
+ghost use Rattle.mob_small.specs.Table.{HasSeveral};
+
+use cha_board::{Color, Kind, Position, SquareSet};
+
+/// A side has several men beside its king.
+#[derive(Clone, Copy, Debug, PartialEq, Eq)]
+pub(crate) struct Several;
+
+/// The kind of the one man that a side has beside its king, or None where it has only its king.
+pub(crate) fn kind_beside(position: &Position, of: Color) -> Result<Option<Kind>, Several>
+    ensures ok { IfOk result (λ kind. HasBeside position.now.men of kind) }
+    ensures err { OnErr result (HasSeveral position.now.men of) }
+{
+    position.known();
+    let beside = non_kings(position, of);
+    match beside.first() {
+        None => Ok(None),
+        Some(at) => {
+            if !beside.without(at).is_empty() {
+                return Err(Several);
+            }
+            match position.man(at) {
+                Some(man) => Ok(Some(man.kind)),
+                None => unreachable!(),
+            }
+        }
+    }
+}
+
+/// The squares of a side's men other than kings.
+fn non_kings(position: &Position, of: Color) -> SquareSet
+    ensures { result ≡ set_of (λ u. is_non_king of (man_at position.now.men u)) }
+{
+    let men = position.placement();
+    men.of_side(of).minus(men.all_of_kind(Kind::King))
+}

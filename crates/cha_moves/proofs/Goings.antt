@@ -149,7 +149,7 @@ with_one true false false false h = refl
 with_one false b false true h = refl
 with_one false b false false h = refl
 
-same_eqb : (t u : ℕ) → (t == u) ≡ (u == t)
+pub same_eqb : (t u : ℕ) → (t == u) ≡ (u == t)
 same_eqb t u = elim (cases_eq t u) [
   | inl e ↦ eq-eqb t u e ∙ sym (eq-eqb u t (sym e))
   | inr ne ↦ ne_eqb t u ne ∙ sym (ne_eqb u t (λ e. ne (sym e)))

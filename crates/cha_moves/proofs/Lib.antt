@@ -23,3 +23,4 @@ pub mod Mated
 pub mod MateLines
 pub mod Captured
 pub mod MateMoves
+pub mod Checking

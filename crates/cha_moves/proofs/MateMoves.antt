@@ -110,12 +110,13 @@ leaves_own q w own side is m h =
     in_squares own m.from listed.from
     (ap (λ x. has_square x m.from) is ∙ has-set_of (λ s. is_of w (man_at q.men s)) m.from listed.from ∙ subst (λ (c : Color). is_of c (man_at q.men m.from) ≡ true) side (own_there q m mover.0 mover.1))
 
-pub goes_way : (q : Board) (ways : List Bool) (from : ℕ) → ways ≡ set_of (is_way q from) → (m : Move) → Contains (legal q) m → m.from ≡ from → Contains (squares_in ways) m.to
-goes_way q ways from is m h f =
-    let listed = is_listed q m h in
+pub way_there : (q : Board) (ways : List Bool) (from : ℕ) → ways ≡ set_of (is_way q from) → (m : Move) → Contains (legal q) m → m.from ≡ from → has_square ways m.to ≡ true
+way_there q ways from is m h f =
     let mover = mover_of q m h in
-    in_squares ways m.to listed.to
-    (ap (λ x. has_square x m.to) is ∙ has-set_of (is_way q from) m.to listed.to ∙ subst (λ (s : ℕ). is_way q s m.to ≡ true) f (way_of q m mover.0 mover.1))
+    ap (λ x. has_square x m.to) is ∙ has-set_of (is_way q from) m.to (is_listed q m h).to ∙ subst (λ (s : ℕ). is_way q s m.to ≡ true) f (way_of q m mover.0 mover.1)
+
+pub goes_way : (q : Board) (ways : List Bool) (from : ℕ) → ways ≡ set_of (is_way q from) → (m : Move) → Contains (legal q) m → m.from ≡ from → Contains (squares_in ways) m.to
+goes_way q ways from is m h f = in_squares ways m.to (is_listed q m h).to (way_there q ways from is m h f)
 
 -- nothing goes from an empty square
 pub none_from : (q : Board) (from : ℕ) → man_at q.men from ≡ None → (m : Move) → Contains (legal q) m → m.from ≡ from → ⊥

@@ -9,3 +9,4 @@ pub mod Texts
 -- what only loops and lemmas use
 pub mod Ways
 pub mod Shields
+pub mod Checks

@@ -3,11 +3,12 @@
 //! `step` has the move, `sides` the ranks of a side's pawns, `passing` what a pawn passes over or captures in passing,
 //! `goes` how men go, `ways` where they may go, `makes` what a move changes, `afterwards` the position after one, `safety` which
 //! moves leave the king unattacked, `shields` what checks it and which men shield it, `legally` which ways are legal,
-//! `list` the legal moves, `some` whether there is one, `ends` how a position stands, `mating` which of them mates, `lines` the lines that end in mate,
+//! `list` the legal moves, `some` whether there is one, `ends` how a position stands, `checks` where a man may give check, `mating` which move mates, `lines` the lines that end in mate,
 //! and `text` the move's text.
 #![tactic(auto)]
 
 mod afterwards;
+mod checks;
 mod ends;
 mod goes;
 mod legally;

@@ -1,14 +1,18 @@
 //! Moves that mate at once.
 
-ghost use Rattle.std.specs.Prelude.{◌≡◌, [], ◌∷◌, true, Some, IsTrue, ◌↔◌, IfSome, IfNone, Contains};
+ghost use Rattle.std.specs.Prelude.{ℕ, ◌≡◌, ◌<◌, [], ◌∷◌, true, Some, IsTrue, ◌↔◌, IfSome, IfNone, Contains};
 ghost use Rattle.cha_board.specs.declared.men.Kind.{Kind as ManKind};
-ghost use Rattle.cha_board.specs.Board.{man_at};
-ghost use Rattle.cha_board.specs.SquareSets.{squares_in};
+ghost use Rattle.cha_board.specs.Men.{other_color};
+ghost use Rattle.cha_board.specs.Squares.{lies_between};
+ghost use Rattle.cha_board.specs.Board.{man_at, king_of};
+ghost use Rattle.cha_board.specs.SquareSets.{squares_in, has_square};
 ghost use Rattle.cha_moves.specs.Step.{Move as Step};
 ghost use Rattle.cha_moves.specs.Moves.{is_promotion};
 ghost use Rattle.cha_moves.specs.Ends.{IsMatingLine};
+ghost use Rattle.cha_moves.specs.Shields.{aims_as};
 
 use crate::afterwards::after;
+use crate::checks::{checks_by, lines_to};
 use crate::ends::is_mate;
 use crate::list::{is_legal, promotion};
 use crate::sides::promotion_rank;
@@ -82,13 +86,24 @@ fn mating_from(position: &Position, from: Square, targets: SquareSet, winner: Co
     None
 }
 
-/// The squares to which the man on a square may have to go so that its move mates.
-fn targets_from(position: &Position, from: Square, winner: Color) -> SquareSet
+/// The squares to which the man on a square may have to go so that its move mates: those on which it may give check, or all
+/// of its ways where it stands on a line to the king of the loser.
+fn targets_from(position: &Position, lines: SquareSet, from: Square, winner: Color) -> SquareSet
+    requires { (u s : ℕ) → u < 64 → s < 64 → aims_as position.now.side (king_of position.now.men (other_color position.now.side)) u (man_at position.now.men u) ≡ true → lies_between u (king_of position.now.men (other_color position.now.side)) s ≡ true → has_square lines s ≡ true }
     ensures { (m : Step) → IsMatingLine position.now winner (m ∷ []) → m.from ≡ from → Contains (squares_in result) m.to }
 {
+    // What gives check is told of valid positions.
+    position.known();
     match position.man(from) {
         None => SquareSet::empty(),
-        Some(man) => ways_of(position, man, from),
+        Some(man) => {
+            let ways = ways_of(position, man, from);
+            if lines.has(from) {
+                ways
+            } else {
+                ways.common(checks_by(position, man.kind))
+            }
+        }
     }
 }
 
@@ -100,9 +115,10 @@ pub fn mating_move(position: &Position, winner: Color) -> Option<Move>
     if !position.side().is(winner) {
         return None;
     }
+    let lines = lines_to(position, position.king(winner.other()));
     let mut left = position.placement().of_side(winner);
     while let Some(from) = left.first() {
-        let targets = targets_from(position, from, winner);
+        let targets = targets_from(position, lines, from, winner);
         if let Some(m) = mating_from(position, from, targets, winner) {
             return Some(m);
         }

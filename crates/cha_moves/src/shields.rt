@@ -29,7 +29,7 @@ fn aimers_of(position: &Position, by: Color, kind: Kind, at: Square) -> SquareSe
 }
 
 /// The squares of the men of a side that aim at a square, over whatever squares.
-fn aimers(position: &Position, by: Color, at: Square) -> SquareSet
+pub fn aimers(position: &Position, by: Color, at: Square) -> SquareSet
     ensures { result ≡ set_of (λ u. aims_as by at u (man_at position.now.men u)) }
 {
     aimers_of(position, by, Kind::Pawn, at)

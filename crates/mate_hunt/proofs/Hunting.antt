@@ -53,6 +53,10 @@ pub no_mate_after : (ns : List Node) (name : ℕ) (w : Color) (q : Board) → Is
 unfolding HasNoMateAfter
 no_mate_after ns name w q at none p there = subst (λ (x : Board). HasNoMatingMove x w) (same_Some q p (sym at ∙ there)) none
 
+pub none_mates : (q : Board) (w : Color) → ((m : Move) → IsMatingMove q w m → ⊥) → HasNoMatingMove q w
+unfolding HasNoMatingMove
+none_mates q w none = none
+
 -- what the position of a node and a legal move reach
 pub reached_by : (ns : List Node) (name : ℕ) (m : Move) (q next : Board) → IsAt ns name q → Contains (legal q) m → next ≡ after q m → IsReached ns name m next
 reached_by ns name m q next at legal is = (q, at, (legal, sym is))
@@ -63,7 +67,7 @@ root_of ns q e = subst (λ (xs : List Node). IsAt xs 0 q) (sym e) refl
 
 -- a line and a move that mates behind it
 line_mates : (p q : Board) (ms : List Move) (w : Color) (m : Move) → IsLine p ms q → IsMatingMove q w m → IsMatingLine p w (ms ++ m ∷ [])
-unfolding IsLine IsMatingMove
+unfolding IsLine
 line_mates p q [] w m line mates = subst (λ (x : Board). IsMatingLine x w (m ∷ [])) (sym line) mates
 line_mates p q (n ∷ ns) w m line mates = (line.0, line_mates (after p n) q ns w m line.1 mates)
 
@@ -95,9 +99,9 @@ begun_next turn name waiting ns root w (inr before) next at none = before
 
 -- a list of one move mates by it
 pub within_one : (q : Board) (w : Color) → (IsMated q (other_color w) → ⊥) → HasNoMatingMove q w → HasNoMateWithin q w 1
-unfolding HasNoMatingMove IsMatingMove
+unfolding HasNoMatingMove
 within_one q w running none [] few line = running line
-within_one q w running none (m ∷ []) few line = none m (line.0, line.1)
+within_one q w running none (m ∷ []) few line = none m line
 within_one q w running none (m ∷ n ∷ rest) few line = absurd (omega arith)
 
 pub none_left : (turn : ℕ) (waiting : List (List ℕ)) (root : Board) (w : Color) → (IsMated root (other_color w) → ⊥) → Begun turn waiting root w → first_name waiting ≡ None → HasNoMateWithin root w 1

@@ -1,16 +1,14 @@
 -- Moves that mate, and nodes from which they lead (this project).
-use Rattle.std.specs.Prelude.{ℕ, List, Contains}
+use Rattle.std.specs.Prelude.{ℕ, List, [], ◌∷◌}
 use Rattle.cha_board.specs.declared.men.Color.{Color}
-use Rattle.cha_board.specs.Men.{other_color}
 use Rattle.cha_board.specs.Board.{Board}
 use Rattle.cha_moves.specs.Step.{Move}
-use Rattle.cha_moves.specs.Moves.{legal, after}
-use Rattle.cha_moves.specs.Ends.{IsMated}
+use Rattle.cha_moves.specs.Ends.{IsMatingLine}
 use Rattle.node_store.specs.Nodes.{Node, IsAt}
 
 -- a legal move mates for a winner
-unfoldable pub IsMatingMove : Board → Color → Move → Type 0
-IsMatingMove q winner m = Contains (legal q) m × IsMated (after q m) (other_color winner)
+abbrev pub IsMatingMove : Board → Color → Move → Type 0
+IsMatingMove q winner m = IsMatingLine q winner (m ∷ [])
 
 -- a legal move from the node of a name mates for a winner
 unfoldable pub IsMateAfter : List Node → ℕ → Color → Move → Type 0

@@ -5,11 +5,10 @@ ghost use Rattle.cha_moves.specs.Ends.{IsMatingLine};
 ghost use Rattle.node_store.specs.Nodes.{IsAt, IsReached};
 ghost use Rattle.mate_hunt.specs.Mates.{IsMateAfter, HasNoMateAfter, Keeps};
 
-use crate::mating::mating_move;
 use crate::waiting::Waiting;
 use cha_board::{Color, Position};
 use cha_list::NoMemory;
-use cha_moves::{Move, Moves, after, legal};
+use cha_moves::{Move, Moves, after, legal, mating_move};
 use node_store::Store;
 use std::alloc::Global;
 
@@ -54,10 +53,10 @@ pub fn expand<W: Waiting>(
     ensures none { IfOk result (λ found. IfNone found (HasNoMateAfter store.old.nodes name winner)) }
 {
     let position = store.position(name);
-    let moves = legal(alloc, &position)?;
-    if let Some(m) = mating_move(&position, &moves, winner) {
+    if let Some(m) = mating_move(&position, winner) {
         return Ok(Some(m));
     }
+    let moves = legal(alloc, &position)?;
     for m in &moves {
         let next = after(&position, *m);
         let_wait(store, name, *m, &next, waiting)?;

@@ -1,12 +1,10 @@
 //! The hunt: a search that follows a guide to a mate, and shortens the line that it finds.
 //!
-//! `hunts` has the hunt, `expansion` what it does with a position, `waiting` which positions wait, `mating` which moves of a
-//! position mate, and `shortening` the shortest line over the positions that were visited.
+//! `hunts` has the hunt, `expansion` what it does with a position, `waiting` which positions wait, and `shortening` the shortest line over the positions that were visited.
 #![tactic(auto)]
 
 mod expansion;
 mod hunts;
-mod mating;
 mod shortening;
 #[cfg(test)]
 mod tests;

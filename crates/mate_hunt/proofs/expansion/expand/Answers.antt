@@ -1,5 +1,5 @@
 use Rattle.std.proofs.Common.{refl, ◌∙◌}
-use Rattle.mate_hunt.proofs.Hunting.{keeps_same, keeps_both, kept, mates_after, no_mate_after}
+use Rattle.mate_hunt.proofs.Hunting.{keeps_same, keeps_both, kept, mates_after, no_mate_after, none_mates}
 use Rattle.mate_hunt.proofs.expansion.expand.Goals as goal
 
 pub returns-in_err-moves-clause-kept : goal.returns-in_err-moves-clause-kept
@@ -29,4 +29,4 @@ loop-m-preserved g c = record {
 }
 
 pub returns-clause-none : goal.returns-clause-none
-returns-clause-none g c = no_mate_after c.args.store.now.nodes c.args.name c.args.winner c.position-position.result c.position-position.ensures c.in_default.ensures.none
+returns-clause-none g c = no_mate_after c.args.store.now.nodes c.args.name c.args.winner c.position-position.result c.position-position.ensures (none_mates _ _ c.in_default.ensures.none)

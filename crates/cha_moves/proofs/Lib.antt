@@ -24,3 +24,5 @@ pub mod MateLines
 pub mod Captured
 pub mod MateMoves
 pub mod Checking
+pub mod Apart
+pub mod LegalApart

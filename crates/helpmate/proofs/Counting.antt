@@ -10,8 +10,8 @@ use Rattle.cha_moves.proofs.Contained.{not_in_nothing, Contains-cons_cases, Cont
 use Rattle.cha_list.specs.Distinct.{AreDistinct}
 use Rattle.cha_moves.specs.Lines.{IsLegalLine, HasLines}
 use Rattle.helpmate.specs.Lines.{AreUnits}
-use Rattle.helpmate.proofs.Apart.{none_apart, one_more_apart, joined_apart, images_apart}
-use Rattle.helpmate.proofs.LegalApart.{legal_apart}
+use Rattle.cha_moves.proofs.Apart.{none_apart, one_more_apart, joined_apart, images_apart}
+use Rattle.cha_moves.proofs.LegalApart.{legal_apart}
 
 -- a line of at most d legal moves that begins with one of these moves
 abbrev pub Begins : Board → ℕ → List Move → List Move → Type 0

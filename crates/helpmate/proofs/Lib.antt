@@ -1,5 +1,3 @@
-pub mod Apart
-pub mod LegalApart
 pub mod Counting
 pub mod FewLines
 pub mod Saying

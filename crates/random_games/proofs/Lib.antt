@@ -7,8 +7,6 @@ pub mod GameFields
 pub mod SpelledWords
 pub mod ReadAgain
 pub mod WordParts
-pub mod Apart
-pub mod LegalApart
 pub mod Named
 pub mod PlayedAgain
 pub mod Endings

@@ -28,8 +28,8 @@ use Rattle.cha_san.specs.Forms.{is_sign, stem, is_short, is_long, unsigned_form,
 use Rattle.cha_san.specs.Resolving.{only, resolved}
 use Rattle.cha_san.proofs.Resolved.{answers_resolved}
 use Rattle.random_games.specs.Words.{kind_text, man_text, castling_text, plain_text, move_word}
-use Rattle.random_games.proofs.LegalApart.{legal_apart}
-use Rattle.random_games.proofs.Apart.{filtered_apart}
+use Rattle.cha_moves.proofs.LegalApart.{legal_apart}
+use Rattle.cha_moves.proofs.Apart.{filtered_apart}
 use Rattle.random_games.proofs.SpelledWords.{plain_is}
 use Rattle.random_games.proofs.WordParts.{says_parts, way_of, pawn_says, man_says}
 

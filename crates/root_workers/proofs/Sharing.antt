@@ -21,7 +21,7 @@ use Rattle.helpmate.specs.declared.answers.RoundAnswer.TheVariants.{Mate, NoneWi
 use Rattle.helpmate.specs.declared.answers.RoundDone.{RoundDone}
 use Rattle.helpmate.specs.Lines.{AreUnits}
 use Rattle.helpmate.specs.Rounds.{IsAnswer, IsAllowed, RoundCalls}
-use Rattle.helpmate.proofs.Apart.{none_apart, one_more_apart, joined_apart}
+use Rattle.cha_moves.proofs.Apart.{none_apart, one_more_apart, joined_apart}
 use Rattle.helpmate.proofs.Counting.{Begins, HasLinesFrom, from_one_more}
 use Rattle.root_workers.specs.declared.task.Task.{Task}
 use Rattle.root_workers.specs.declared.work.RootMate.{RootMate}

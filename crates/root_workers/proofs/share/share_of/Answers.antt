@@ -1,6 +1,6 @@
 use Rattle.std.proofs.Common.{◌≡◌, ℕ, ◌+◌, ◌-◌, ◌^◌, ◌<◌, ◌≤◌, Bool, true, false, List, length, rules, refl, sym, ◌∙◌, ap, subst, arith}
 use Rattle.cha_moves.specs.Step.{Move}
-use Rattle.helpmate.proofs.LegalApart.{few_legal}
+use Rattle.cha_moves.proofs.LegalApart.{few_legal}
 use Rattle.root_workers.specs.Shares.{IsRootMate}
 use Rattle.root_workers.proofs.Sharing.{begun_first, begun_more, share_mate, share_spent, share_refused, share_done, spent_here, shares_none, shares_more, calls_end, calls_done, root_mate, none_behind, left_both, none_left, left_first}
 use Rattle.root_workers.proofs.share.share_of.Goals as goal

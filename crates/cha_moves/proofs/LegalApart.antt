@@ -1,15 +1,18 @@
 -- No two legal moves of a position are one, and there are at most 20,480 of them.
-use Rattle.std.proofs.Common.{◌≡◌, ℕ, ◌∷◌, Option, Some, None, sym, ◌∙◌, ap}
-use Rattle.std.specs.List.{Contains}
+use Rattle.std.proofs.Common.{◌≡◌, ℕ, ◌*◌, ◌≤◌, List, [], ◌∷◌, length, Option, Some, None, refl, sym, ◌∙◌, ap, arith}
+use Rattle.std.specs.List.{Contains, flat_map}
+use Rattle.std.proofs.lemmas.List.{length-append}
+use Rattle.std.proofs.lemmas.List.Sums.{length-filter, count_by-le-length}
 use Rattle.cha_board.specs.declared.men.Kind.{Kind}
 use Rattle.cha_board.specs.declared.men.Kind.TheVariants.{Pawn, Knight, Bishop, Rook, Queen, King}
 use Rattle.cha_board.specs.Board.{Board}
 use Rattle.cha_board.specs.Squares.{squares}
+use Rattle.cha_board.proofs.Scans.{length_squares}
 use Rattle.cha_moves.specs.Step.{Move}
 use Rattle.cha_moves.specs.Moves.{promotions, moves_between, moves_from, all_moves, is_legal_in, legal}
 use Rattle.cha_moves.proofs.Contained.{Contains-map_parts, Contains-flat_map_parts}
 use Rattle.cha_list.specs.Distinct.{AreDistinct}
-use Rattle.random_games.proofs.Apart.{apart_by_images, filtered_apart, pieces_apart, numbers_apart}
+use Rattle.cha_moves.proofs.Apart.{apart_by_images, filtered_apart, pieces_apart, numbers_apart}
 
 abbrev number_of : Option Kind → ℕ
 number_of None = 0
@@ -51,3 +54,33 @@ all_apart = pieces_apart moves_from from_apart (λ a b m one two. sym (from_squa
 pub legal_apart : (q : Board) → AreDistinct (legal q)
 unfolding legal
 legal_apart q = filtered_apart (is_legal_in q) all_moves all_apart
+
+length_pieces : {X Y : Type 0} (f : X → List Y) (k : ℕ) → ((x : X) → length (f x) ≡ k) → (xs : List X) → length (flat_map f xs) ≡ length xs * k
+length_pieces f k each [] = omega arith
+length_pieces f k each (x ∷ xs) =
+    let here = each x in
+    let rest = length_pieces f k each xs in
+    let sum = length-append (f x) (flat_map f xs) in
+    omega arith
+
+length_from : (s : ℕ) → length (moves_from s) ≡ 320
+unfolding moves_from
+length_from s =
+    let size = length_squares in
+    let all = length_pieces (λ t. moves_between s t) 5 (λ t. refl) squares in
+    omega arith
+
+length_all : length all_moves ≡ 20480
+unfolding all_moves
+length_all =
+    let size = length_squares in
+    let all = length_pieces moves_from 320 length_from squares in
+    omega arith
+
+pub few_legal : (q : Board) → length (legal q) ≤ 20480
+unfolding legal
+few_legal q =
+    let kept = length-filter (is_legal_in q) all_moves in
+    let fewer = count_by-le-length (is_legal_in q) all_moves in
+    let all = length_all in
+    omega arith

@@ -3,3 +3,5 @@ pub mod Sharing
 pub mod Gathering
 pub mod Going
 pub mod Ending
+pub mod Crewing
+pub mod Crossing

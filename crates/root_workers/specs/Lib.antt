@@ -1,6 +1,7 @@
 -- what public contracts say
 pub mod Shares
 pub mod Ends
+pub mod Crews
 -- inside the crate
 pub mod Gathers
 pub mod Deepens

@@ -2,7 +2,8 @@
 //!
 //! `answers` has what the rounds answer, `task` what is to do in one round, `work` what a worker leaves of it, `gate` what is
 //! told of each root move, `share` one worker's part of a round, `workers` a crew of them as a whole, `alone` the crew that
-//! needs no thread, `gather` what the works of a round come to, and `deepening` the rounds one after the other.
+//! needs no thread, `many` the crew of threads at one table, `gather` what the works of a round come to, `deepening` the rounds
+//! one after the other, and `table_rounds` the same for threads at a table.
 #![tactic(auto)]
 
 mod alone;
@@ -10,7 +11,9 @@ mod answers;
 mod deepening;
 mod gate;
 mod gather;
+mod many;
 mod share;
+mod table_rounds;
 mod task;
 #[cfg(test)]
 mod tests;
@@ -22,6 +25,8 @@ pub use answers::{RoundsDone, RoundsEnd};
 pub use cha_verdict::Limits;
 pub use deepening::rounds_by;
 pub use gate::{Gate, OpenGate};
+pub use many::{Many, crew};
+pub use table_rounds::rounds;
 pub use task::Task;
-pub use work::{RootMate, Work};
+pub use work::{RootMate, Work, Worker};
 pub use workers::Crew;

@@ -3,6 +3,7 @@
 ghost use Rattle.std.specs.Prelude.{◌≡◌, [], None, false};
 
 use cha_fact::Line;
+use shard_table::TablePass;
 use std::alloc::Global;
 
 /// A root move after which a mate was found.
@@ -27,6 +28,15 @@ pub struct Work {
     pub refused: bool,
     /// How many positions it expanded.
     pub units: u64,
+}
+
+/// A worker of a crew: its number, from 0, the pass with which it takes its turns at the table, and what it left of the last
+/// round.
+#[derive(Drop)]
+pub struct Worker {
+    pub number: u32,
+    pub pass: TablePass,
+    pub work: Work,
 }
 
 impl RootMate {

@@ -1,0 +1,47 @@
+//! The rounds with threads at one table.
+
+ghost use Rattle.std.specs.Prelude.{◌≡◌, ◌≤◌, List, length, IfOk};
+ghost use Rattle.cha_board.specs.Men.{other_color};
+ghost use Rattle.cha_moves.specs.Step.{Move as Step};
+ghost use Rattle.cha_moves.specs.Ends.{IsMated, IsMatingLine, IsUnwinnable};
+ghost use Rattle.root_workers.specs.Crews.{IsCrew, CrewMakes};
+ghost use Rattle.root_workers.specs.Ends.{IsMateEnd, IsEnd, IsAmple, RoundsCalls};
+
+use crate::answers::{RoundsDone, RoundsEnd};
+use crate::deepening::rounds_by;
+use crate::gate::Gate;
+use crate::many::Many;
+use crate::work::Worker;
+use cha_board::{Color, Position};
+use cha_list::NoMemory;
+use cha_verdict::Limits;
+use shard_table::Table;
+use std::alloc::Global;
+use std::sync::Wait;
+use std::thread::Threads;
+
+/// The rounds of a side.
+pub fn rounds<'x, R: Threads + Wait + Sync>(
+    rt: &'x R,
+    alloc: Global,
+    position: &Position,
+    winner: Color,
+    limits: &Limits,
+    table: &'x Table,
+    crew: &'x mut Vec<Worker>,
+    gate: &(dyn Gate + Sync),
+) -> Result<RoundsDone, NoMemory>
+    requires crew { IsCrew table.now crew.old.items }
+    requires workers { length crew.old.items ≡ limits.now.workers }
+    requires running { IsMated position.now (other_color winner) → ⊥ }
+    ensures crew { IsCrew table.now crew.new.items }
+    ensures count { length crew.new.items ≡ length crew.old.items }
+    ensures holds { IfOk result (λ done. IsEnd position.now winner limits.now done.end) }
+    ensures finds_in_two { IfOk result (λ done. (line : List Step) → IsMatingLine position.now winner line → length line ≤ 2 → IsMateEnd done.end) }
+    ensures finds { IfOk result (λ done. (line : List Step) → IsAmple position.now limits.now → IsMatingLine position.now winner line → length line ≤ limits.now.depth → IsMateEnd done.end) }
+    ensures none { IfOk result (λ done. IsAmple position.now limits.now → IsUnwinnable position.now winner → done.end ≡ RoundsEnd.NoneWithin limits.now.depth) }
+    ensures calls { RoundsCalls (CrewMakes 0) CrewMakes (length crew.old.items) crew.old.items crew.new.items position.now winner limits.now result }
+{
+    let mut many = Many::new(rt, table, crew);
+    rounds_by(alloc, position, winner, limits, &mut many, gate)
+}

@@ -1,1 +1,2 @@
 pub mod Hunting
+pub mod Cuts

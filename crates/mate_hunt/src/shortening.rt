@@ -3,6 +3,7 @@
 ghost use Rattle.std.specs.Prelude.{IfOk, IfSome};
 ghost use Rattle.cha_moves.specs.Ends.{IsMatingLine};
 
+use crate::cutting::cut;
 use crate::expansion::{expand, line_to};
 use crate::waiting::{Visited, Waiting};
 use cha_board::{Color, Position};
@@ -35,7 +36,8 @@ fn shortest<W: Waiting>(
     Ok(None)
 }
 
-/// A line that mates, and is no longer than this one: the shortest over the positions that were visited, if that is shorter.
+/// A line that mates, and is no longer than this one: the shortest over the positions that were visited if that is shorter,
+/// cut where two plies mate.
 pub fn shortened(
     alloc: Global,
     position: &Position,
@@ -47,12 +49,12 @@ pub fn shortened(
     ensures { IfOk result (IsMatingLine position.now winner) }
 {
     match shortest(alloc, position, winner, visited)? {
-        None => Ok(line),
+        None => cut(alloc, position, winner, line),
         Some(other) => {
             if other.items().len() < line.items().len() {
-                Ok(other)
+                cut(alloc, position, winner, other)
             } else {
-                Ok(line)
+                cut(alloc, position, winner, line)
             }
         }
     }

@@ -2,7 +2,7 @@
 pub mod Shares
 pub mod Ends
 pub mod Crews
--- inside the crate
 pub mod Gathers
+-- inside the crate
 pub mod Deepens
 pub mod Making

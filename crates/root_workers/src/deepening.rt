@@ -14,7 +14,7 @@ ghost use Rattle.root_workers.specs.Deepens.{plies_of, IsFrom, CrewCalls, RoundS
 
 use crate::answers::{RoundsDone, RoundsEnd};
 use crate::gate::Gate;
-use crate::gather::{gather, units_of};
+use crate::gather::{gathered, units_of};
 use crate::task::Task;
 use crate::workers::Crew;
 use cha_board::{Color, Position};
@@ -66,7 +66,7 @@ fn one_round<C: Crew>(
     ensures grow { AllGrow C.made_by crew.old crew.new (C.count crew.old) }
 {
     crew.share_out(alloc, task, moves, gate);
-    let round = gather(task, moves, crew)?;
+    let round = gathered(task, moves, crew)?;
     Ok(RootDone {
         round,
         units: 1 + units_of(task, moves, crew),

@@ -116,7 +116,7 @@ fn led(task: &Task, moves: &[Move], mate: &RootMate) -> Line
 }
 
 /// What a round comes to. There is no mate only where the root moves that workers cleared are all root moves, each once.
-pub fn gather<C: Crew>(task: &Task, moves: &[Move], crew: &C) -> Result<RoundAnswer, NoMemory>
+pub fn gathered<C: Crew>(task: &Task, moves: &[Move], crew: &C) -> Result<RoundAnswer, NoMemory>
     requires ready { C.ready crew.now }
     requires listed { moves.now ≡ legal_moves task.now.position }
     requires some { 1 ≤ task.now.depth }

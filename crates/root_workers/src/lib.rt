@@ -25,6 +25,7 @@ pub use answers::{RoundsDone, RoundsEnd};
 pub use cha_verdict::Limits;
 pub use deepening::rounds_by;
 pub use gate::{Gate, OpenGate};
+pub use gather::gathered;
 pub use many::{Many, crew};
 pub use table_rounds::rounds;
 pub use task::Task;

@@ -20,7 +20,12 @@ use std::alloc::Global;
 use std::sync::Wait;
 use std::thread::Threads;
 
-/// The rounds of a side.
+/// Looks for a mate for a side in rounds of 1, 2 and so on up to so many plies as the limits have, with threads at one table that
+/// share out the root moves. The position is no mate for the side.
+///
+/// It answers what `rounds_by` answers with the same crew. Each call of a worker is a turn at the table and may wait for others
+/// there; the first worker asks for the position and stores the answer. The gate is told of each root move before a worker
+/// searches it. `NoMemory` means that memory ran out; the crew is a crew still (this project).
 pub fn rounds<'x, R: Threads + Wait + Sync>(
     rt: &'x R,
     alloc: Global,
@@ -32,7 +37,6 @@ pub fn rounds<'x, R: Threads + Wait + Sync>(
     gate: &(dyn Gate + Sync),
 ) -> Result<RoundsDone, NoMemory>
     requires crew { IsCrew table.now crew.old.items }
-    requires workers { length crew.old.items ≡ limits.now.workers }
     requires running { IsMated position.now (other_color winner) → ⊥ }
     ensures crew { IsCrew table.now crew.new.items }
     ensures count { length crew.new.items ≡ length crew.old.items }

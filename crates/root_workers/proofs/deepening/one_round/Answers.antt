@@ -2,8 +2,8 @@ use Rattle.std.proofs.Common.{◌≡◌, Ok, ap}
 use Rattle.root_workers.proofs.Going.{are_shares, round_searches}
 use Rattle.root_workers.proofs.deepening.one_round.Goals as goal
 
-pub gather-requires-clause-shares : goal.gather-requires-clause-shares
-gather-requires-clause-shares g c = are_shares (g.C.Crew.leaves c.share_out.new.self) c.args.task.now c.args.moves.now (g.C.Crew.count c.args.crew.now) (g.C.Crew.count c.share_out.new.self) c.share_out.ensures.shares c.share_out.ensures.count
+pub gathered-requires-clause-shares : goal.gathered-requires-clause-shares
+gathered-requires-clause-shares g c = are_shares (g.C.Crew.leaves c.share_out.new.self) c.args.task.now c.args.moves.now (g.C.Crew.count c.args.crew.now) (g.C.Crew.count c.share_out.new.self) c.share_out.ensures.shares c.share_out.ensures.count
 
 pub units_of-requires-clause-shares : goal.units_of-requires-clause-shares
 units_of-requires-clause-shares g c = are_shares (g.C.Crew.leaves c.share_out.new.self) c.args.task.now c.args.moves.now (g.C.Crew.count c.args.crew.now) (g.C.Crew.count c.share_out.new.self) c.share_out.ensures.shares c.share_out.ensures.count

@@ -2,7 +2,7 @@ use Rattle.std.proofs.Common.{◌≡◌, Ok, List, refl, sym, ◌∙◌}
 use Rattle.cha_list.specs.declared.memory.NoMemory.{NoMemory}
 use Rattle.cha_moves.specs.Step.{Move}
 use Rattle.root_workers.proofs.Gathering.{no_mate_behind, share_at, root_found, same_mate_answer}
-use Rattle.root_workers.proofs.gather.gather.Goals as goal
+use Rattle.root_workers.proofs.gather.gathered.Goals as goal
 
 pub returns-then-are_whole-clause-holds : goal.returns-then-are_whole-clause-holds
 returns-then-are_whole-clause-holds g c = no_mate_behind (g.C.Crew.leaves c.args.crew.now) c.args.task.now c.args.moves.now (g.C.Crew.count c.args.crew.now) c.if-are_whole.ensures.some c.requires.shares (c.if-are_whole.ensures.whole refl) c.requires.listed c.requires.running

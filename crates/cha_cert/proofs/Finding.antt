@@ -72,19 +72,19 @@ sorted_shows nodes packed sorted same moved valid q good =
       (λ there. Contains-permutation packed sorted (packed_of q) moved (rw (sym same) at (shows.1 there))),
     )
 
--- one more node is packed
-pub packed_more : (nodes : List Node) (k : ℕ) (packed more : List Packed) (p : Packed) (d : Node) → k < length nodes
-    → packed ≡ map (λ node. packed_of node.position) (take k nodes) → p.words ≡ words_of (get_or nodes k d).position
-    → more ≡ packed ++ p ∷ [] → more ≡ map (λ node. packed_of node.position) (take (k + 1) nodes)
-packed_more nodes k packed more p d inside so_far words pushed =
-    let one = packed_same p (packed_of (get_or nodes k d).position) words in
-    pushed ∙ (λ i. so_far i ++ one i ∷ []) ∙ sym (map-append (λ node. packed_of node.position) (take k nodes) (get_or nodes k d ∷ [])) ∙ ap (map (λ node. packed_of node.position)) (sym (take_more nodes k d inside))
+-- one more node is packed, whatever kind of node it is
+pub packed_more : {X : Type 0} (position : X → Board) (nodes : List X) (k : ℕ) (packed more : List Packed) (p : Packed) (d : X) → k < length nodes
+    → packed ≡ map (λ node. packed_of (position node)) (take k nodes) → p.words ≡ words_of (position (get_or nodes k d))
+    → more ≡ packed ++ p ∷ [] → more ≡ map (λ node. packed_of (position node)) (take (k + 1) nodes)
+packed_more position nodes k packed more p d inside so_far words pushed =
+    let one = packed_same p (packed_of (position (get_or nodes k d))) words in
+    pushed ∙ (λ i. so_far i ++ one i ∷ []) ∙ sym (map-append (λ node. packed_of (position node)) (take k nodes) (get_or nodes k d ∷ [])) ∙ ap (map (λ node. packed_of (position node))) (sym (take_more nodes k d inside))
 
 -- one more node's position is valid
-pub valid_more : (nodes : List Node) (k : ℕ) (item : Node) → ((j : ℕ) (d : Node) → j < k → IsValid (get_or nodes j d).position)
-    → ((d : Node) → IsValid (get_or nodes k d).position) → (j : ℕ) (d : Node) → j < k + 1 → IsValid (get_or nodes j d).position
-valid_more nodes k item before here j d less =
+pub valid_more : {X : Type 0} (position : X → Board) (nodes : List X) (k : ℕ) (item : X) → ((j : ℕ) (d : X) → j < k → IsValid (position (get_or nodes j d)))
+    → ((d : X) → IsValid (position (get_or nodes k d))) → (j : ℕ) (d : X) → j < k + 1 → IsValid (position (get_or nodes j d))
+valid_more position nodes k item before here j d less =
     elim (cases_lt j k) [
       | inl low ↦ before j d low
-      | inr high ↦ (let same : k ≡ j = omega arith in subst (λ i. IsValid (get_or nodes i d).position) same (here d))
+      | inr high ↦ (let same : k ≡ j = omega arith in subst (λ i. IsValid (position (get_or nodes i d))) same (here d))
     ]

@@ -2,3 +2,5 @@ mod Finding
 pub mod Bounded
 mod Answering
 mod Leading
+mod OnceWritten
+mod Expanded

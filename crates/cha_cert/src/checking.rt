@@ -3,8 +3,8 @@
 ghost use Rattle.std.specs.Prelude.{◌≡◌, ◌<◌, ◌≤◌, ◌^◌, ◌↔◌, length, IsTrue, IfOk};
 ghost use Rattle.cha_moves.specs.Ends.{IsUnwinnable};
 ghost use Rattle.cha_cert.specs.declared.checking.Checked.TheVariants.{Accepted};
-ghost use Rattle.cha_cert.specs.Certificates.{IsValidCert, Answers, InnerHolds, LeafHolds, NodeHolds, FirstFailing};
-ghost use Rattle.cha_cert.specs.Indexed.{Shows};
+ghost use Rattle.cha_cert.specs.Certificates.{IsValidCert, Answers, LeafHolds, NodeHolds, FirstFailing};
+ghost use Rattle.cha_cert.specs.Indexed.{Shows, LeadsInto};
 
 use crate::indexing::Index;
 use crate::nodes::{Cert, Node, Part};
@@ -84,22 +84,21 @@ fn node_holds(
     requires { Shows nodes.now index.now }
     ensures { IfOk result (λ holds. IsTrue holds ↔ NodeHolds winner nodes.now node.now) }
 {
+    node.position.known();
     match &node.part {
-        Part::Inner => inner_holds(alloc, nodes, index, winner, &node.position),
+        Part::Inner => inner_holds(alloc, index, winner, &node.position),
         Part::Leaf(sets) => Ok(leaf_holds(winner, &node.position, sets)),
     }
 }
 
-/// Whether a position is no mate for a side, and each legal move leads to the position of some node.
-fn inner_holds(
+/// Whether a position is no mate for a side, and each legal move leads to a position of the index.
+pub(crate) fn inner_holds(
     alloc: Global,
-    nodes: &[Node],
     index: &Index,
     winner: Color,
     position: &Position,
 ) -> Result<bool, NoMemory>
-    requires { Shows nodes.now index.now }
-    ensures { IfOk result (λ holds. IsTrue holds ↔ InnerHolds winner nodes.now position.now) }
+    ensures { IfOk result (λ holds. IsTrue holds ↔ LeadsInto winner index.now position.now) }
 {
     if is_mate(position, winner) {
         return Ok(false);
@@ -114,7 +113,7 @@ fn inner_holds(
 }
 
 /// Whether mobility sets are closed for a position and have no mate for a side.
-fn leaf_holds(winner: Color, position: &Position, sets: &Sets) -> bool
+pub(crate) fn leaf_holds(winner: Color, position: &Position, sets: &Sets) -> bool
     ensures { IsTrue result ↔ LeafHolds winner position.now sets.now }
 {
     proves_unwinnable(position, winner, sets)

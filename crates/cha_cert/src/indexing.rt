@@ -1,12 +1,14 @@
 //! Where positions stand in a certificate: in order of their words, so that one is found without a look at each node.
 
-ghost use Rattle.std.specs.Prelude.{◌≡◌, ◌↔◌, IsTrue, IfOk, map, Contains};
+ghost use Rattle.std.specs.Prelude.{◌≡◌, ◌↔◌, IsTrue, IfOk, map, Contains, All};
 ghost use Rattle.cha_cert.specs.declared.nodes.Node.{Node as CertNode};
 ghost use Rattle.cha_board.specs.Board.{IsValid};
 ghost use Rattle.cha_cert.specs.Certificates.{AllValid};
+ghost use Rattle.cha_cert.specs.Shared.{expansion};
 ghost use Rattle.cha_cert.specs.Indexed.{packed_of, Shows, AreSorted};
 
 use crate::nodes::Node;
+use crate::shared::{SharedCert, SharedNode};
 use cha_board::{Packed, Position};
 use cha_list::NoMemory;
 use std::alloc::Global;
@@ -41,6 +43,16 @@ impl Index {
         Ok(Index { places })
     }
 
+    /// The index of the positions of the nodes of a shared certificate.
+    pub fn of_shared(alloc: Global, shared: &SharedCert) -> Result<Index, NoMemory>
+        ensures shows { IfOk result (λ index. Shows (expansion shared.now) index) }
+        ensures valid { IfOk result (λ index. AllValid (expansion shared.now)) }
+    {
+        let mut places = packed_shared(alloc, shared.nodes())?;
+        places.sort()?;
+        Ok(Index { places })
+    }
+
     /// Whether some node has a position.
     pub fn has(&self, position: &Position) -> bool
         ensures found { IsTrue result ↔ Contains self.now (packed_of position.now) }
@@ -60,6 +72,19 @@ fn packed(alloc: Global, nodes: &[Node]) -> Result<Vec<Packed>, NoMemory>
     for node in nodes {
         node.position.known();
         places.push(node.position.pack())?;
+    }
+    Ok(places)
+}
+
+/// The words of the positions of the nodes of a shared certificate.
+fn packed_shared(alloc: Global, nodes: &[SharedNode]) -> Result<Vec<Packed>, NoMemory>
+    ensures places { IfOk result (λ places. places.items ≡ map (λ node. packed_of node.position) nodes.now) }
+    ensures valid { IfOk result (λ places. All (λ node. IsValid node.position) nodes.now) }
+{
+    let mut places = Vec::with_capacity(alloc, nodes.len())?;
+    for shared in nodes {
+        shared.position.known();
+        places.push(shared.position.pack())?;
     }
     Ok(places)
 }

@@ -1,14 +1,24 @@
 //! Certificates that no series of legal moves mates for a side, and the check that believes nothing else.
 //!
 //! `nodes` has the certificate, `indexing` where positions stand in it, `checking` the check, and `law` what a valid
-//! certificate means.
+//! certificate means. `shared` has the certificate in which equal sets are written once, `sharing` the way there and back,
+//! with `same`, and `shared_checking` its check.
 #![tactic(auto)]
 
 mod checking;
 mod indexing;
 mod law;
 mod nodes;
+mod same;
+mod shared;
+mod shared_checking;
+mod sharing;
+#[cfg(test)]
+mod tests;
 
 pub use checking::{Checked, check};
 pub use law::valid_means_unwinnable;
 pub use nodes::{Cert, Node, Part};
+pub use shared::{SharedCert, SharedNode, SharedPart};
+pub use shared_checking::check_shared;
+pub use sharing::{expand, share};

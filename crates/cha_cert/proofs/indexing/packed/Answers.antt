@@ -8,9 +8,9 @@ use Rattle.cha_cert.proofs.indexing.packed.Goals as goal
 pub loop-node-preserved : goal.loop-node-preserved
 loop-node-preserved c = record {
   places =
-      packed_more c.args.nodes.now c.loop-node.node-index c.loop-node.places.items c.push.new.self.items c.pack.result c.node-item.result c.loop-node-test.true c.loop-node.invariant.places
+      packed_more (λ node. node.position) c.args.nodes.now c.loop-node.node-index c.loop-node.places.items c.push.new.self.items c.pack.result c.node-item.result c.loop-node-test.true c.loop-node.invariant.places
       (c.pack.ensures ∙ ap (λ node. words_of node.position) c.node-item.is) c.in_ok-push.ensures.items;
   valid =
-      valid_more c.args.nodes.now c.loop-node.node-index c.node-item.result c.loop-node.invariant.valid
+      valid_more (λ node. node.position) c.args.nodes.now c.loop-node.node-index c.node-item.result c.loop-node.invariant.valid
       (λ d. subst (λ node. IsValid node.position) (get_or_read c.args.nodes.now c.loop-node.node-index c.node-item.result c.loop-node-test.true c.node-item.is d) c.known.ensures);
 }

@@ -1,0 +1,118 @@
+//! A certificate with its equal sets written once, and back.
+
+ghost use Rattle.std.specs.Prelude.{◌≡◌, ◌<◌, ◌^◌, [], ◌∷◌, ◌++◌, List, None, length, IfOk, IfSome, OnOk, Contains};
+ghost use Rattle.cha_cert.specs.declared.nodes.Node.{Node as CertNode};
+ghost use Rattle.cha_cert.specs.declared.nodes.Part.TheVariants.{Inner as CertInner, Leaf as CertLeaf};
+ghost use Rattle.cha_cert.specs.Shared.{Names, AreInOrder, Shares, IsAt, expansion, part_of};
+
+use crate::nodes::{Cert, Node, Part};
+use crate::same::same_sets;
+use crate::shared::{SharedCert, SharedNode, SharedPart};
+use cha_board::Position;
+use cha_list::NoMemory;
+use mob_sets::Sets;
+use std::alloc::Global;
+
+/// The certificate with its equal sets written once: its expansion is the one that is given, its sets are distinct, each is
+/// named by some leaf, and they stand in the order in which they are named first.
+pub fn share(alloc: Global, cert: &Cert) -> Result<SharedCert, NoMemory>
+    requires { length cert.now < 2 ^ 32 }
+    ensures expands { IfOk result (λ shared. expansion shared ≡ cert.now) }
+    ensures order { IfOk result (λ shared. AreInOrder shared) }
+{
+    let mut shared = SharedCert::new(alloc);
+    for node in cert.nodes() {
+        add(alloc, &mut shared, node)?;
+    }
+    Ok(shared)
+}
+
+/// Appends a node to what is shared already.
+fn add(alloc: Global, shared: &mut SharedCert, node: &Node) -> Result<(), NoMemory>
+    requires { length shared.old.sets < 2 ^ 32 }
+    ensures { (nodes : List CertNode) → Shares shared.old nodes → OnOk result (Shares shared.new (nodes ++ node.now ∷ [])) }
+{
+    match &node.part {
+        Part::Inner => add_inner(shared, node.position),
+        Part::Leaf(sets) => add_leaf(alloc, shared, node.position, sets),
+    }
+}
+
+/// Appends an inner node.
+fn add_inner(shared: &mut SharedCert, position: Position) -> Result<(), NoMemory>
+    ensures { (nodes : List CertNode) → Shares shared.old nodes → OnOk result (Shares shared.new (nodes ++ (record { position = position; part = CertInner }) ∷ [])) }
+{
+    shared.push(SharedNode {
+        position,
+        part: SharedPart::Inner,
+    })?;
+    Ok(())
+}
+
+/// Appends a leaf, and its sets where they are new.
+fn add_leaf(
+    alloc: Global,
+    shared: &mut SharedCert,
+    position: Position,
+    sets: &Sets,
+) -> Result<(), NoMemory>
+    requires { length shared.old.sets < 2 ^ 32 }
+    ensures { (nodes : List CertNode) → Shares shared.old nodes → OnOk result (Shares shared.new (nodes ++ (record { position = position; part = CertLeaf sets.now }) ∷ [])) }
+{
+    match number_of(shared.sets(), sets) {
+        Some(number) => {
+            shared.push(SharedNode {
+                position,
+                part: SharedPart::Leaf(number as u32),
+            })?;
+            Ok(())
+        }
+        None => {
+            let number = shared.sets().len() as u32;
+            shared.add_sets(sets.copy(alloc)?)?;
+            shared.push(SharedNode {
+                position,
+                part: SharedPart::Leaf(number),
+            })?;
+            Ok(())
+        }
+    }
+}
+
+/// The number of some sets among others, if they are there.
+fn number_of(all: &[Sets], wanted: &Sets) -> Option<usize>
+    ensures some { IfSome result (λ number. IsAt all.now wanted.now number) }
+    ensures none { result ≡ None → Contains all.now wanted.now → ⊥ }
+{
+    for number in 0..all.len() {
+        if same_sets(&all[number], wanted) {
+            return Some(number);
+        }
+    }
+    None
+}
+
+/// The expansion of a shared certificate: the same nodes, each leaf with the sets that it names.
+pub fn expand(alloc: Global, shared: &SharedCert) -> Result<Cert, NoMemory>
+    ensures { IfOk result (λ cert. cert ≡ expansion shared.now) }
+{
+    let mut cert = Cert::new(alloc);
+    for node in shared.nodes() {
+        cert.push(Node {
+            position: node.position,
+            part: part_with(alloc, shared.sets(), node.part)?,
+        })?;
+    }
+    Ok(cert)
+}
+
+/// The part of a node with sets of its own.
+fn part_with(alloc: Global, sets: &[Sets], part: SharedPart) -> Result<Part, NoMemory>
+    requires { Names (length sets.now) part }
+    ensures { IfOk result (λ own. own ≡ part_of sets.now part) }
+{
+    match part {
+        SharedPart::Inner => Ok(Part::Inner),
+        SharedPart::Leaf(number) => Ok(Part::Leaf(sets[number as usize].copy(alloc)?)),
+    }
+}

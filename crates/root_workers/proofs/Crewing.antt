@@ -1,5 +1,5 @@
 -- Workers of a crew, one after the other.
-use Rattle.std.proofs.Common.{◌≡◌, ◌≢◌, ℕ, zero, suc, ◌+◌, ◌%◌, ◌<◌, ◌≤◌, ◌⊎◌, Result, inl, inr, List, [], ◌∷◌, ◌++◌, length, take, drop, get_or, slice_set, slice_index_or, refl, sym, ◌∙◌, ap, subst, arith}
+use Rattle.std.proofs.Common.{◌≡◌, ◌≢◌, ℕ, zero, suc, ◌+◌, ◌%◌, ◌<◌, ◌≤◌, ◌⊎◌, Result, inl, inr, List, [], ◌∷◌, ◌++◌, length, take, drop, slice_set, slice_index_or, refl, sym, ◌∙◌, ap, subst, arith}
 use Rattle.std.proofs.lemmas.List.{get_or-set_same, get_or-set_other, get_or_default, get_or_append_left, length-append}
 use Rattle.std.proofs.Math.Seq.{get_or-append_seam, take-append_seam}
 use Rattle.cha_list.specs.declared.memory.NoMemory.{NoMemory}
@@ -11,7 +11,7 @@ use Rattle.cha_fact.specs.Entries.{Entry}
 use Rattle.shard_table.specs.Makes.{Makes}
 use Rattle.shard_table.specs.Making.{makes_none}
 use Rattle.root_workers.specs.Making.{at_default}
-use Rattle.shard_table.specs.Tables.{IsOfTable, IsFirstPass, SplitsAll, splits_of}
+use Rattle.shard_table.specs.Tables.{IsOfTable, SplitsAll, splits_of}
 use Rattle.shard_table.specs.declared.table.Table.{Table}
 use Rattle.shard_table.specs.declared.table.TablePass.{TablePass}
 use Rattle.root_workers.specs.declared.task.Task.{Task}

@@ -1,5 +1,5 @@
 -- What the workers share may be shared by threads.
-use denote.Param.Send.{IsSend, IsSync, sendable}
+use denote.Param.Send.{IsSync, sendable}
 use Rattle.std.proofs.Crossing.{crosses}
 use Rattle.cha_moves.specs.contracts.step.Move.{the_row as move_row}
 use Rattle.root_workers.specs.contracts.task.Task.{the_row as task_row}

@@ -1,5 +1,5 @@
 -- What the rounds answer, and their calls from the first to the last.
-use Rattle.std.proofs.Common.{◌≡◌, ℕ, zero, suc, ◌+◌, ◌-◌, ◌%◌, ◌<◌, ◌≤◌, ◌⊎◌, List, [], ◌∷◌, ◌++◌, length, Option, Some, None, Result, Ok, Err, IfOk, inl, inr, refl, sym, ◌∙◌, ap, subst, arith}
+use Rattle.std.proofs.Common.{◌≡◌, ℕ, ◌-◌, ◌%◌, ◌<◌, ◌≤◌, ◌⊎◌, List, [], ◌∷◌, ◌++◌, length, Option, Some, None, Result, Ok, Err, IfOk, inl, inr, refl, sym, ◌∙◌, ap, subst, arith}
 use Rattle.std.specs.List.{Contains, slice_get}
 use Rattle.std.proofs.Math.Nat.{mod-lt}
 use Rattle.std.proofs.lemmas.List.Elements.{Contains-append_left, Contains-append_right, Contains-push}
@@ -8,7 +8,7 @@ use Rattle.cha_board.specs.declared.men.Color.{Color}
 use Rattle.cha_board.specs.Board.{Board}
 use Rattle.cha_moves.specs.Step.{Move}
 use Rattle.cha_moves.specs.Moves.{after, legal}
-use Rattle.cha_moves.specs.Ends.{IsMatingLine, IsUnwinnable, HasNoMateWithin}
+use Rattle.cha_moves.specs.Ends.{IsMatingLine, IsUnwinnable}
 use Rattle.cha_moves.specs.Lines.{HasLines}
 use Rattle.cha_moves.proofs.Contained.{Contains-cons_here}
 use Rattle.cha_verdict.specs.Bounds.{Bounds}

@@ -1,21 +1,19 @@
 -- What the works of a round come to.
-use Rattle.std.proofs.Common.{◌≡◌, ℕ, zero, suc, ◌+◌, ◌-◌, ◌*◌, ◌%◌, ◌^◌, ◌<◌, ◌≤◌, ◌⊎◌, Bool, true, false, List, [], ◌∷◌, length, get_or, Option, Some, None, Result, Ok, inl, inr, refl, sym, ◌∙◌, ap, subst, arith}
+use Rattle.std.proofs.Common.{◌≡◌, ℕ, zero, suc, ◌+◌, ◌-◌, ◌%◌, ◌^◌, ◌<◌, ◌≤◌, ◌⊎◌, List, [], ◌∷◌, length, Option, Some, None, Result, Ok, inl, inr, refl, sym, ◌∙◌, ap, subst, arith}
 use Rattle.std.specs.List.{Contains, slice_get}
 use Rattle.std.proofs.Math.Nat.{mod-lt}
 use Rattle.std.proofs.lemmas.Option.{slice_get-get_or, slice_get_within, same_Some}
 use Rattle.cha_list.specs.declared.memory.NoMemory.{NoMemory}
 use Rattle.helpmate.specs.declared.answers.RoundAnswer.{RoundAnswer}
 use Rattle.helpmate.specs.declared.answers.RoundAnswer.TheVariants.{Mate}
-use Rattle.cha_board.specs.declared.men.Color.{Color}
 use Rattle.cha_board.specs.Men.{other_color}
-use Rattle.cha_board.specs.Board.{Board}
 use Rattle.cha_moves.specs.Step.{Move}
 use Rattle.cha_moves.specs.Moves.{after, legal}
 use Rattle.cha_moves.specs.Ends.{IsMated, IsMatingLine, HasNoMateWithin}
 use Rattle.root_workers.specs.declared.task.Task.{Task}
 use Rattle.root_workers.specs.declared.work.RootMate.{RootMate}
 use Rattle.root_workers.specs.declared.work.Work.{Work}
-use Rattle.root_workers.specs.Shares.{IsWhole, IsCleared, IsRootMate, IsSpent, IsShare}
+use Rattle.root_workers.specs.Shares.{IsWhole, IsCleared, IsRootMate, IsShare}
 use Rattle.root_workers.specs.Gathers.{IsNoHigher, IsRootMateOr, AreShares, AreWhole}
 
 pub share_at : (leaves : ℕ → Work → Type 0) (task : Task) (moves : List Move) (count i : ℕ) (work : Work) → AreShares leaves task moves count → i < count → leaves i work → IsShare task moves i count work

@@ -1,29 +1,23 @@
 -- The rounds one after the other, and their calls.
-use Rattle.std.proofs.Common.{◌≡◌, ℕ, zero, suc, ◌+◌, ◌-◌, ◌%◌, ◌<◌, ◌≤◌, ◌⊎◌, List, [], ◌∷◌, ◌++◌, length, Option, Some, None, Result, Ok, inl, inr, refl, sym, ◌∙◌, ap, subst, arith}
-use Rattle.std.specs.List.{Contains, slice_get}
+use Rattle.std.proofs.Common.{◌≡◌, ℕ, ◌+◌, ◌-◌, ◌<◌, ◌≤◌, List, [], ◌∷◌, ◌++◌, Some, Result, Ok, refl, sym, ◌∙◌, ap, subst, arith}
 use Rattle.std.proofs.lemmas.List.Elements.{Contains-append_left, Contains-append_right}
-use Rattle.std.proofs.lemmas.Option.{same_Some}
 use Rattle.cha_list.specs.declared.memory.NoMemory.{NoMemory}
 use Rattle.cha_board.specs.declared.men.Color.{Color}
 use Rattle.cha_board.specs.Board.{Board}
 use Rattle.cha_moves.specs.Step.{Move}
 use Rattle.cha_moves.specs.Moves.{after, legal}
-use Rattle.cha_moves.specs.Ends.{IsMatingLine, HasNoMateWithin}
 use Rattle.cha_moves.specs.Lines.{HasLines}
-use Rattle.cha_verdict.specs.Bounds.{Bounds}
 use Rattle.cha_fact.specs.declared.calls.Stored.{Stored}
 use Rattle.cha_fact.specs.Truths.{Claim}
-use Rattle.cha_fact.specs.Entries.{Entry, store_entry, IsSearched}
+use Rattle.cha_fact.specs.Entries.{Entry, store_entry}
 use Rattle.cha_fact.proofs.Searching.{Within, searched_more}
 use Rattle.root_workers.specs.declared.task.Task.{Task}
 use Rattle.root_workers.specs.declared.work.Work.{Work}
-use Rattle.root_workers.specs.declared.answers.RoundsEnd.{RoundsEnd}
 use Rattle.root_workers.specs.declared.answers.RoundsEnd.TheVariants.{Mate, NoneWithin}
 use Rattle.root_workers.specs.declared.answers.RoundsDone.{RoundsDone}
-use Rattle.root_workers.specs.Shares.{IsWhole, IsShare, IsSpent, AreSharesSearched, ShareCalls, AllGrow}
-use Rattle.root_workers.specs.Ends.{IsEnd, IsAmple, claim_of, HasEndStore}
+use Rattle.root_workers.specs.Shares.{IsShare, IsSpent, AreSharesSearched, ShareCalls, AllGrow}
 use Rattle.root_workers.specs.Gathers.{AreShares, AreWhole}
-use Rattle.root_workers.specs.Deepens.{WorkerCalls, CrewCalls, RoundSearches, DeepenCalls, KeepCalls, KeptCalls}
+use Rattle.root_workers.specs.Deepens.{WorkerCalls, CrewCalls, RoundSearches, DeepenCalls, KeepCalls}
 
 front_within : (xs ys : List Entry) → Within xs (xs ++ ys)
 front_within xs ys e there = Contains-append_left xs ys e there

@@ -1,5 +1,5 @@
 -- Workers with a pass each at one table (this project).
-use Rattle.std.specs.Prelude.{◌≡◌, ℕ, ◌<◌, ◌≤◌, List, length, slice_index_or, slice_get, Some}
+use Rattle.std.specs.Prelude.{◌≡◌, ℕ, ◌<◌, ◌≤◌, List, length, slice_index_or}
 use Rattle.cha_moves.specs.Step.{Move}
 use Rattle.cha_fact.specs.Entries.{Entry}
 use Rattle.shard_table.specs.Makes.{Makes}

@@ -4,7 +4,6 @@ use Rattle.cha_list.specs.declared.memory.NoMemory.{NoMemory}
 use Rattle.cha_board.specs.declared.men.Color.{Color}
 use Rattle.cha_board.specs.Board.{Board}
 use Rattle.cha_moves.specs.Moves.{legal}
-use Rattle.cha_verdict.specs.Bounds.{Bounds}
 use Rattle.cha_fact.specs.declared.fact.Fact.{Fact}
 use Rattle.cha_fact.specs.declared.fact.Fact.TheVariants.{Mate as MateFact, NoneWithin as NoneFact}
 use Rattle.cha_fact.specs.declared.calls.Stored.{Stored}
@@ -15,7 +14,7 @@ use Rattle.root_workers.specs.declared.answers.RoundsEnd.{RoundsEnd}
 use Rattle.root_workers.specs.declared.answers.RoundsEnd.TheVariants.{Mate, NoneWithin}
 use Rattle.root_workers.specs.declared.answers.RoundsDone.{RoundsDone}
 use Rattle.root_workers.specs.Shares.{AreSharesSearched}
-use Rattle.root_workers.specs.Ends.{claim_of, HasEndStore}
+use Rattle.root_workers.specs.Ends.{HasEndStore}
 
 -- up to which depth a fact shows that there is no mate
 abbrev pub plies_of : Fact → ℕ

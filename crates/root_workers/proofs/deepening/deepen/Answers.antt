@@ -1,6 +1,5 @@
-use Rattle.std.proofs.Common.{◌≡◌, ℕ, ◌+◌, ◌-◌, ◌*◌, ◌^◌, ◌<◌, ◌≤◌, Ok, inl, inr, refl, sym, ◌∙◌, ap, subst, arith}
+use Rattle.std.proofs.Common.{◌+◌, inr, refl, ◌∙◌, arith}
 use Rattle.helpmate.proofs.Saying.{no_answer, none_answered}
-use Rattle.root_workers.specs.declared.answers.RoundsEnd.TheVariants.{Mate, NoneWithin}
 use Rattle.root_workers.proofs.Going.{no_calls, last_round, ends_rounds, round_more, depth_is, mate_is_none, spent_lines}
 use Rattle.root_workers.proofs.deepening.deepen.Goals as goal
 

@@ -1,4 +1,4 @@
-use Rattle.std.proofs.Common.{sym, ◌∙◌, arith}
+use Rattle.std.proofs.Common.{sym, ◌∙◌}
 use Rattle.cha_fact.specs.declared.fact.Fact.TheVariants.{NoneWithin}
 use Rattle.helpmate.proofs.Saying.{true_of_asked}
 use Rattle.root_workers.proofs.deepening.known_plies.Goals as goal

@@ -1,4 +1,4 @@
-use Rattle.std.proofs.Common.{◌≡◌, Ok, ap}
+use Rattle.std.proofs.Common.{Ok, ap}
 use Rattle.root_workers.proofs.Going.{are_shares, round_searches}
 use Rattle.root_workers.proofs.deepening.one_round.Goals as goal
 

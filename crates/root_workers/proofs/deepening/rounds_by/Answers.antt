@@ -1,4 +1,4 @@
-use Rattle.std.proofs.Common.{◌≡◌, [], ◌∷◌, Some, refl, sym, ◌∙◌, ap, subst}
+use Rattle.std.proofs.Common.{[], ◌∷◌, Some, sym, ◌∙◌, ap, subst}
 use Rattle.cha_fact.specs.declared.key.Key.{Key}
 use Rattle.cha_fact.specs.Entries.{probe_entry}
 use Rattle.root_workers.proofs.Ending.{decided_none, finds, finds_none, rounds_calls, known_missed, known_found, undecided_found, undecided_missed}

@@ -1,4 +1,4 @@
-use Rattle.std.proofs.Common.{refl, ◌∙◌, sym, subst, arith, IsTrue, rules, ℕ, ◌<◌, ◌≤◌}
+use Rattle.std.proofs.Common.{refl, rules}
 use Rattle.root_workers.proofs.Gathering.{whole_none, whole_more, whole_end}
 use Rattle.root_workers.proofs.gather.are_whole.Goals as goal
 

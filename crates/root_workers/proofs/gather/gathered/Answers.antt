@@ -1,6 +1,4 @@
-use Rattle.std.proofs.Common.{◌≡◌, Ok, List, refl, sym, ◌∙◌}
-use Rattle.cha_list.specs.declared.memory.NoMemory.{NoMemory}
-use Rattle.cha_moves.specs.Step.{Move}
+use Rattle.std.proofs.Common.{refl, ◌∙◌}
 use Rattle.root_workers.proofs.Gathering.{no_mate_behind, share_at, root_found, same_mate_answer}
 use Rattle.root_workers.proofs.gather.gathered.Goals as goal
 

@@ -1,4 +1,3 @@
-use Rattle.std.proofs.Common.{◌<◌, sym, subst}
 use Rattle.root_workers.proofs.Gathering.{below_count}
 use Rattle.root_workers.proofs.gather.is_spent.Goals as goal
 

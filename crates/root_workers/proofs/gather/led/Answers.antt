@@ -1,5 +1,5 @@
-use Rattle.std.proofs.Common.{◌≡◌, ℕ, ◌<◌, ◌≤◌, List, ◌∷◌, length, refl, sym, ◌∙◌, ap, subst, arith, rules}
-use Rattle.std.proofs.lemmas.Option.{slice_get_read, same_Some, none-some}
+use Rattle.std.proofs.Common.{◌≡◌, List, ◌∷◌, length, refl, sym, ◌∙◌, ap, subst, arith, rules}
+use Rattle.std.proofs.lemmas.Option.{slice_get_read, same_Some}
 use Rattle.cha_moves.specs.Step.{Move}
 use Rattle.cha_moves.specs.Ends.{IsMatingLine}
 use Rattle.root_workers.proofs.Gathering.{root_line, root_inside, root_short}

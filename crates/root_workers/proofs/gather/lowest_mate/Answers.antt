@@ -1,5 +1,4 @@
-use Rattle.std.proofs.Common.{refl, Option, None}
-use Rattle.root_workers.specs.declared.work.RootMate.{RootMate}
+use Rattle.std.proofs.Common.{refl}
 use Rattle.root_workers.proofs.Gathering.{share_at, below_count, mate_or, either_mate, lowest_none, lowest_more, lowest_end}
 use Rattle.root_workers.proofs.gather.lowest_mate.Goals as goal
 

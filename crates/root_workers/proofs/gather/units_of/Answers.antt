@@ -1,5 +1,5 @@
-use Rattle.std.proofs.Common.{◌≡◌, ℕ, suc, ◌+◌, ◌*◌, ◌^◌, ◌<◌, ◌≤◌, arith}
-use Rattle.root_workers.proofs.Gathering.{share_at, below_count, few_units}
+use Rattle.std.proofs.Common.{arith}
+use Rattle.root_workers.proofs.Gathering.{below_count, few_units}
 use Rattle.root_workers.proofs.gather.units_of.Goals as goal
 
 pub overflow_add-units : goal.overflow_add-units

@@ -1,4 +1,4 @@
-use denote.Param.Send.{IsSend, IsSync, sendable, given_sync, shr_slice_sync, cell_keyless}
+use denote.Param.Send.{IsSync, given_sync, shr_slice_sync, cell_keyless}
 use denote.Param.{param}
 use mir.Raw.{raw}
 use mir.Syntax.{ty_int, w32, named}

@@ -1,4 +1,4 @@
-use Rattle.std.proofs.Common.{◌≡◌, ℕ, refl, sym, ◌∙◌, ap, subst}
+use Rattle.std.proofs.Common.{refl, sym, ◌∙◌, subst}
 use Rattle.shard_table.specs.Makes.{Makes}
 use Rattle.shard_table.specs.Tables.{IsOfTable}
 use Rattle.shard_table.specs.declared.table.Table.{Table}

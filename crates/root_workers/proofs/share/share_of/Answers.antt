@@ -1,4 +1,4 @@
-use Rattle.std.proofs.Common.{◌≡◌, ℕ, ◌+◌, ◌-◌, ◌^◌, ◌<◌, ◌≤◌, Bool, true, false, List, length, rules, refl, sym, ◌∙◌, ap, subst, arith}
+use Rattle.std.proofs.Common.{◌≡◌, ◌+◌, ◌^◌, ◌<◌, ◌≤◌, List, length, rules, refl, sym, subst, arith}
 use Rattle.cha_moves.specs.Step.{Move}
 use Rattle.cha_moves.proofs.LegalApart.{few_legal}
 use Rattle.root_workers.specs.Shares.{IsRootMate}

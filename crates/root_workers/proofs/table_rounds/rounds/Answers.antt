@@ -1,4 +1,4 @@
-use Rattle.std.proofs.Common.{◌≡◌, List, length, sym, ◌∙◌, ap, subst, rules, Vec, Global}
+use Rattle.std.proofs.Common.{◌≡◌, List, length, ap, subst, rules, Vec, Global}
 use Rattle.root_workers.specs.declared.work.Worker.{Worker}
 use Rattle.root_workers.specs.Crews.{CrewMakes}
 use Rattle.root_workers.specs.Ends.{RoundsCalls}

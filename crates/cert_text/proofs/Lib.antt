@@ -1,6 +1,7 @@
 mod Numbers
 mod Cutting
 mod Writing
+mod SharedWriting
 mod Going
 mod Parts
 pub mod Spelling

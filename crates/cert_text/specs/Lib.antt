@@ -1,6 +1,7 @@
 -- what public contracts say
 pub mod Digits
 pub mod Spelled
+pub mod SharedSpelled
 pub mod Lines
 pub mod Texts
 -- What only loops and lemmas use; public contracts cite IsCertText and IsWritable of it.

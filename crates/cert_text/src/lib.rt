@@ -1,6 +1,8 @@
-//! The text of a certificate, version 1: written, and read so that one certificate has one text (this project).
+//! The text of a certificate, version 1: written, and read so that one certificate has one text; and the text of a shared
+//! certificate, version 2, written (this project).
 //!
-//! `faults` says why a text is refused, `digits` has numbers as digits, `spelled` writes, `rest` and `lines` cut a text into lines,
+//! `faults` says why a text is refused, `digits` has numbers as digits, `spelled` and `shared_spelled` write, `rest` and
+//! `lines` cut a text into lines,
 //! `heads` reads the first three lines, `leaves` a leaf's lines, `bodies` the nodes, and `reader` the whole.
 #![tactic(auto)]
 
@@ -12,10 +14,12 @@ mod leaves;
 mod lines;
 mod reader;
 mod rest;
+mod shared_spelled;
 mod spelled;
 #[cfg(test)]
 mod tests;
 
 pub use faults::{CertFault, CertKind};
 pub use reader::{Certificate, read};
+pub use shared_spelled::write2;
 pub use spelled::write;

@@ -83,7 +83,7 @@ fn put_rows(rows: &[SetRow], text: &mut Text) -> Result<(), NoMemory>
 
 /// Writes what is behind a leaf's line.
 #[tactic(auto, unfolding(crate::specs::Spelled::lines_text))]
-fn put_sets(sets: &Sets, text: &mut Text) -> Result<(), NoMemory>
+pub fn put_sets(sets: &Sets, text: &mut Text) -> Result<(), NoMemory>
     ensures text { OnOk result (text.new ≡ text.old ++ lines_text (loose_line sets.now.loose ∷ map row_line sets.now.rows)) }
     ensures tidy { OnOk result (AreTidy sets.now.rows) }
     ensures known { OnOk result (All (λ row. row.origin < 64) sets.now.rows) }

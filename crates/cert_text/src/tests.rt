@@ -1,8 +1,9 @@
 //! Certificate texts: of a queen that is lost at once, of two kings, and texts that do not fit, each with its first line
 //! that does not.
 
-use crate::{CertFault, CertKind, read, write};
-use cha_cert::Part;
+use crate::{CertFault, CertKind, read, write, write2};
+use cha_board::Color;
+use cha_cert::{Part, share};
 use cha_list::{Text, text_of};
 use std::alloc::Global;
 use std::test::Fail;
@@ -14,6 +15,10 @@ const LOST: &str =
 const KINGS: &str =
     "cha-cert 1\nwinner b\nnodes 1\nleaf 4k3/8/8/8/8/8/8/4K3 w - -\nloose 1000000000000010\n\
                      reach e1 K ffffffffffffffff\nreach e8 K ffffffffffffffff\nend\n";
+
+const SHARED_KINGS: &str =
+    "cha-cert 2\nwinner w\nsets 1\nloose 1000000000000010\nreach e1 K ffffffffffffffff\n\
+                            reach e8 K ffffffffffffffff\nnodes 1\nleaf 0 4k3/8/8/8/8/8/8/4K3 w - -\nend\n";
 
 const STALEMATE: &str = "cha-cert 1\nwinner w\nnodes 1\ninner 7k/5Q2/6K1/8/8/8/8/8 b - -\nend\n";
 
@@ -40,6 +45,15 @@ fn texts_are_read_and_written_as_they_were(rt: HostRuntime) -> Result<(), Fail> 
             assert_eq!(rt; sets.rows().len(), 2);
         }
     }
+    Ok(())
+}
+
+#[test]
+fn a_shared_certificate_has_its_sets_first(rt: HostRuntime) -> Result<(), Fail> {
+    let found = read(rt.alloc(), KINGS.as_bytes())?;
+    let shared = share(rt.alloc(), &found.cert)?;
+    let text = write2(rt.alloc(), Color::White, &shared)?;
+    assert!(rt; text.items() == SHARED_KINGS.as_bytes());
     Ok(())
 }
 

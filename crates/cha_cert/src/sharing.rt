@@ -1,6 +1,6 @@
 //! A certificate with its equal sets written once, and back.
 
-ghost use Rattle.std.specs.Prelude.{◌≡◌, ◌<◌, ◌^◌, [], ◌∷◌, ◌++◌, List, None, length, IfOk, IfSome, OnOk, Contains};
+ghost use Rattle.std.specs.Prelude.{◌≡◌, ◌<◌, ◌≤◌, ◌^◌, [], ◌∷◌, ◌++◌, List, None, length, IfOk, IfSome, OnOk, Contains};
 ghost use Rattle.cha_cert.specs.declared.nodes.Node.{Node as CertNode};
 ghost use Rattle.cha_cert.specs.declared.nodes.Part.TheVariants.{Inner as CertInner, Leaf as CertLeaf};
 ghost use Rattle.cha_cert.specs.Shared.{Names, AreInOrder, Shares, IsAt, expansion, part_of};
@@ -19,6 +19,8 @@ pub fn share(alloc: Global, cert: &Cert) -> Result<SharedCert, NoMemory>
     requires { length cert.now < 2 ^ 32 }
     ensures expands { IfOk result (λ shared. expansion shared ≡ cert.now) }
     ensures order { IfOk result (λ shared. AreInOrder shared) }
+    ensures size { IfOk result (λ shared. length shared.nodes ≡ length cert.now) }
+    ensures few { IfOk result (λ shared. length shared.sets ≤ length cert.now) }
 {
     let mut shared = SharedCert::new(alloc);
     for node in cert.nodes() {

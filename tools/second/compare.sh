@@ -1,11 +1,11 @@
 #!/bin/bash
-# Compares `cha` with the second program: its whole report on positions, its answer on every certificate that it printed, and its
-# answer on each of these certificates with a fault put into it.
+# Has the second program judge the whole report of `cha` on positions, every printed line and certificate among it, and compares
+# their answers on every certificate that it printed, and on each of these certificates with a fault put into it.
 #
 #   tools/second/compare.sh [PROGRAM] [POSITIONS.fen]
 #
 # PROGRAM is the built cha (./cha, which `make` leaves there). Without a file of positions, 200 random ones are taken.
-# The status is 0 where all answers agree.
+# The status is 0 where the report is right and all answers agree.
 set -eu
 here=$(dirname "$(readlink -f "$0")")
 program=$(readlink -f "${1:-$here/../../cha}")
@@ -14,9 +14,7 @@ trap 'rm -rf "$work"' EXIT
 if [ $# -ge 2 ]; then cp "$2" "$work/fen"; else python3 "$here/walls.py" 200 1 > "$work/fen"; fi
 
 "$program" position --certs < "$work/fen" > "$work/ours"
-python3 "$here/second.py" position --certs < "$work/fen" > "$work/theirs"
-cmp "$work/ours" "$work/theirs"
-tail -n 1 "$work/ours"
+python3 "$here/second.py" judge "$work/ours" < "$work/fen"
 
 # agree FILE: the answer of both programs on a certificate
 agree() {

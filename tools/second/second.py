@@ -1,10 +1,13 @@
 #!/usr/bin/env python3
-"""A second program for `cha position [--certs]` and `cha check`, slow and plain, to compare answers with.
+"""A judge of `cha position --certs` and a second program for `cha check`, slow and plain.
 
-    tools/second/second.py position [--certs] < POSITIONS.fen
+    tools/second/second.py judge [REPORT] < POSITIONS.fen
     tools/second/second.py check < CERTIFICATE.txt
 
-It was written from docs/MANUAL.md and docs/DEFINITIONS.md, shares nothing with the program, and prints the same to the letter.
+`judge` reads the positions, and the report that `cha position --certs` wrote on them. It plays every printed line, checks every
+certificate, and looks itself for a mate within two plies and for the least closed sets; it wants a block for each line, numbers,
+statuses and the summary as they must be. It was written from docs/MANUAL.md and docs/DEFINITIONS.md and shares nothing with the
+program.
 """
 
 import re
@@ -32,31 +35,6 @@ def shortest_mate(position, winner):
     return None
 
 
-def verdict(position, sets, side):
-    """The text of a verdict, and the certificate where there is one. The sets are the least closed ones."""
-    if is_mated(position, other(side)):
-        return "winnable in 0", None
-    if has_no_mate(position, sets, side):
-        return "unwinnable", certificate(position, sets, side)
-    line = shortest_mate(position, side)
-    if line is None:
-        return "undecided, depth 2", None
-    return f"winnable in {len(line)}: " + " ".join(move_text(move) for move in line), None
-
-
-def hexadecimal(squares):
-    return format(sum(1 << at for at in squares), "016x")
-
-
-def certificate(position, sets, winner):
-    lines = ["cha-cert 1", f"winner {winner}", "nodes 1", "leaf " + write_fen(position), "loose " + hexadecimal(sets.loose)]
-    for origin in range(64):
-        for kind in "PNBRQK":
-            if sets.reach.get((origin, kind)):
-                lines.append(f"reach {NAMES[origin]} {kind} {hexadecimal(sets.reach[origin, kind])}")
-    return "\n".join(lines + ["end"]) + "\n"
-
-
 def status(position, verdicts):
     if not legal(position):
         return "checkmate" if in_check(position.men, position.side) else "stalemate"
@@ -65,36 +43,111 @@ def status(position, verdicts):
     return "live" if any(text.startswith("winnable") for text in verdicts) else "unclear"
 
 
-def position_block(number, position, certs):
-    block, verdicts = f"position {number}\nfen: {write_fen(position)}\n", []
+class Wrong(Exception):
+    """What is wrong with a report."""
+
+
+class Report:
+    """The lines of a report, taken one after the other."""
+
+    def __init__(self, data):
+        self.lines = data.split("\n")
+        self.taken = 0
+
+    def take(self, start):
+        line = self.lines[self.taken] if self.taken < len(self.lines) else None
+        if line is None or not line.startswith(start):
+            raise Wrong(f"line {self.taken + 1}: {line!r}, where {start!r} is wanted")
+        self.taken += 1
+        return line[len(start):]
+
+    def take_certificate(self):
+        lines = []
+        while not lines or lines[-1] != "end":
+            lines.append(self.take(""))
+        return "\n".join(lines) + "\n"
+
+
+def mates(position, texts, winner):
+    """Whether these moves, each legal in its turn, end in a mate."""
+    for text in texts:
+        found = [move for move in legal(position) if move_text(move) == text]
+        if not found:
+            return False
+        position = after(position, found[0])
+    return is_mated(position, other(winner))
+
+
+def is_certified(position, data, winner):
+    try:
+        side, nodes = read_certificate(data)
+    except Misfit:
+        return False
+    known = {place for place, _ in nodes}
+    return side == winner and nodes[0][0] == position and all(holds(place, sets, known, winner) for place, sets in nodes)
+
+
+def judge_side(report, position, winner, sets, first):
+    """The verdict on a side, which is right by the definitions."""
+    text = report.take(SIDES[winner] + ": ")
+    told = f"{SIDES[winner]} of {write_fen(position)}: {text[:60]}"
+    if text == "skipped":
+        if first is None or not first.startswith("winnable"):
+            raise Wrong(told)
+        return text
+    if first is not None and first.startswith("winnable"):
+        raise Wrong(told)
+    never, near = has_no_mate(position, sets, winner), shortest_mate(position, winner)
+    found = re.fullmatch(r"winnable in (0|[0-9]+: .*)", text)
+    if found:
+        count, _, line = found[1].partition(": ")
+        if never or int(count) != len(line.split()) or not mates(position, line.split(), winner):
+            raise Wrong(told)
+    elif text == "unwinnable":
+        if near is not None or not is_certified(position, report.take_certificate(), winner):
+            raise Wrong(told)
+    elif not re.fullmatch(r"undecided after [0-9]+ positions, depth [2-8]", text) or never or near is not None:
+        raise Wrong(told)
+    return text
+
+
+def judge_line(report, number, line):
+    """Judges the block of a line: whether it is refused, and the verdicts."""
+    report.take(f"position {number}")
+    try:
+        if len(line) > 4096:
+            raise Refused("shape")
+        position = read_fen(line)
+    except Refused as why:
+        report.take(f"refused: {why}")
+        return True, [], ""
+    report.take("fen: " + write_fen(position))
     sets = least(position)
-    for side in "wb":
-        if verdicts and verdicts[0].startswith("winnable"):
-            text, cert = "skipped", None
-        else:
-            text, cert = verdict(position, sets, side)
-        verdicts.append(text)
-        block += f"{SIDES[side]}: {text}\n" + (cert if certs and cert else "")
-    return block + f"status: {status(position, verdicts)}\n", verdicts
+    white = judge_side(report, position, "w", sets, None)
+    verdicts = [white, judge_side(report, position, "b", sets, white)]
+    state = status(position, verdicts)
+    report.take("status: " + state)
+    return False, verdicts, state
 
 
-def positions(data, certs):
-    count = refused = dead = undecided = 0
-    for line in data.replace("\r\n", "\n").split("\n"):
-        if not line.strip(" \t"):
-            continue
-        count += 1
-        try:
-            if len(line) > 4096:
-                raise Refused("shape")
-            block, verdicts = position_block(count, read_fen(line), certs)
-            dead += block.endswith("status: dead\n")
-            undecided += any(text.startswith("undecided") for text in verdicts)
-        except Refused as why:
-            block = f"position {count}\nrefused: {why}\n"
-            refused += 1
-        sys.stdout.write(block)
-    sys.stdout.write(f"positions: {count}, refused: {refused}, dead: {dead}, undecided: {undecided}\n")
+def judge(data, shown):
+    report, count, refused, dead, undecided = Report(shown), 0, 0, 0, 0
+    try:
+        for line in data.replace("\r\n", "\n").split("\n"):
+            if line.strip(" \t"):
+                count += 1
+                bad, verdicts, state = judge_line(report, count, line)
+                refused += bad
+                dead += state == "dead"
+                undecided += any(text.startswith("undecided") for text in verdicts)
+        summary = f"positions: {count}, refused: {refused}, dead: {dead}, undecided: {undecided}"
+        report.take(summary)
+        if report.lines[report.taken:] != [""]:
+            raise Wrong("more lines than blocks")
+    except Wrong as why:
+        print(why)
+        return 1
+    print(summary)
     return 0
 
 
@@ -188,8 +241,9 @@ def check(data):
 
 def main(words):
     data = sys.stdin.buffer.read().decode("latin-1")
-    if words in (["position"], ["position", "--certs"]):
-        return positions(data, len(words) == 2)
+    if len(words) == 2 and words[0] == "judge":
+        with open(words[1], encoding="latin-1") as shown:
+            return judge(data, shown.read())
     if words == ["check"]:
         return check(data)
     print(__doc__, file=sys.stderr)

@@ -12,7 +12,7 @@ use Rattle.cert_text.specs.declared.faults.CertFault.{CertFault}
 use Rattle.cert_text.specs.declared.reader.Certificate.{Certificate}
 use Rattle.cert_text.specs.Texts.{cert_of}
 use Rattle.adjudicate.specs.declared.checking.Answer.{Answer}
-use Rattle.adjudicate.specs.declared.orders.Order.TheVariants.{CheckCert}
+use Rattle.cha_words.specs.declared.orders.Order.TheVariants.{CheckCert}
 use Rattle.adjudicate.specs.Checks.{IsAnswerTo, IsReadAs, IsValidAtFirst}
 use Rattle.adjudicate.specs.Report.{IsReport, HasBegun, HasWholeBlocks}
 use Rattle.adjudicate.specs.Runs.{Grew}

@@ -1,5 +1,5 @@
 -- What is written so far of the games of a source.
-use Rattle.std.proofs.Common.{◌≡◌, ◌↔◌, ◌⊎◌, inl, inr, ℕ, zero, suc, ◌+◌, ◌^◌, ◌<◌, ◌≤◌, Bool, true, false, if◌then◌else◌, List, [], ◌∷◌, ◌++◌, length, map, take, drop, Option, Some, Result, Ok, slice_get, refl, sym, ap, ◌∙◌, arith, subst, take-append-drop}
+use Rattle.std.proofs.Common.{◌≡◌, ◌↔◌, ◌⊎◌, inl, inr, ℕ, zero, suc, ◌+◌, ◌^◌, ◌<◌, ◌≤◌, Bool, true, false, if◌then◌else◌, List, [], ◌∷◌, ◌++◌, length, map, take, drop, Option, Some, Result, Ok, slice_get, refl, sym, ap, ◌∙◌, arith, subst, take-append-drop, append-nil, None}
 use Rattle.std.specs.Io.KnownBytes.{Appends, Consumes, IsAtEnd}
 use Rattle.std.proofs.lemmas.List.{length-map, drop_all}
 use Rattle.std.proofs.Math.Seq.{take-append_seam}
@@ -17,12 +17,12 @@ use Rattle.adjudicate.specs.Statuses.{status_of_end}
 use Rattle.cha_verdict.specs.Bounds.{Bounds}
 use Rattle.cha_outside.specs.Faults.{Rose}
 use Rattle.cha_outside.specs.declared.gathering.ReadEnd.TheVariants as ends
-use Rattle.adjudicate.specs.declared.orders.Order.{Order}
-use Rattle.adjudicate.specs.declared.orders.Order.TheVariants.{AdjudicateGames}
+use Rattle.cha_words.specs.declared.orders.Order.{Order}
+use Rattle.cha_words.specs.declared.orders.Order.TheVariants.{AdjudicateGames}
 use Rattle.adjudicate.specs.Outcomes.{Item, item_of, game_item, game_items}
 use Rattle.adjudicate.specs.Report.{last_of_games, HasWholeBlocksOn}
 use Rattle.adjudicate.specs.Runs.{Outside, outside, Grew, BeginsWhole, IsRun}
-use Rattle.adjudicate.specs.Steps.{JudgesGame, GameRoom}
+use Rattle.adjudicate.specs.Steps.{JudgesGame, GameRoom, CountsAll}
 use Rattle.adjudicate.proofs.RunEndings.{short_run, long_run, taken_few}
 use Rattle.adjudicate.proofs.Progress.{of_games, WroteUpTo, nothing_written, one_more, cut_block, whole_blocks, finished, cut_summary, room_for_game, one_counted}
 
@@ -115,23 +115,23 @@ module _ (limits : Bounds) (certs : Bool) (left left' old now : Option (List ℕ
       whole = begun limits certs left left' old now f f' g g' taken given s at
 
       by_end : (e : ReadEnd) → end ≡ e → IsRun o (status_of_end e) b n
-      by_end ends.ReadFault e = short_run o b n source_later later ReadFault whole (λ _. cause e) (λ h. cc) (λ h. cc) (taken, at.consumed, not_more _ 268435456 (λ more. let t = sym e ∙ long.1 more in cc))
+      by_end ends.ReadFault e = short_run o b n tt source_later later ReadFault whole (λ _. cause e) (λ h. cc) (λ h. cc) (taken, at.consumed, not_more _ 268435456 (λ more. let t = sym e ∙ long.1 more in cc))
       by_end ends.TooLong e =
-          long_run o b n source_later later whole (taken, at.consumed, (long.0 e, few))
+          long_run o b n tt source_later later whole (taken, at.consumed, (long.0 e, few))
           (λ bytes told small. let had = taken_few left left' taken bytes at.consumed told in let more = long.0 e in omega (arith, had, more, small))
-      by_end ends.NoMemory e = short_run o b n source_later later NoMemory whole (λ h. cc) (λ h. cc) (λ h. cc) (taken, at.consumed, not_more _ 268435456 (λ more. let t = sym e ∙ long.1 more in cc))
+      by_end ends.NoMemory e = short_run o b n tt source_later later NoMemory whole (λ h. cc) (λ h. cc) (λ h. cc) (taken, at.consumed, not_more _ 268435456 (λ more. let t = sym e ∙ long.1 more in cc))
 
   -- memory was refused
   pub no_memory : g ≤ g' → length taken ≤ 268435456 → IsRun (AdjudicateGames limits certs) NoMemory (outside left f old g) (outside left' f' now g')
   no_memory later few =
-      short_run (AdjudicateGames limits certs) (outside left f old g) (outside left' f' now g') source_later later NoMemory (begun limits certs left left' old now f f' g g' taken given s at) (λ h. cc) (λ h. cc) (λ h. cc) (taken, at.consumed, few)
+      short_run (AdjudicateGames limits certs) (outside left f old g) (outside left' f' now g') tt source_later later NoMemory (begun limits certs left left' old now f f' g g' taken given s at) (λ h. cc) (λ h. cc) (λ h. cc) (taken, at.consumed, few)
 
   -- the block of the next game was cut
   pub cut_game : (next : Option (List ℕ)) (game : Game) (judged : GameBlock) (n : ℕ) → g ≤ g' → Rose g g' → length taken ≤ 268435456
       → slice_get (games taken) given ≡ Some game → JudgesGame limits certs (game_item game) s judged → Appends now next (take n judged.block)
       → IsRun (AdjudicateGames limits certs) WriteFault (outside left f old g) (outside left' f' next g')
   cut_game next game judged n later rose few found j added =
-      short_run (AdjudicateGames limits certs) (outside left f old g) (outside left' f' next g') source_later later WriteFault
+      short_run (AdjudicateGames limits certs) (outside left f old g) (outside left' f' next g') tt source_later later WriteFault
       (taken, at.consumed, cut_block of_games limits certs last_of_games (game_items taken) (drop given (game_items taken)) (drop (given + 1) (game_items taken)) (game_item game) old now next s judged.block judged.totals n at.written (next_is (games taken) given game found) j added)
       (λ h. cc) (λ _. rose) (λ h. cc) (taken, at.consumed, few)
 
@@ -145,19 +145,19 @@ module _ (limits : Bounds) (certs : Bool) (left left' old now : Option (List ℕ
       elim either [
         | inl is ↦ (
             let run : IsRun o Done b n =
-            short_run o b n source_later later Done (taken, at.consumed, end, tt, finished of_games limits certs game_summary_text (game_items taken) old now next s (game_summary_text s) all_written refl (done is))
+            short_run o b n tt source_later later Done (taken, at.consumed, end, tt, finished of_games limits certs game_summary_text (game_items taken) old now next s (game_summary_text s) all_written refl (done is))
             (λ h. cc) (λ h. cc) (λ h. cc) (taken, at.consumed, few) in
             subst (λ x. IsRun o x b n) (sym is) run)
         | inr (inl is) ↦ (
             let part = cut is in
             let run : IsRun o WriteFault b n =
-            short_run o b n source_later later WriteFault (taken, at.consumed, cut_summary of_games limits certs game_summary_text (game_items taken) old now next s (game_summary_text s) part.0 all_written refl part.1)
+            short_run o b n tt source_later later WriteFault (taken, at.consumed, cut_summary of_games limits certs game_summary_text (game_items taken) old now next s (game_summary_text s) part.0 all_written refl part.1)
             (λ h. cc) (λ _. cause is) (λ h. cc) (taken, at.consumed, few) in
             subst (λ x. IsRun o x b n) (sym is) run)
         | inr (inr is) ↦ (
             let whole = whole_blocks of_games limits certs (game_items taken) (drop given (game_items taken)) old now s at.written in
             let run : IsRun o NoMemory b n =
-            short_run o b n source_later later NoMemory (taken, at.consumed, subst (λ w. Grew old w (HasWholeBlocksOn limits certs (game_items taken))) (sym (refused is)) whole)
+            short_run o b n tt source_later later NoMemory (taken, at.consumed, subst (λ w. Grew old w (HasWholeBlocksOn limits certs (game_items taken))) (sym (refused is)) whole)
             (λ h. cc) (λ h. cc) (λ h. cc) (taken, at.consumed, few) in
             subst (λ x. IsRun o x b n) (sym is) run)
       ]
@@ -181,3 +181,11 @@ at_end false now l l' before same end h = end refl h
 
 pub given_more : (r : Result (Option Game) ReadEnd) (game : Game) (g g' : ℕ) → r ≡ Ok (Some game) → g' ≡ (if gives_game r then g + 1 else g) → g' ≡ g + 1
 given_more r game g g' e h = rw e at h
+
+-- the games of a text that was told, once all were judged
+pub all_counted : (limits : Bounds) (bytes left' taken : List ℕ) (given : ℕ) (s : GameTotals) → IsAt limits false (Some bytes) (Some left') None None taken given s → length (games taken) ≤ given → IsAtEnd (Some left') → CountsAll limits (game_items bytes) s
+all_counted limits bytes left' taken given s at all end =
+    let w = none_left limits false (Some bytes) (Some left') None None taken given s at all in
+    let whole : bytes ≡ taken = at.consumed ∙ ap (λ (rest : List ℕ). taken ++ rest) end ∙ append-nil taken in
+    let items : map item_of w.2.0 ≡ game_items bytes = w.2.1 ∙ sym (append-nil w.0) ∙ sym w.1 ∙ ap game_items (sym whole) in
+    (w.2.0, items, w.2.2, w.2.4)

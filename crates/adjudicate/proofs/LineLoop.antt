@@ -8,7 +8,7 @@ use Rattle.flag_report.specs.Totals.{position_summary_text}
 use Rattle.adjudicate.specs.declared.judging.LineBlock.{LineBlock}
 use Rattle.adjudicate.specs.declared.endings.Status.{Status}
 use Rattle.adjudicate.specs.declared.endings.Status.TheVariants.{Done, WriteFault, NoMemory}
-use Rattle.adjudicate.specs.declared.orders.Order.TheVariants.{JudgePositions}
+use Rattle.cha_words.specs.declared.orders.Order.TheVariants.{JudgePositions}
 use Rattle.adjudicate.specs.Outcomes.{Item, position_items}
 use Rattle.adjudicate.specs.Report.{last_of_positions}
 use Rattle.adjudicate.specs.Steps.{JudgesLine, IsWritten}

@@ -11,8 +11,8 @@ use Rattle.cert_text.specs.declared.reader.Certificate.{Certificate}
 use Rattle.cert_text.specs.Spelled.{cert_text}
 use Rattle.cert_text.specs.Texts.{cert_of}
 use Rattle.flag_report.specs.Checks.{accepted_text, misfit_text, failing_text}
-use Rattle.adjudicate.specs.declared.orders.Order.{Order}
-use Rattle.adjudicate.specs.declared.orders.Order.TheVariants.{AdjudicateGames, JudgePositions, CheckCert}
+use Rattle.cha_words.specs.declared.orders.Order.{Order}
+use Rattle.cha_words.specs.declared.orders.Order.TheVariants.{AdjudicateGames, JudgePositions, CheckCert, GenGames}
 
 -- the line on what a check of a certificate answers
 abbrev pub checked_text : Color → Checked → List ℕ
@@ -48,3 +48,4 @@ abbrev pub IsAccepted : Order → List ℕ → Type 0
 IsAccepted (AdjudicateGames limits certs) bytes = ⊤
 IsAccepted (JudgePositions limits certs) bytes = ⊤
 IsAccepted CheckCert bytes = IsReadAs IsValidAtFirst bytes
+IsAccepted (GenGames limits seed count) bytes = ⊤

@@ -1,5 +1,4 @@
 -- what public contracts say
-pub mod Words
 pub mod Lines
 pub mod Outcomes
 pub mod Checks

@@ -3,9 +3,10 @@ use Rattle.std.specs.Prelude.{◌≡◌, ℕ, ◌+◌, Bool, List, [], ◌∷◌
 use Rattle.flag_report.specs.Totals.{game_summary_text, position_summary_text}
 use Rattle.cha_verdict.specs.Bounds.{Bounds}
 use Rattle.cert_text.specs.Texts.{cert_of}
-use Rattle.adjudicate.specs.declared.orders.Order.{Order}
-use Rattle.adjudicate.specs.declared.orders.Order.TheVariants.{AdjudicateGames, JudgePositions, CheckCert}
+use Rattle.cha_words.specs.declared.orders.Order.{Order}
+use Rattle.cha_words.specs.declared.orders.Order.TheVariants.{AdjudicateGames, JudgePositions, CheckCert, GenGames}
 use Rattle.adjudicate.specs.Outcomes.{Item, Outcome, item_of, IsSoundOutcome, AllSound, block, blocks, game_totals, position_totals, game_items, position_items}
+use Rattle.random_games.specs.Made.{made}
 use Rattle.adjudicate.specs.Checks.{IsAnswerTo}
 
 -- the summary of the outcomes of games and of positions
@@ -20,11 +21,17 @@ abbrev pub IsReportOn : Bounds → Bool → (List Outcome → List ℕ) → List
 IsReportOn limits certs last items out =
     (os : List Outcome) × (map item_of os ≡ items) × AllSound limits os × (out ≡ blocks certs 1 os ++ last os)
 
--- what an order has written for an input: of games and positions a report, of a certificate the answer of its check
+-- there is one sound outcome for each item, in order, and the output is their summary alone
+abbrev pub IsSummaryOn : Bounds → (List Outcome → List ℕ) → List Item → List ℕ → Type 0
+IsSummaryOn limits last items out = (os : List Outcome) × (map item_of os ≡ items) × AllSound limits os × (out ≡ last os)
+
+-- what an order has written for an input: of games and positions a report, of a certificate the answer of its check, and of games
+-- that are made the summary
 abbrev pub IsReport : Order → List ℕ → List ℕ → Type 0
 IsReport (AdjudicateGames limits certs) bytes out = IsReportOn limits certs last_of_games (game_items bytes) out
 IsReport (JudgePositions limits certs) bytes out = IsReportOn limits certs last_of_positions (position_items bytes) out
 IsReport CheckCert bytes out = IsAnswerTo (cert_of bytes) out
+IsReport (GenGames limits seed count) bytes out = IsSummaryOn limits last_of_games (game_items (made seed count)) out
 
 -- a list is the front of another
 abbrev pub IsFront : List ℕ → List ℕ → Type 0
@@ -47,14 +54,17 @@ abbrev pub HasBegun : Order → List ℕ → List ℕ → Type 0
 HasBegun (AdjudicateGames limits certs) bytes out = HasBegunOn limits certs last_of_games (game_items bytes) out
 HasBegun (JudgePositions limits certs) bytes out = HasBegunOn limits certs last_of_positions (position_items bytes) out
 HasBegun CheckCert bytes out = (whole : List ℕ) × IsAnswerTo (cert_of bytes) whole × IsFront out whole
+HasBegun (GenGames limits seed count) bytes out = (whole : List ℕ) × IsSummaryOn limits last_of_games (game_items (made seed count)) whole × IsFront out whole
 
 -- the output is the blocks of sound outcomes of the first items
 abbrev pub HasWholeBlocksOn : Bounds → Bool → List Item → List ℕ → Type 0
 HasWholeBlocksOn limits certs items out =
     (os : List Outcome) × (later : List Item) × (items ≡ map item_of os ++ later) × AllSound limits os × (out ≡ blocks certs 1 os)
 
--- the output is whole blocks of what an order has written; of the answer on a certificate nothing is
+-- the output is whole blocks of what an order has written; of the answer on a certificate and of a summary alone
+-- nothing is
 abbrev pub HasWholeBlocks : Order → List ℕ → List ℕ → Type 0
 HasWholeBlocks (AdjudicateGames limits certs) bytes out = HasWholeBlocksOn limits certs (game_items bytes) out
 HasWholeBlocks (JudgePositions limits certs) bytes out = HasWholeBlocksOn limits certs (position_items bytes) out
 HasWholeBlocks CheckCert bytes out = out ≡ []
+HasWholeBlocks (GenGames limits seed count) bytes out = out ≡ []

@@ -1,10 +1,11 @@
 -- What is true of a whole run.
-use Rattle.std.specs.Prelude.{◌≡◌, ◌≢◌, ℕ, ◌+◌, ◌<◌, ◌≤◌, List, length, Some}
+use Rattle.std.specs.Prelude.{◌≡◌, ◌≢◌, ℕ, ◌+◌, ◌<◌, ◌≤◌, List, length, Some, ◌⊎◌, ⊤, []}
 use Rattle.std.specs.declared.option.Option.{Option}
 use Rattle.std.specs.Io.KnownBytes.{Appends, Consumes, IsAtEnd}
 use Rattle.cha_outside.specs.Faults.{Rose}
 use Rattle.cha_outside.specs.Gathering.{Took}
-use Rattle.adjudicate.specs.declared.orders.Order.{Order}
+use Rattle.cha_words.specs.declared.orders.Order.{Order}
+use Rattle.cha_words.specs.declared.orders.Order.TheVariants.{AdjudicateGames, JudgePositions, CheckCert, GenGames}
 use Rattle.adjudicate.specs.declared.endings.Status.{Status}
 use Rattle.adjudicate.specs.declared.endings.Status.TheVariants.{Done, Usage, ReadFault, WriteFault, TooLong, NoMemory, NotAccepted}
 use Rattle.adjudicate.specs.Checks.{IsAccepted}
@@ -26,24 +27,45 @@ outside left read_faults written write_faults =
 abbrev pub Grew : Option (List ℕ) → Option (List ℕ) → (List ℕ → Type 0) → Type 0
 Grew old new P = (out : List ℕ) × Appends old new out × P out
 
+-- an order reads the source, unless its games are made
+abbrev pub Reads : Order → Type 0
+Reads (AdjudicateGames limits certs) = ⊤
+Reads (JudgePositions limits certs) = ⊤
+Reads CheckCert = ⊤
+Reads (GenGames limits seed count) = ⊥
+
+-- these bytes were taken of the source; where games are made there are none, and the source is as it was
+abbrev pub Takes : Order → Outside → Outside → List ℕ → Type 0
+Takes (AdjudicateGames limits certs) before now bytes = Consumes before.left now.left bytes
+Takes (JudgePositions limits certs) before now bytes = Consumes before.left now.left bytes
+Takes CheckCert before now bytes = Consumes before.left now.left bytes
+Takes (GenGames limits seed count) before now bytes = (bytes ≡ []) × (now.left ≡ before.left) × (now.read_faults ≡ before.read_faults)
+
+-- nothing is left of what an order reads
+abbrev pub HasReadAll : Order → Outside → Type 0
+HasReadAll (AdjudicateGames limits certs) now = IsAtEnd now.left
+HasReadAll (JudgePositions limits certs) now = IsAtEnd now.left
+HasReadAll CheckCert now = IsAtEnd now.left
+HasReadAll (GenGames limits seed count) now = ⊤
+
 -- the whole input was taken, it is what its order asks for, and its report was written
 abbrev pub Reports : Order → Outside → Outside → Type 0
 Reports order before now =
-    (bytes : List ℕ) × Consumes before.left now.left bytes × IsAtEnd now.left × IsAccepted order bytes × Grew before.written now.written (IsReport order bytes)
+    (bytes : List ℕ) × Takes order before now bytes × HasReadAll order now × IsAccepted order bytes × Grew before.written now.written (IsReport order bytes)
 
 -- the whole input was taken, it is not what its order asks for, and its report was written; of games and positions nothing is
 -- asked, so this is never said of them
 abbrev pub Refuses : Order → Outside → Outside → Type 0
 Refuses order before now =
-    (bytes : List ℕ) × Consumes before.left now.left bytes × IsAtEnd now.left × (IsAccepted order bytes → ⊥) × Grew before.written now.written (IsReport order bytes)
+    (bytes : List ℕ) × Takes order before now bytes × HasReadAll order now × (IsAccepted order bytes → ⊥) × Grew before.written now.written (IsReport order bytes)
 
 -- some bytes were taken, and their report was begun
 abbrev pub Begins : Order → Outside → Outside → Type 0
-Begins order before now = (bytes : List ℕ) × Consumes before.left now.left bytes × Grew before.written now.written (HasBegun order bytes)
+Begins order before now = (bytes : List ℕ) × Takes order before now bytes × Grew before.written now.written (HasBegun order bytes)
 
 -- the same with whole blocks alone
 abbrev pub BeginsWhole : Order → Outside → Outside → Type 0
-BeginsWhole order before now = (bytes : List ℕ) × Consumes before.left now.left bytes × Grew before.written now.written (HasWholeBlocks order bytes)
+BeginsWhole order before now = (bytes : List ℕ) × Takes order before now bytes × Grew before.written now.written (HasWholeBlocks order bytes)
 
 -- What was read and written for an order, by the status of the run: its whole report on Done and NotAccepted, a front of it where
 -- the sink failed, and whole blocks of it where anything else failed. Words that order something never end in Usage.
@@ -60,11 +82,13 @@ Ended order Usage before now = ⊥
 abbrev pub most_bytes : ℕ
 most_bytes = 268435456
 
--- What is true of a run for an order: what was read and written; that a fault comes only where its object failed in this run;
+-- What is true of a run for an order: what was read and written; that a reading that fails or is too long comes only where the
+-- order reads; that a fault comes only where its object failed in this run;
 -- that a run is too long exactly where more bytes were taken than an input may have, which is then by at most 4,096, and never
 -- where the source has no more to give; and that counts of faults never fall.
 pub record IsRun (order : Order) (status : Status) (before now : Outside) : Type 0 where
   pub ended : Ended order status before now
+  pub reads : (status ≡ ReadFault) ⊎ (status ≡ TooLong) → Reads order
   pub read_fault : status ≡ ReadFault → Rose before.read_faults now.read_faults
   pub write_fault : status ≡ WriteFault → Rose before.write_faults now.write_faults
   pub too_long : status ≡ TooLong → Took before.left now.left (λ taken. (most_bytes < length taken) × (length taken ≤ most_bytes + 4096))

@@ -1,18 +1,18 @@
 -- What the judging of one item and the writing of a report give.
-use Rattle.std.specs.Prelude.{◌≡◌, ◌≢◌, ℕ, ◌+◌, ◌^◌, ◌<◌, ◌≤◌, Bool, if◌then◌else◌, List, Option}
+use Rattle.std.specs.Prelude.{◌≡◌, ◌≢◌, ℕ, ◌+◌, ◌^◌, ◌<◌, ◌≤◌, Bool, if◌then◌else◌, List, Option, map}
 use Rattle.cha_outside.specs.Faults.{Rose}
 use Rattle.flag_report.specs.declared.totals.GameTotals.{GameTotals}
 use Rattle.flag_report.specs.declared.totals.PositionTotals.{PositionTotals}
 use Rattle.cha_verdict.specs.Bounds.{Bounds}
 use Rattle.adjudicate.specs.declared.judging.LineBlock.{LineBlock}
 use Rattle.adjudicate.specs.declared.playing.GameBlock.{GameBlock}
-use Rattle.adjudicate.specs.declared.orders.Order.{Order}
+use Rattle.cha_words.specs.declared.orders.Order.{Order}
 use Rattle.adjudicate.specs.declared.endings.Status.{Status}
 use Rattle.adjudicate.specs.declared.endings.Status.TheVariants.{Done, Usage, ReadFault, WriteFault, TooLong, NoMemory, NotAccepted}
 use Rattle.adjudicate.specs.Checks.{IsAccepted}
 use Rattle.adjudicate.specs.Report.{IsReport, HasBegun, HasWholeBlocks}
 use Rattle.adjudicate.specs.Runs.{Grew}
-use Rattle.adjudicate.specs.Outcomes.{Item, Outcome, item_of, IsSoundOutcome, block, is_refused, is_dead_position, is_unreadable, is_changed_game, is_open}
+use Rattle.adjudicate.specs.Outcomes.{Item, Outcome, item_of, IsSoundOutcome, block, is_refused, is_dead_position, is_unreadable, is_changed_game, is_open, AllSound, game_totals}
 
 abbrev pub one_if : Bool → ℕ
 one_if b = if b then 1 else 0
@@ -78,3 +78,7 @@ pub record IsWritten (order : Order) (bytes : List ℕ) (status : Status) (old :
   pub no_memory : status ≡ NoMemory → Grew old new (HasWholeBlocks order bytes)
   pub no_other : (status ≢ Usage) × (status ≢ ReadFault) × (status ≢ TooLong)
   pub later : faults ≤ faults'
+
+-- there is one sound outcome for each item, in order, and the totals are theirs
+abbrev pub CountsAll : Bounds → List Item → GameTotals → Type 0
+CountsAll limits items s = (os : List Outcome) × (map item_of os ≡ items) × AllSound limits os × (s ≡ game_totals os)

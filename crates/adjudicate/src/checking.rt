@@ -2,7 +2,7 @@
 
 ghost use Rattle.std.specs.Prelude.{◌≡◌, ◌<◌, ◌^◌, ◌↔◌, length, IsTrue, IfOk, Ok};
 ghost use Rattle.cert_text.specs.Texts.{cert_of};
-ghost use Rattle.adjudicate.specs.declared.orders.Order.TheVariants.{CheckCert};
+ghost use Rattle.cha_words.specs.declared.orders.Order.TheVariants.{CheckCert};
 ghost use Rattle.adjudicate.specs.Checks.{IsAnswerTo, IsReadAs, IsValidAtFirst};
 ghost use Rattle.adjudicate.specs.Runs.{IsRun, outside};
 ghost use Rattle.adjudicate.specs.Steps.{IsWritten, ended_by};

@@ -3,7 +3,7 @@
 ghost use Rattle.std.specs.Prelude.{◌≡◌, ◌≤◌, ◌⊎◌, ℕ, take};
 ghost use Rattle.std.specs.Io.KnownBytes.{Appends};
 ghost use Rattle.cha_outside.specs.Faults.{Rose};
-ghost use Rattle.adjudicate.specs.declared.orders.Order.TheVariants.{AdjudicateGames};
+ghost use Rattle.cha_words.specs.declared.orders.Order.TheVariants.{AdjudicateGames};
 ghost use Rattle.flag_report.specs.Totals.{game_summary_text};
 ghost use Rattle.adjudicate.specs.Runs.{IsRun, outside};
 
@@ -14,18 +14,23 @@ use cha_outside::{Sink, Source, Wrote};
 use cha_verdict::Limits;
 use flag_report::{GameTotals, game_summary};
 use pgn_games::Reader;
+use root_workers::{Crew, Gate};
 use std::alloc::Global;
 
 /// Judges each game of a source, and writes its block, and at the end the summary. Where `certs` says so, the certificates
 /// of sides that cannot mate are written too.
-pub fn adjudicate_games<S: Source, K: Sink>(
+pub fn adjudicate_games<C: Crew, S: Source, K: Sink>(
     alloc: Global,
     limits: &Limits,
     certs: bool,
+    crew: &mut C,
+    gate: &(dyn Gate + Sync),
     source: &mut S,
     sink: &mut K,
 ) -> Status
-    ensures { IsRun (AdjudicateGames limits.now certs) result (outside (S.left source.old) (S.faults source.old) (K.written sink.old) (K.faults sink.old)) (outside (S.left source.new) (S.faults source.new) (K.written sink.new) (K.faults sink.new)) }
+    requires ready { C.ready crew.old }
+    ensures stays_ready { C.ready crew.new }
+    ensures run { IsRun (AdjudicateGames limits.now certs) result (outside (S.left source.old) (S.faults source.old) (K.written sink.old) (K.faults sink.old)) (outside (S.left source.new) (S.faults source.new) (K.written sink.new) (K.faults sink.new)) }
 {
     let mut totals = GameTotals::new();
     let Ok(mut reader) = Reader::new(alloc) else {
@@ -39,7 +44,7 @@ pub fn adjudicate_games<S: Source, K: Sink>(
         let Some(game) = found else {
             return end_games(alloc, &totals, sink);
         };
-        let Ok(judged) = judge_game(alloc, game, limits, certs, &totals) else {
+        let Ok(judged) = judge_game(alloc, game, limits, certs, &totals, crew, gate) else {
             return Status::NoMemory;
         };
         match put(sink, judged.block.items()) {

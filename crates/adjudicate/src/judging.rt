@@ -8,12 +8,13 @@ ghost use Rattle.adjudicate.specs.Outcomes.Item.{PositionLine, RefusedLine};
 ghost use Rattle.adjudicate.specs.Steps.{JudgesLine, LineRoom, line_counted_as};
 
 use cha_board::{Color, Position};
-use cha_decide::decide;
+use cha_decide::decide_by;
 use cha_fen::{FenFault, read};
 use cha_list::{NoMemory, Text};
 use cha_moves::state;
 use cha_verdict::{Limits, Verdict, is_undecided};
 use flag_report::{PositionTotals, position_block, refused_block, status_of};
+use root_workers::{Crew, Gate};
 use std::alloc::Global;
 
 /// The block of a line, and the totals with it.
@@ -26,38 +27,46 @@ pub struct LineBlock {
 /// The most bytes that a line may have.
 const MOST_LINE_BYTES: usize = 4096;
 
-/// JudgesLine a line that is not blank. Where `certs` says so, its block has the certificates of sides that cannot mate.
-pub fn judge_line(
+/// Judges a line that is not blank. Where `certs` says so, its block has the certificates of sides that cannot mate.
+pub fn judge_line<C: Crew>(
     alloc: Global,
     line: &[u8],
     limits: &Limits,
     certs: bool,
     totals: &PositionTotals,
+    crew: &mut C,
+    gate: &(dyn Gate + Sync),
 ) -> Result<LineBlock, NoMemory>
-    requires { LineRoom totals.now }
-    ensures { IfOk result (JudgesLine limits.now certs (line_item line.now) totals.now) }
+    requires room { LineRoom totals.now }
+    requires ready { C.ready crew.old }
+    ensures stays_ready { C.ready crew.new }
+    ensures judged { IfOk result (JudgesLine limits.now certs (line_item line.now) totals.now) }
 {
     if line.len() > MOST_LINE_BYTES {
         return refuse(alloc, FenFault::Shape, totals);
     }
     match read(line) {
-        Ok(position) => judge_position(alloc, &position, limits, certs, totals),
+        Ok(position) => judge_position(alloc, &position, limits, certs, totals, crew, gate),
         Err(fault) => refuse(alloc, fault, totals),
     }
 }
 
-/// JudgesLine a position.
-fn judge_position(
+/// Judges a position.
+fn judge_position<C: Crew>(
     alloc: Global,
     position: &Position,
     limits: &Limits,
     certs: bool,
     totals: &PositionTotals,
+    crew: &mut C,
+    gate: &(dyn Gate + Sync),
 ) -> Result<LineBlock, NoMemory>
-    requires { LineRoom totals.now }
-    ensures { IfOk result (JudgesLine limits.now certs (PositionLine position.now) totals.now) }
+    requires room { LineRoom totals.now }
+    requires ready { C.ready crew.old }
+    ensures stays_ready { C.ready crew.new }
+    ensures judged { IfOk result (JudgesLine limits.now certs (PositionLine position.now) totals.now) }
 {
-    let decision = decide(alloc, position, Color::White, limits)?;
+    let decision = decide_by(alloc, position, Color::White, limits, crew, gate)?;
     let standing = state(position);
     let white = &decision.white;
     let black = &decision.black;

@@ -1,25 +1,27 @@
 //! The one call that reads an input, judges its items and writes the report.
 //!
-//! `orders` has the language of the command words, `gates` the gate of the workers, `endings` how a run ends, `splitting`
-//! the lines of a text, `judging` and `playing` what is found about one line and one game, `writing` how its block goes out,
-//! `positions` and `games` whole inputs, `checking` the check of a certificate, `commands` what each order does, and `top`
-//! the call `run`.
+//! `endings` has how a run ends, `splitting` the lines of a text, `judging` and `playing` what is found about one line and one
+//! game, `writing` how its block goes out, `positions` and `games` whole inputs, `generated` games that are made of numbers,
+//! `checking` the check of a certificate, `commands` what each order does, `top` the call `run`, and `alone` the same call
+//! without a runtime.
 #![tactic(auto)]
 
+mod alone;
 mod checking;
 mod commands;
 mod endings;
 mod games;
-mod gates;
+mod generated;
 mod judging;
-mod orders;
 mod playing;
 mod positions;
 mod splitting;
 mod top;
 mod writing;
 
+pub use alone::run_alone;
+pub use cha_decide::{decide, decide_by};
+pub use cha_words::{Order, parse};
 pub use endings::Status;
-pub use gates::{Gate, OpenGate};
-pub use orders::{Order, ordered};
+pub use root_workers::{Gate, OpenGate};
 pub use top::run;

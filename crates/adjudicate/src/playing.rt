@@ -11,7 +11,7 @@ ghost use Rattle.adjudicate.specs.Steps.{JudgesGame, GameRoom, game_counted_as};
 
 use crate::judging::some_undecided;
 use cha_board::Position;
-use cha_decide::decide;
+use cha_decide::decide_by;
 use cha_list::{NoMemory, Text, text_of};
 use cha_moves::state;
 use cha_san::{PlayFault, SanFault, play};
@@ -20,6 +20,7 @@ use flag_report::{
     GameTotals, Unreadable, changes_result, first_examined, game_block, ruling, unreadable_block,
 };
 use pgn_games::{Game, ResultMark};
+use root_workers::{Crew, Gate};
 use std::alloc::Global;
 
 /// The block of a game, and the totals with it.
@@ -31,35 +32,43 @@ pub struct GameBlock {
 
 /// Judges a game. Where `certs` says so, its block has the certificates of sides that cannot mate.
 #[tactic(auto, unfolding(crate::specs::Outcomes::game_item))]
-pub fn judge_game(
+pub fn judge_game<C: Crew>(
     alloc: Global,
     game: Game,
     limits: &Limits,
     certs: bool,
     totals: &GameTotals,
+    crew: &mut C,
+    gate: &(dyn Gate + Sync),
 ) -> Result<GameBlock, NoMemory>
     requires room { GameRoom totals.now }
     requires few { game.fault ≡ None → length game.words ≤ 12000 }
-    ensures { IfOk result (JudgesGame limits.now certs (game_item game) totals.now) }
+    requires ready { C.ready crew.old }
+    ensures stays_ready { C.ready crew.new }
+    ensures judged { IfOk result (JudgesGame limits.now certs (game_item game) totals.now) }
 {
     match game.fault {
         Some(fault) => give_up(alloc, &Unreadable::Tokens(fault), totals),
-        None => judge_played(alloc, &game, limits, certs, totals),
+        None => judge_played(alloc, &game, limits, certs, totals, crew, gate),
     }
 }
 
 /// Judges a game whose text has no fault.
-fn judge_played(
+fn judge_played<C: Crew>(
     alloc: Global,
     game: &Game,
     limits: &Limits,
     certs: bool,
     totals: &GameTotals,
+    crew: &mut C,
+    gate: &(dyn Gate + Sync),
 ) -> Result<GameBlock, NoMemory>
     requires room { GameRoom totals.now }
     requires readable { game.now.fault ≡ None }
     requires few { length game.now.words ≤ 12000 }
-    ensures { IfOk result (JudgesGame limits.now certs (played_item game.now (positions game.now.start game.now.words)) totals.now) }
+    requires ready { C.ready crew.old }
+    ensures stays_ready { C.ready crew.new }
+    ensures judged { IfOk result (JudgesGame limits.now certs (played_item game.now (positions game.now.start game.now.words)) totals.now) }
 {
     match play(alloc, game) {
         Ok(played) => {
@@ -73,6 +82,8 @@ fn judge_played(
                 limits,
                 certs,
                 totals,
+                crew,
+                gate,
             )
         }
         Err(stop) => {
@@ -85,7 +96,7 @@ fn judge_played(
 }
 
 /// Judges the final position of a game.
-fn judge_final(
+fn judge_final<C: Crew>(
     alloc: Global,
     position: &Position,
     recorded: ResultMark,
@@ -93,11 +104,22 @@ fn judge_final(
     limits: &Limits,
     certs: bool,
     totals: &GameTotals,
+    crew: &mut C,
+    gate: &(dyn Gate + Sync),
 ) -> Result<GameBlock, NoMemory>
-    requires { GameRoom totals.now }
-    ensures { IfOk result (JudgesGame limits.now certs (PlayedGame position.now recorded forfeit) totals.now) }
+    requires room { GameRoom totals.now }
+    requires ready { C.ready crew.old }
+    ensures stays_ready { C.ready crew.new }
+    ensures judged { IfOk result (JudgesGame limits.now certs (PlayedGame position.now recorded forfeit) totals.now) }
 {
-    let decision = decide(alloc, position, first_examined(recorded), limits)?;
+    let decision = decide_by(
+        alloc,
+        position,
+        first_examined(recorded),
+        limits,
+        crew,
+        gate,
+    )?;
     let standing = state(position);
     let white = &decision.white;
     let black = &decision.black;

@@ -1,7 +1,7 @@
 //! A whole input of positions, one on each line.
 
 ghost use Rattle.std.specs.Prelude.{◌<◌, ◌^◌, length};
-ghost use Rattle.adjudicate.specs.declared.orders.Order.TheVariants.{JudgePositions};
+ghost use Rattle.cha_words.specs.declared.orders.Order.TheVariants.{JudgePositions};
 ghost use Rattle.adjudicate.specs.Runs.{IsRun, outside};
 ghost use Rattle.adjudicate.specs.Steps.{IsWritten};
 
@@ -13,35 +13,44 @@ use cha_list::{Class, all_of};
 use cha_outside::{MOST_BYTES, Sink, Source, Wrote, read_all};
 use cha_verdict::Limits;
 use flag_report::{PositionTotals, position_summary};
+use root_workers::{Crew, Gate};
 use std::alloc::Global;
 
 /// Judges each line of a source that is not blank, and writes its block, and at the end the summary. It reads the whole
 /// source first. Where `certs` says so, the certificates of sides that cannot mate are written too.
-pub fn judge_positions<S: Source, K: Sink>(
+pub fn judge_positions<C: Crew, S: Source, K: Sink>(
     alloc: Global,
     limits: &Limits,
     certs: bool,
+    crew: &mut C,
+    gate: &(dyn Gate + Sync),
     source: &mut S,
     sink: &mut K,
 ) -> Status
-    ensures { IsRun (JudgePositions limits.now certs) result (outside (S.left source.old) (S.faults source.old) (K.written sink.old) (K.faults sink.old)) (outside (S.left source.new) (S.faults source.new) (K.written sink.new) (K.faults sink.new)) }
+    requires ready { C.ready crew.old }
+    ensures stays_ready { C.ready crew.new }
+    ensures run { IsRun (JudgePositions limits.now certs) result (outside (S.left source.old) (S.faults source.old) (K.written sink.old) (K.faults sink.old)) (outside (S.left source.new) (S.faults source.new) (K.written sink.new) (K.faults sink.new)) }
 {
     match read_all(alloc, source, MOST_BYTES) {
-        Ok(bytes) => judge_lines(alloc, limits, certs, bytes.as_slice(), sink),
+        Ok(bytes) => judge_lines(alloc, limits, certs, bytes.as_slice(), crew, gate, sink),
         Err(end) => Status::from(end),
     }
 }
 
 /// Judges each line of a text that is not blank, and writes its block, and at the end the summary.
-fn judge_lines<K: Sink>(
+fn judge_lines<C: Crew, K: Sink>(
     alloc: Global,
     limits: &Limits,
     certs: bool,
     bytes: &[u8],
+    crew: &mut C,
+    gate: &(dyn Gate + Sync),
     sink: &mut K,
 ) -> Status
-    requires { length bytes.now < 2 ^ 62 }
-    ensures { IsWritten (JudgePositions limits.now certs) bytes.now result (K.written sink.old) (K.faults sink.old) (K.written sink.new) (K.faults sink.new) }
+    requires few { length bytes.now < 2 ^ 62 }
+    requires ready { C.ready crew.old }
+    ensures stays_ready { C.ready crew.new }
+    ensures written { IsWritten (JudgePositions limits.now certs) bytes.now result (K.written sink.old) (K.faults sink.old) (K.written sink.new) (K.faults sink.new) }
 {
     let mut totals = PositionTotals::new();
     let mut rest = bytes;
@@ -51,7 +60,7 @@ fn judge_lines<K: Sink>(
         if all_of(Class::Blank, line) {
             continue;
         }
-        let Ok(judged) = judge_line(alloc, line, limits, certs, &totals) else {
+        let Ok(judged) = judge_line(alloc, line, limits, certs, &totals, crew, gate) else {
             return Status::NoMemory;
         };
         match put(sink, judged.block.items()) {

@@ -1,34 +1,42 @@
 //! The one call that the program makes.
 
 ghost use Rattle.std.specs.Prelude.{◌≡◌, ◌≤◌, ◌↔◌, ◌⊎◌, ℕ, List, length, IsNone, IsSome, IfSome, Some};
+ghost use Rattle.cha_board.specs.declared.men.Color.{Color as Side};
+ghost use Rattle.cha_board.specs.Board.{Board, IsValid};
 ghost use Rattle.cha_outside.specs.Faults.{Rose};
 ghost use Rattle.cha_outside.specs.Gathering.{Took};
-ghost use Rattle.adjudicate.specs.declared.orders.Order.TheVariants.{CheckCert};
-ghost use Rattle.adjudicate.specs.Words.{order};
+ghost use Rattle.cha_verdict.specs.Bounds.{Bounds};
+ghost use Rattle.cha_verdict.specs.Sound.{IsSound, IsComplete, verdict_on};
+ghost use Rattle.cha_verdict.specs.declared.decisions.Decision.{Decision};
+ghost use Rattle.cha_words.specs.declared.orders.Order.TheVariants.{CheckCert, GenGames};
+ghost use Rattle.cha_words.specs.Language.{order};
 ghost use Rattle.adjudicate.specs.Checks.{IsTextOf, IsUnwinnableAtFirst};
 ghost use Rattle.adjudicate.specs.Runs.{IsRun, outside};
 
+use crate::checking::check_cert;
 use crate::commands::carry_out;
 use crate::endings::Status;
-use crate::gates::Gate;
-use crate::orders::ordered;
 use cha_outside::{MOST_BYTES, Sink, Source};
+use cha_verdict::{Limits, sound_is_complete};
+use cha_words::{Order, games_are_some, parse};
+use root_workers::{Gate, Many, crew};
+use shard_table::Table;
 use std::alloc::Global;
 use std::sync::Wait;
 use std::thread::Threads;
 
 /// Does what the words order: reads the source to its end, and writes the report of what it gave to the sink. The words
-/// leave out the program's name. It starts no thread and waits for none: the runtime and the gate are not used.
+/// leave out the program's name. Searches share their work out to threads, which take turns at one table.
 ///
 /// What each status means is told at `Status`. Where a source or a sink tells nothing of its bytes, as a file or a terminal,
 /// the clauses on bytes say nothing of them, and those on causes remain.
-pub fn run<R: Threads + Wait + Sync, S: Source, K: Sink, G: Gate + Sync>(
-    _rt: &R,
+pub fn run<R: Threads + Wait + Sync, S: Source, K: Sink>(
+    rt: &R,
     alloc: Global,
     words: &[String],
     source: &mut S,
     sink: &mut K,
-    _gate: &G,
+    gate: &(dyn Gate + Sync),
 ) -> Status
     // The words are not in the language, and then nothing was read or written.
     ensures usage { (result ≡ Status.Usage) ↔ IsNone (order words.now) }
@@ -36,6 +44,9 @@ pub fn run<R: Threads + Wait + Sync, S: Source, K: Sink, G: Gate + Sync>(
 
     // What the words order was done, status by status: on Done the whole input was read, and its report was written.
     ensures run { IfSome (order words.now) (λ o. IsRun o result (outside (S.left source.old) (S.faults source.old) (K.written sink.old) (K.faults sink.old)) (outside (S.left source.new) (S.faults source.new) (K.written sink.new) (K.faults sink.new))) }
+
+    // What the verdicts of a report cannot miss.
+    ensures misses_nothing { (q : Board) (first : Side) (limits : Bounds) (d : Decision) → IsValid q → IsSound q first limits d → (winner : Side) → IsComplete q winner limits (verdict_on d winner) }
 
     // Where a certificate was accepted, its text was read, and no series of legal moves from the position of its first node
     // mates for its side.
@@ -47,8 +58,37 @@ pub fn run<R: Threads + Wait + Sync, S: Source, K: Sink, G: Gate + Sync>(
         → ¬ Rose (S.faults source.old) (S.faults source.new) → ¬ Rose (K.faults sink.old) (K.faults sink.new)
         → (result ≡ Status.Done) ⊎ ((result ≡ Status.NotAccepted) ⊎ (result ≡ Status.NoMemory)) }
 {
-    match ordered(words) {
-        Some(order) => carry_out(alloc, &order, source, sink),
+    sound_is_complete();
+    games_are_some();
+    match parse(words) {
+        Some(order) => match order.limits() {
+            Some(limits) => by_threads(rt, alloc, &order, &limits, source, sink, gate),
+            None => check_cert(alloc, source, sink),
+        },
         None => Status::Usage,
     }
+}
+
+/// Does what an order asks for with workers that are threads. The table and the crew are made once.
+fn by_threads<R: Threads + Wait + Sync, S: Source, K: Sink>(
+    rt: &R,
+    alloc: Global,
+    order: &Order,
+    limits: &Limits,
+    source: &mut S,
+    sink: &mut K,
+    gate: &(dyn Gate + Sync),
+) -> Status
+    requires some { (spend : Bounds) (seed count : ℕ) → order.now ≡ GenGames spend seed count → (1 ≤ count) × (count ≤ 1000) }
+    ensures { IsRun order.now result (outside (S.left source.old) (S.faults source.old) (K.written sink.old) (K.faults sink.old)) (outside (S.left source.new) (S.faults source.new) (K.written sink.new) (K.faults sink.new)) }
+{
+    let Ok((table, first)) = Table::new(alloc, limits.entries()) else {
+        return Status::NoMemory;
+    };
+    let mut pass = first;
+    let Ok(mut workers) = crew(alloc, &table, &mut pass, limits.workers()) else {
+        return Status::NoMemory;
+    };
+    let mut many = Many::new(rt, &table, &mut workers);
+    carry_out(alloc, order, &mut many, gate, source, sink)
 }

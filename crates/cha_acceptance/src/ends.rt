@@ -1,6 +1,6 @@
 //! Mates and stalemates on the board, and kings that are locked in.
 
-use crate::known::Known::{Black, Dead, Ended};
+use crate::known::Known::{Dead, Ended, White, Wins};
 use crate::known::Row;
 
 /// Mates on the board.
@@ -22,16 +22,16 @@ pub const MATES: [Row; 6] = [
     ),
     (
         "rnb1kbnr/pppp1ppp/8/4p3/6Pq/5P2/PPPPP2P/RNBQKBNR w KQkq -",
-        Ended("undecided, depth 2", "winnable in 0", "checkmate"),
+        Ended("unwinnable", "winnable in 0", "checkmate"),
     ),
     // One move before, and two.
     (
         "rnbqkbnr/pppp1ppp/8/4p3/6P1/5P2/PPPPP2P/RNBQKBNR b KQkq -",
-        Black("1: d8h4"),
+        Wins,
     ),
     (
         "rnbqkbnr/pppp1ppp/8/4p3/8/5P2/PPPPP1PP/RNBQKBNR w KQkq -",
-        Black("2: g2g4 d8h4"),
+        Wins,
     ),
 ];
 
@@ -40,15 +40,15 @@ pub const STALEMATES: [Row; 5] = [
     // The sets of a queen against a bare king allow a mate, though the game is over.
     (
         "7k/5Q2/6K1/8/8/8/8/8 b - -",
-        Ended("undecided, depth 2", "unwinnable", "stalemate"),
+        Ended("unwinnable", "unwinnable", "stalemate"),
     ),
     (
         "k7/P7/K7/8/8/8/8/8 b - -",
-        Ended("undecided, depth 2", "unwinnable", "stalemate"),
+        Ended("unwinnable", "unwinnable", "stalemate"),
     ),
     (
         "8/8/8/8/8/5k2/5p2/5K2 w - -",
-        Ended("unwinnable", "undecided, depth 2", "stalemate"),
+        Ended("unwinnable", "unwinnable", "stalemate"),
     ),
     // King and bishop locked in behind a wall: White has no move, and no mate fits anyway.
     (

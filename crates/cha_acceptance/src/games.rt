@@ -7,7 +7,7 @@ const SERVER_GAME: &str =
     "[Event \"Rated Blitz game\"]\n[Site \"https://example.org/abcd1234\"]\n[White \"anna\"]\n[Black \"ben\"]\n[Result \"1-0\"]\n[Variant \"Standard\"]\n[TimeControl \"180+0\"]\n[Termination \"Time forfeit\"]\n\n1. e4 { [%clk 0:03:00] } 1... e5 { [%clk 0:03:00] } 2. Qh5!? $5 Nc6\n(2... g6 3. Qxe5+ (3. Qd1)) 3. Bc4 1-0\n";
 
 /// Inputs of `adjudicate` with the whole output.
-pub const ROWS: [Row; 26] = [
+pub const ROWS: [Row; 22] = [
     ("", "games: 0, unreadable: 0, changed: 0, undecided: 0\n"),
     (
         "[FEN \"4k3/8/8/8/8/8/8/4K3 w - -\"]\n*",
@@ -19,7 +19,7 @@ pub const ROWS: [Row; 26] = [
     ),
     (
         "[FEN \"7k/5Q2/6K1/8/8/8/8/8 b - -\"]\n1-0",
-        "game 1\nfen: 7k/5Q2/6K1/8/8/8/8/8 b - -\nwhite: undecided, depth 2\nblack: unwinnable\nstatus: stalemate\nresult: 1-0 -> 1/2-1/2 by 5.2.1\ngames: 1, unreadable: 0, changed: 1, undecided: 1\n",
+        "game 1\nfen: 7k/5Q2/6K1/8/8/8/8/8 b - -\nwhite: unwinnable\nblack: unwinnable\nstatus: stalemate\nresult: 1-0 -> 1/2-1/2 by 5.2.1\ngames: 1, unreadable: 0, changed: 1, undecided: 0\n",
     ),
     (
         "[FEN \"6k1/5ppp/8/8/8/8/5PPP/3R2K1 b - -\"]\n[Termination \"time forfeit\"]\n\n1-0",
@@ -44,29 +44,12 @@ pub const ROWS: [Row; 26] = [
         "[FEN \"k7/1Q6/8/8/8/8/8/4K3 b - -\"]\n\n1... Kxb7 1/2-1/2",
         "game 1\nfen: 8/1k6/8/8/8/8/8/4K3 w - -\nwhite: unwinnable\nblack: unwinnable\nstatus: dead\nresult: 1/2-1/2 -> 1/2-1/2 by 5.2.2\ngames: 1, unreadable: 0, changed: 0, undecided: 0\n",
     ),
-    // Behind this wall Black never mates, and White is not shown to.
-    (
-        "[FEN \"4kb2/7B/8/p1p1p1p1/P1P1P1P1/8/8/4K3 w - -\"]\n[Termination \"time forfeit\"]\n\n0-1",
-        "game 1\nfen: 4kb2/7B/8/p1p1p1p1/P1P1P1P1/8/8/4K3 w - -\nwhite: undecided, depth 2\nblack: unwinnable\nstatus: unclear\nresult: 0-1 -> 1/2-1/2 by 6.9\ngames: 1, unreadable: 0, changed: 1, undecided: 1\n",
-    ),
-    (
-        "[FEN \"4kb2/7B/8/p1p1p1p1/P1P1P1P1/8/8/4K3 w - -\"]\n[Termination \"normal\"]\n\n0-1",
-        "game 1\nfen: 4kb2/7B/8/p1p1p1p1/P1P1P1P1/8/8/4K3 w - -\nwhite: undecided, depth 2\nblack: unwinnable\nstatus: unclear\nresult: 0-1 -> 0-1 as recorded\ngames: 1, unreadable: 0, changed: 0, undecided: 1\n",
-    ),
-    (
-        "[FEN \"4kb2/7B/8/p1p1p1p1/P1P1P1P1/8/8/4K3 w - -\"]\n[Termination \"time forfeit\"]\n\n1-0",
-        "game 1\nfen: 4kb2/7B/8/p1p1p1p1/P1P1P1P1/8/8/4K3 w - -\nwhite: undecided, depth 2\nblack: unwinnable\nstatus: unclear\nresult: 1-0 -> 1-0 as recorded, winner undecided\ngames: 1, unreadable: 0, changed: 0, undecided: 1\n",
-    ),
     // f5 closes the last gap of a wall.
     (
         "[FEN \"4k3/8/5p2/p1p1p1p1/P1P1PPP1/8/8/4K3 w - -\"]\n\n1. f5 Kd7 *",
         "game 1\nfen: 8/3k4/5p2/p1p1pPp1/P1P1P1P1/8/8/4K3 w - -\nwhite: unwinnable\nblack: unwinnable\nstatus: dead\nresult: * -> 1/2-1/2 by 5.2.2\ngames: 1, unreadable: 0, changed: 1, undecided: 0\n",
     ),
-    // The capture in passing is open for one move, and then never.
-    (
-        "[FEN \"4k3/6p1/5p2/p1p1pP2/P1P1P1P1/8/8/4K3 b - -\"]\n\n1... g5 *",
-        "game 1\nfen: 4k3/8/5p2/p1p1pPp1/P1P1P1P1/8/8/4K3 w - g6\nwhite: undecided, depth 2\nblack: undecided, depth 2\nstatus: unclear\nresult: * -> * as recorded\ngames: 1, unreadable: 0, changed: 0, undecided: 1\n",
-    ),
+    // The capture in passing is over after one move.
     (
         "[FEN \"4k3/6p1/5p2/p1p1pP2/P1P1P1P1/8/8/4K3 b - -\"]\n\n1... g5 2. Kd1 *",
         "game 1\nfen: 4k3/8/5p2/p1p1pPp1/P1P1P1P1/8/8/3K4 b - -\nwhite: unwinnable\nblack: unwinnable\nstatus: dead\nresult: * -> 1/2-1/2 by 5.2.2\ngames: 1, unreadable: 0, changed: 1, undecided: 0\n",
@@ -115,5 +98,22 @@ pub const ROWS: [Row; 26] = [
     (
         "[FEN \"7k/4P3/6K1/8/8/8/8/8 w - -\"]\n\n1. e8 *",
         "game 1\nunreadable: move 1 e8: ambiguous\ngames: 1, unreadable: 1, changed: 0, undecided: 0\n",
+    ),
+];
+
+/// Inputs of `adjudicate --budget 500 --depth 2` with the whole output.
+pub const SHORT_ROWS: [Row; 3] = [
+    // Behind this wall Black never mates, and White is not shown to.
+    (
+        "[FEN \"4kb2/7B/8/p1p1p1p1/P1P1P1P1/8/8/4K3 w - -\"]\n[Termination \"time forfeit\"]\n\n0-1",
+        "game 1\nfen: 4kb2/7B/8/p1p1p1p1/P1P1P1P1/8/8/4K3 w - -\nwhite: undecided after 500 positions, depth 2\nblack: unwinnable\nstatus: unclear\nresult: 0-1 -> 1/2-1/2 by 6.9\ngames: 1, unreadable: 0, changed: 1, undecided: 1\n",
+    ),
+    (
+        "[FEN \"4kb2/7B/8/p1p1p1p1/P1P1P1P1/8/8/4K3 w - -\"]\n[Termination \"normal\"]\n\n0-1",
+        "game 1\nfen: 4kb2/7B/8/p1p1p1p1/P1P1P1P1/8/8/4K3 w - -\nwhite: undecided after 500 positions, depth 2\nblack: unwinnable\nstatus: unclear\nresult: 0-1 -> 0-1 as recorded\ngames: 1, unreadable: 0, changed: 0, undecided: 1\n",
+    ),
+    (
+        "[FEN \"4kb2/7B/8/p1p1p1p1/P1P1P1P1/8/8/4K3 w - -\"]\n[Termination \"time forfeit\"]\n\n1-0",
+        "game 1\nfen: 4kb2/7B/8/p1p1p1p1/P1P1P1P1/8/8/4K3 w - -\nwhite: undecided after 500 positions, depth 2\nblack: unwinnable\nstatus: unclear\nresult: 1-0 -> 1-0 as recorded, winner undecided\ngames: 1, unreadable: 0, changed: 0, undecided: 1\n",
     ),
 ];

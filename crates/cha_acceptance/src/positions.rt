@@ -43,11 +43,11 @@ pub const ROWS: [Row; 14] = [
     ),
     (
         "rnb1kbnr/pppp1ppp/8/4p3/6Pq/5P2/PPPPP2P/RNBQKBNR w KQkq -",
-        "position 1\nfen: rnb1kbnr/pppp1ppp/8/4p3/6Pq/5P2/PPPPP2P/RNBQKBNR w KQkq -\nwhite: undecided, depth 2\nblack: winnable in 0\nstatus: checkmate\npositions: 1, refused: 0, dead: 0, undecided: 1\n",
+        "position 1\nfen: rnb1kbnr/pppp1ppp/8/4p3/6Pq/5P2/PPPPP2P/RNBQKBNR w KQkq -\nwhite: unwinnable\nblack: winnable in 0\nstatus: checkmate\npositions: 1, refused: 0, dead: 0, undecided: 0\n",
     ),
     (
         "7k/5Q2/6K1/8/8/8/8/8 b - -",
-        "position 1\nfen: 7k/5Q2/6K1/8/8/8/8/8 b - -\nwhite: undecided, depth 2\nblack: unwinnable\nstatus: stalemate\npositions: 1, refused: 0, dead: 0, undecided: 1\n",
+        "position 1\nfen: 7k/5Q2/6K1/8/8/8/8/8 b - -\nwhite: unwinnable\nblack: unwinnable\nstatus: stalemate\npositions: 1, refused: 0, dead: 0, undecided: 0\n",
     ),
     (
         "\r\n \t \n4k3/8/8/8/8/8/8/4K3 b - -\r\n\n4k3/8/8/8/8/8/8/4K3 w - -\r\r\n\u{feff}4k3/8/8/8/8/8/8/4K3 w - -",

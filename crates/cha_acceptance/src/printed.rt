@@ -78,23 +78,23 @@ status: dead
 positions: 1, refused: 0, dead: 1, undecided: 0
 ";
 
-/// A queen against a bare king: a certificate for Black alone.
-const BARE_BLACK: &str = "\
+/// A bare king that is mated in two plies: a certificate for White alone.
+const BARE_WHITE: &str = "\
 position 1
-fen: 8/8/8/4k3/8/8/8/3QK3 w - -
-white: undecided, depth 2
-black: unwinnable
+fen: 8/8/8/8/8/1k6/7r/K7 w - -
+white: unwinnable
 cha-cert 1
-winner b
+winner w
 nodes 1
-leaf 8/8/8/4k3/8/8/8/3QK3 w - -
-loose 0000001000000018
-reach d1 Q ffffffffffffffff
-reach e1 K ffffffffffffffff
-reach e5 K ffffffffffffffff
+leaf 8/8/8/8/8/1k6/7r/K7 w - -
+loose 0000000000028001
+reach a1 K ffffffffffffffff
+reach h2 R ffffffffffffffff
+reach b3 K ffffffffffffffff
 end
-status: unclear
-positions: 1, refused: 0, dead: 0, undecided: 1
+black: winnable in 2: a1b1 h2h1
+status: live
+positions: 1, refused: 0, dead: 0, undecided: 0
 ";
 
 /// Games with the certificates of sides that cannot mate.
@@ -106,7 +106,7 @@ pub const GAMES: [Row; 2] = [
 /// Positions with the certificates of sides that cannot mate.
 pub const POSITIONS: [Row; 5] = [
     ("4k3/7B/8/p1p1p1p1/P1P1P1P1/8/8/4K3 w - -", BISHOP_BEYOND),
-    ("8/8/8/4k3/8/8/8/3QK3 w - -", BARE_BLACK),
+    ("8/8/8/8/8/1k6/7r/K7 w - -", BARE_WHITE),
     (
         "6rk/8/7K/4N3/8/8/8/8 w - -",
         "position 1\nfen: 6rk/8/7K/4N3/8/8/8/8 w - -\nwhite: winnable in 1: e5f7\nblack: skipped\nstatus: live\npositions: 1, refused: 0, dead: 0, undecided: 0\n",
@@ -152,7 +152,12 @@ fn printed_certificates_are_accepted(rt: HostRuntime) -> Result<(), Fail> {
     let alloc = rt.alloc();
     for (theme, rows) in TABLES {
         let lines = lines_of(alloc, rows)?;
-        let printed = run_on(&rt, alloc, "position --certs", &lines)?;
+        let printed = run_on(
+            &rt,
+            alloc,
+            "position --certs --budget 3000 --depth 2",
+            &lines,
+        )?;
         let report = printed.text();
         let certificates = certificates_in(alloc, report)?;
         let sides = report.matches(": unwinnable\n").count();

@@ -11,9 +11,15 @@ use std::test::Fail;
 pub type Row = (&'static str, &'static str);
 
 /// The tables, each with its theme, the command words and the status of its runs.
-const TABLES: [(&str, &str, Status, &[Row]); 6] = [
+const TABLES: [(&str, &str, Status, &[Row]); 7] = [
     ("positions", "position", Status::Done, &positions::ROWS),
     ("games", "adjudicate", Status::Done, &games::ROWS),
+    (
+        "games with a small budget",
+        "adjudicate --budget 500 --depth 2",
+        Status::Done,
+        &games::SHORT_ROWS,
+    ),
     (
         "positions with certificates",
         "position --certs",
@@ -82,7 +88,7 @@ const LONG: [Long; 7] = [
         part: "position 1\nrefused: shape\npositions: 1, refused: 1, dead: 0, undecided: 0\n",
     },
     Long {
-        words: "adjudicate",
+        words: "adjudicate --budget 1 --depth 2",
         before: "",
         piece: "Nf3 Nf6 Ng1 Ng8 ",
         times: 3000,
@@ -98,7 +104,7 @@ const LONG: [Long; 7] = [
         part: "game 1\nunreadable: more than 12000 moves\ngames: 1, unreadable: 1, changed: 0, undecided: 0\n",
     },
     Long {
-        words: "adjudicate",
+        words: "adjudicate --budget 1 --depth 2",
         before: "[Event \"",
         piece: "x",
         times: 4096,

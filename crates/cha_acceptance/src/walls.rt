@@ -1,6 +1,6 @@
 //! Walls: pawns that block each other, and each square between them guarded.
 
-use crate::known::Known::{Dead, Open};
+use crate::known::Known::{Dead, White, Wins};
 use crate::known::Row;
 
 /// Walls of pawns alone.
@@ -14,15 +14,15 @@ pub const PAWNS: [Row; 18] = [
     ("4k3/8/8/p2p2p1/P2P2P1/8/8/4K3 w - -", Dead),
     ("4k3/8/8/1p2p2p/1P2P2P/8/8/4K3 b - -", Dead),
     // Nobody guards f4 and f5: the kings cross there and take the pawns.
-    ("4k3/8/8/p2p3p/P2P3P/8/8/4K3 w - -", Open),
+    ("4k3/8/8/p2p3p/P2P3P/8/8/4K3 w - -", Wins),
     // The a-file is free: the kings cross on it.
-    ("4k3/8/8/2p1p1p1/2P1P1P1/8/8/4K3 w - -", Open),
+    ("4k3/8/8/2p1p1p1/2P1P1P1/8/8/4K3 w - -", Wins),
     // One blocked pair stops nobody: a king walks round it and takes.
-    ("4k3/8/8/4p3/4P3/8/8/4K3 w - -", Open),
+    ("4k3/8/8/4p3/4P3/8/8/4K3 w - -", Wins),
     // Each king stands on the other's side: from behind it takes the pawns, which guard forwards only.
-    ("4K3/8/8/p1p1p1p1/P1P1P1P1/8/8/4k3 w - -", Open),
+    ("4K3/8/8/p1p1p1p1/P1P1P1P1/8/8/4k3 w - -", Wins),
     // Both kings stand above: White's takes the black pawns, and then the white ones may go on and be taken.
-    ("2k1K3/8/8/p1p1p1p1/P1P1P1P1/8/8/8 w - -", Open),
+    ("2k1K3/8/8/p1p1p1p1/P1P1P1P1/8/8/8 w - -", Wins),
     // The wall one rank lower and higher.
     ("4k3/8/8/8/p1p1p1p1/P1P1P1P1/8/4K3 w - -", Dead),
     ("4k3/8/p1p1p1p1/P1P1P1P1/8/8/8/4K3 b - -", Dead),
@@ -45,13 +45,13 @@ pub const PAWNS_MORE: [Row; 8] = [
     // The pawn on a6 stands behind its own.
     ("4k3/8/p7/p1p1p1p1/P1P1P1P1/8/8/4K3 w - -", Dead),
     // b4 takes a5 or c5.
-    ("4k3/8/8/p1p1p1p1/PPP1P1P1/8/8/4K3 w - -", Open),
+    ("4k3/8/8/p1p1p1p1/PPP1P1P1/8/8/4K3 w - -", Wins),
     // b2 goes to b4, where it takes and is taken.
-    ("4k3/8/8/p1p1p1p1/P1P1P1P1/8/1P6/4K3 w - -", Open),
+    ("4k3/8/8/p1p1p1p1/P1P1P1P1/8/1P6/4K3 w - -", Wins),
     // h2 goes to h4, where g5 takes it.
-    ("4k3/8/8/p1p1p1p1/P1P1P1P1/8/7P/4K3 w - -", Open),
+    ("4k3/8/8/p1p1p1p1/P1P1P1P1/8/7P/4K3 w - -", Wins),
     // b6 goes to b5, where a4 and c4 take it.
-    ("4k3/8/1p6/p1p1p1p1/P1P1P1P1/8/8/4K3 b - -", Open),
+    ("4k3/8/1p6/p1p1p1p1/P1P1P1P1/8/8/4K3 b - -", Wins),
     // Pawns side by side take each other.
-    ("4k3/8/8/3pp3/3PP3/8/8/4K3 w - -", Open),
+    ("4k3/8/8/3pp3/3PP3/8/8/4K3 w - -", Wins),
 ];

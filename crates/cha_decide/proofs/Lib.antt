@@ -1,4 +1,3 @@
-pub mod Concatenated
-pub mod MateSearch
 pub mod Leaves
 pub mod Both
+pub mod Asking

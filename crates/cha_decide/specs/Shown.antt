@@ -1,13 +1,50 @@
 -- What is found about one side.
-use Rattle.std.specs.Prelude.{◌≤◌, List, length}
+use Rattle.std.specs.Prelude.{◌≡◌, ◌≤◌, ◌⊎◌, true, false, List, [], ◌∷◌, length, Result, Ok, ⊤}
+use Rattle.cha_list.specs.declared.memory.NoMemory.{NoMemory}
 use Rattle.cha_board.specs.declared.men.Color.{Color}
 use Rattle.cha_board.specs.Board.{Board}
-use Rattle.mob_law.specs.Static.{IsStaticallyUnwinnable}
 use Rattle.cha_cert.specs.declared.nodes.Node.{Node}
 use Rattle.cha_cert.specs.Certificates.{IsValidCert}
+use Rattle.cha_fact.specs.Entries.{Entry, HasProbe}
+use Rattle.cha_verdict.specs.declared.verdicts.Verdict.{Verdict}
+use Rattle.cha_verdict.specs.declared.verdicts.Verdict.TheVariants.{Winnable, Unwinnable, Undecided, Skipped}
+use Rattle.cha_verdict.specs.declared.decisions.Decision.{Decision}
+use Rattle.cha_verdict.specs.Bounds.{Bounds}
+use Rattle.cha_verdict.specs.Verdicts.{is_skipped, IsPrintable}
+use Rattle.cha_verdict.specs.Sound.{IsTrueOf, verdict_on}
 
--- closed mobility sets exist in which no mate can arise, and a valid certificate, whose text can be written, shows it
+-- a valid certificate, whose text can be written
 pub record IsShownUnwinnable (q : Board) (winner : Color) (cert : List Node) : Type 0 where
   pub valid : IsValidCert q winner cert
-  pub static : IsStaticallyUnwinnable q winner
   pub size : (1 ≤ length cert) × (length cert ≤ 4294967295)
+
+-- what is found about a side that is examined: its verdict is true and can be printed
+pub record IsFound (q : Board) (winner : Color) (limits : Bounds) (verdict : Verdict) : Type 0 where
+  pub holds : IsTrueOf q winner limits verdict
+  pub printable : IsPrintable verdict
+  pub examined : is_skipped verdict ≡ false
+
+-- some entries were made
+abbrev pub MadeSome : {S : Type 0} → (S → List Entry → S → Type 0) → S → S → Type 0
+MadeSome made old new = (entries : List Entry) × made old entries new
+
+-- a verdict that comes of a search: moves that mate, or that the budget was spent
+abbrev pub IsOfSearch : Verdict → Type 0
+IsOfSearch (Winnable []) = ⊥
+IsOfSearch (Winnable (m ∷ ms)) = ⊤
+IsOfSearch (Unwinnable cert) = ⊥
+IsOfSearch (Undecided units depth) = ⊤
+IsOfSearch Skipped = ⊥
+
+-- The entries that a decision made at a place that keeps facts. Where a verdict comes of a search, the position was asked for
+-- there.
+pub record Asked {S : Type 0} (made : S → List Entry → S → Type 0) (old new : S) (q : Board) (result : Result Decision NoMemory) : Type 0 where
+  pub entries : List Entry
+  pub entered : made old entries new
+  pub asked : (d : Decision) → result ≡ Ok d → (winner : Color) → IsOfSearch (verdict_on d winner) → HasProbe entries q winner
+
+-- the same of one side
+pub record AskedFor {S : Type 0} (made : S → List Entry → S → Type 0) (old new : S) (q : Board) (winner : Color) (result : Result Verdict NoMemory) : Type 0 where
+  pub entries : List Entry
+  pub entered : made old entries new
+  pub asked : (v : Verdict) → result ≡ Ok v → IsOfSearch v → HasProbe entries q winner

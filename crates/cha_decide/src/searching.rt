@@ -1,88 +1,157 @@
-//! The search for a mate in so many moves.
+//! The searches for a mate, one after the other, of which each is tried where those before it decided nothing.
 
-ghost use Rattle.std.specs.Prelude.{◌≡◌, false, ◌∷◌, None, IfOk, MatchOption, slice_get};
-ghost use Rattle.std.specs.Bool.{OnFalse};
+ghost use Rattle.std.specs.Prelude.{◌≡◌, ◌≤◌, ◌⊎◌, IfOk, IfSome};
 ghost use Rattle.cha_board.specs.Men.{other_color};
-ghost use Rattle.cha_moves.specs.Ends.{HasNoMateWithin};
-ghost use Rattle.cha_moves.specs.MateLines.{is_mated, mate_lines};
-ghost use Rattle.cha_verdict.specs.Sound.{IsShortestMate};
+ghost use Rattle.cha_moves.specs.Ends.{IsMatingLine, IsMated, HasNoMateWithin};
+ghost use Rattle.cha_moves.specs.Lines.{HasLines};
+ghost use Rattle.mob_law.specs.Static.{IsStaticallyUnwinnable};
+ghost use Rattle.cha_verdict.specs.Sound.{IsUndecided};
+ghost use Rattle.cha_decide.specs.Shown.{IsFound, AskedFor, MadeSome};
 
+use crate::showing::checked;
 use cha_board::{Color, Position};
+use cha_fact::{Facts, Line};
 use cha_list::NoMemory;
-use cha_moves::{Move, Moves, after, is_mate, legal};
+use cha_moves::Moves;
+use cha_verdict::{Limits, Verdict};
+use forced_graph::{Explored, explore_in};
+use helpmate::{RoundAnswer, round_in};
+use mate_hunt::hunt;
+use root_workers::{Crew, Gate, RoundsEnd, rounds_by};
+use search_guide::Guide;
 use std::alloc::Global;
 
-/// A move and the moves behind it.
-fn line_of(first: Move, rest: Moves) -> Result<Moves, NoMemory>
-    ensures { IfOk result (λ line. line ≡ first ∷ rest) }
-{
-    let mut line = rest.into_vec();
-    line.insert(0, first)?;
-    Ok(Moves::from_vec(line))
-}
+/// How many positions the first hunt expands at most, towards the corners, and the second, by the flights of the king.
+const FIRST_HUNT: u32 = 1000;
 
-/// The list of no moves, if a side has mated.
-#[tactic(auto, using(crate::proofs::MateSearch::on_board, crate::proofs::MateSearch::not_on_board))]
-fn mate_on_board(alloc: Global, position: &Position, winner: Color) -> Option<Moves>
-    ensures { result ≡ slice_get (mate_lines 0 position.now winner) 0 }
+const SECOND_HUNT: u32 = 500;
+
+/// The moves of a line, as a verdict has them.
+fn moves_of(alloc: Global, line: &Line) -> Result<Moves, NoMemory>
+    ensures { IfOk result (λ moves. moves ≡ line.now) }
 {
-    if is_mate(position, winner) {
-        Some(Moves::new(alloc))
-    } else {
-        None
+    let mut moves = Vec::new(alloc);
+    match moves.extend_from_slice(line.moves()) {
+        Ok(()) => Ok(Moves::from_vec(moves)),
+        Err(_) => Err(NoMemory),
     }
 }
 
-/// Whether a side makes the last of this many moves. Where it does not, no such list mates for it.
-fn moves_last(position: &Position, winner: Color, plies: u8) -> bool
-    ensures { OnFalse result (slice_get (mate_lines plies position.now winner) 0 ≡ None) }
-{
-    position.side().is(winner) == (plies % 2 == 1)
-}
-
-/// The first list of exactly this many legal moves that mates for a side, in the order of moves, if there is one.
-#[tactic(auto, using(crate::proofs::MateSearch::search_begins, crate::proofs::MateSearch::search_goes_on, crate::proofs::MateSearch::search_ends))]
-fn first_mate(
+/// Looks for a mate by two hunts, each of which expands few positions.
+fn hunted(
     alloc: Global,
     position: &Position,
     winner: Color,
-    plies: u8,
+    budget: u32,
 ) -> Result<Option<Moves>, NoMemory>
-    ensures { IfOk result (λ found. found ≡ slice_get (mate_lines plies position.now winner) 0) }
+    ensures { IfOk result (λ found. IfSome found (IsMatingLine position.now winner)) }
 {
-    if !moves_last(position, winner, plies) {
-        return Ok(None);
+    match hunt(
+        alloc,
+        position,
+        winner,
+        budget.min(FIRST_HUNT),
+        Guide::Corner,
+    )? {
+        Some(moves) => Ok(Some(moves)),
+        None => hunt(
+            alloc,
+            position,
+            winner,
+            budget.min(SECOND_HUNT),
+            Guide::Flights,
+        ),
     }
-    if plies == 0 {
-        return Ok(mate_on_board(alloc, position, winner));
-    }
-    let moves = legal(alloc, position)?;
-    for m in &moves {
-        match first_mate(alloc, &after(position, *m), winner, plies - 1)? {
-            Some(rest) => return Ok(Some(line_of(*m, rest)?)),
-            None => {}
-        }
-    }
-    Ok(None)
 }
 
-/// The first of the shortest lists of one move to so many moves that mate for a side, if there is one. The side has not
-/// mated yet.
-#[tactic(auto, using(crate::proofs::MateSearch::none_below_one))]
-pub fn shortest_mate(
+/// The verdict on a side whose budget was spent: a last hunt by the flights of the king may yet find a mate.
+fn hunted_last(
     alloc: Global,
     position: &Position,
     winner: Color,
-    plies: u8,
-) -> Result<Option<Moves>, NoMemory>
-    requires { is_mated position.now (other_color winner) ≡ false }
-    ensures { IfOk result (λ found. MatchOption found (HasNoMateWithin position.now winner plies) (λ moves. IsShortestMate position.now winner plies moves)) }
+    limits: &Limits,
+    units: u32,
+    depth: u8,
+) -> Result<Verdict, NoMemory>
+    requires undecided { IsUndecided position.now winner limits.now units depth }
+    ensures found { IfOk result (IsFound position.now winner limits.now) }
 {
-    for shorter in 0..plies {
-        match first_mate(alloc, position, winner, shorter + 1)? {
-            Some(moves) => return Ok(Some(moves)),
-            None => {}
-        }
+    match hunt(alloc, position, winner, limits.budget(), Guide::Flights)? {
+        Some(moves) => Ok(Verdict::Winnable(moves)),
+        None => Ok(Verdict::Undecided { units, depth }),
     }
-    Ok(None)
+}
+
+/// The verdict of the exploration of a position on a side that has no mate within so many plies.
+fn explored<F: Facts>(
+    alloc: Global,
+    position: &Position,
+    winner: Color,
+    limits: &Limits,
+    depth: u8,
+    facts: &mut F,
+) -> Result<Verdict, NoMemory>
+    requires ready { F.ready facts.old }
+    requires unmated { IsMated position.now (other_color winner) → ⊥ }
+    requires unshown { IsStaticallyUnwinnable position.now winner → ⊥ }
+    requires none { HasNoMateWithin position.now winner depth }
+    requires deep { 2 ≤ depth }
+    requires searched { (depth ≡ limits.now.depth) ⊎ HasLines position.now depth limits.now.budget }
+    ensures stays_ready { F.ready facts.new }
+    ensures found { IfOk result (IsFound position.now winner limits.now) }
+    ensures calls { MadeSome F.made facts.old facts.new }
+{
+    match explore_in(alloc, position, winner, limits.budget(), facts)? {
+        Explored::Mate(moves) => Ok(Verdict::Winnable(moves)),
+        Explored::Closed(cert) => Ok(Verdict::Unwinnable(checked(alloc, position, winner, cert)?)),
+        Explored::Spent { count } => hunted_last(alloc, position, winner, limits, count, depth),
+    }
+}
+
+/// The verdict of the rounds, and of the exploration where they find no mate.
+fn deepened<C: Crew>(
+    alloc: Global,
+    position: &Position,
+    winner: Color,
+    limits: &Limits,
+    crew: &mut C,
+    gate: &(dyn Gate + Sync),
+) -> Result<Verdict, NoMemory>
+    requires ready { C.ready crew.old }
+    requires unmated { IsMated position.now (other_color winner) → ⊥ }
+    requires unshown { IsStaticallyUnwinnable position.now winner → ⊥ }
+    ensures stays_ready { C.ready crew.new }
+    ensures found { IfOk result (IsFound position.now winner limits.now) }
+    ensures calls { MadeSome C.made crew.old crew.new }
+{
+    match rounds_by(alloc, position, winner, limits, crew, gate)?.end {
+        RoundsEnd::Mate(line) => Ok(Verdict::Winnable(moves_of(alloc, &line)?)),
+        RoundsEnd::NoneWithin(depth) => explored(alloc, position, winner, limits, depth, crew),
+    }
+}
+
+/// The verdict of the searches on a side that has not mated, and that no mobility sets show unable to mate: a round of two
+/// plies, which starts no thread, hunts, the rounds of the limits, and the exploration.
+pub fn searched<C: Crew>(
+    alloc: Global,
+    position: &Position,
+    winner: Color,
+    limits: &Limits,
+    crew: &mut C,
+    gate: &(dyn Gate + Sync),
+) -> Result<Verdict, NoMemory>
+    requires ready { C.ready crew.old }
+    requires unmated { IsMated position.now (other_color winner) → ⊥ }
+    requires unshown { IsStaticallyUnwinnable position.now winner → ⊥ }
+    ensures stays_ready { C.ready crew.new }
+    ensures found { IfOk result (IsFound position.now winner limits.now) }
+    ensures calls { AskedFor C.made crew.old crew.new position.now winner result }
+{
+    match round_in(alloc, position, winner, 2, None, crew)?.round {
+        RoundAnswer::Mate(line) => Ok(Verdict::Winnable(moves_of(alloc, &line)?)),
+        _ => match hunted(alloc, position, winner, limits.budget())? {
+            Some(moves) => Ok(Verdict::Winnable(moves)),
+            None => deepened(alloc, position, winner, limits, crew, gate),
+        },
+    }
 }

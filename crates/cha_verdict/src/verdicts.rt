@@ -13,8 +13,11 @@ pub enum Verdict {
     Winnable(Moves),
     /// No series of legal moves ends in a mate by the side, which this certificate shows.
     Unwinnable(Cert),
-    /// Neither was shown.
+    /// Neither was shown, with all that a search may spend.
     Undecided {
+        /// So many distinct positions that legal moves lead to were expanded, the position itself the first of them, and no
+        /// mate by the side was met.
+        units: u32,
         /// No list of at most this many legal moves, of both sides together, ends in a mate by the side.
         depth: u8,
     },

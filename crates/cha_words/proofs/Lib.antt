@@ -5,3 +5,4 @@ pub mod Words
 pub mod Parts
 pub mod Digits
 pub mod Ranges
+pub mod Counts

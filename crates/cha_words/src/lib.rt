@@ -18,5 +18,5 @@ mod settings;
 mod tests;
 
 pub use faults::{UsageFault, usage_fault};
-pub use orders::{Order, parse};
+pub use orders::{Order, games_are_some, parse};
 pub use settings::{Setting, least, most};

@@ -1,9 +1,11 @@
 //! What the words order.
 
-ghost use Rattle.std.specs.Prelude.{◌≡◌, ◌≤◌, [], map, string_bytes, unwrap_or};
-ghost use Rattle.cha_words.specs.Language.{least_of, most_of, limits_in, order, order_by};
+ghost use Rattle.std.specs.Prelude.{◌≡◌, ◌≤◌, ℕ, List, Some, [], map, string_bytes, unwrap_or};
+ghost use Rattle.cha_verdict.specs.Bounds.{Bounds};
+ghost use Rattle.cha_words.specs.Language.{least_of, most_of, limits_in, order, order_by, order_of};
 ghost use Rattle.cha_words.specs.Reading.{HasRanges, limits_from, order_from, value_in};
 ghost use Rattle.cha_words.specs.declared.commands.Command.TheVariants.{Check, Gen};
+ghost use Rattle.cha_words.specs.declared.orders.Order.TheVariants.{GenGames};
 
 use crate::commands::{Command, command_of};
 use crate::given::{Given, Numbers, value};
@@ -85,6 +87,11 @@ pub fn parse(words: &[String]) -> Option<Order>
         _ => None,
     }
 }
+
+/// The law: where games are ordered, there are 1 to 1,000 of them.
+pub fn games_are_some()
+    ensures { (words : List (List ℕ)) (spend : Bounds) (seed count : ℕ) → order_of words ≡ Some (GenGames spend seed count) → (1 ≤ count) × (count ≤ 1000) }
+{}
 
 /// What a command orders with the words behind it.
 fn ordered(command: Command, behind: &[String]) -> Option<Order>

@@ -24,8 +24,8 @@ unfolding ruling_of
 stalemated recorded forfeit white black = refl
 
 -- each kind of verdict: can mate, cannot mate, not shown, not examined
-abbrev each_verdict : List Move → List Node → ℕ → List Verdict
-each_verdict moves cert depth = Winnable moves ∷ Unwinnable cert ∷ Undecided depth ∷ Skipped ∷ []
+abbrev each_verdict : List Move → List Node → ℕ → ℕ → List Verdict
+each_verdict moves cert units depth = Winnable moves ∷ Unwinnable cert ∷ Undecided units depth ∷ Skipped ∷ []
 
 -- the rulings where the game goes on: a row for each verdict on White, and in it one for each verdict on Black
 abbrev rulings : ResultMark → Bool → List Verdict → List (List Judgment)
@@ -45,45 +45,45 @@ abbrev u : ResultMark → Judgment
 u recorded = judged recorded RecordedUndecided
 
 -- White won, as where Black resigned
-white_won : (moves : List Move) (cert : List Node) (depth : ℕ) → let w = WhiteWins in
-    rulings w false (each_verdict moves cert depth)
+white_won : (moves : List Move) (cert : List Node) (units depth : ℕ) → let w = WhiteWins in
+    rulings w false (each_verdict moves cert units depth)
     ≡ ((r w ∷ r w ∷ r w ∷ r w ∷ []) ∷ (r w ∷ d ∷ r w ∷ r w ∷ []) ∷ (u w ∷ u w ∷ u w ∷ u w ∷ []) ∷ (r w ∷ r w ∷ r w ∷ r w ∷ []) ∷ [])
 unfolding ruling_of running_ruling_of winner_ruling_of
-white_won moves cert depth = refl
+white_won moves cert units depth = refl
 
 -- White won, and Black's flag fell
-white_won_on_time : (moves : List Move) (cert : List Node) (depth : ℕ) → let w = WhiteWins in
-    rulings w true (each_verdict moves cert depth)
+white_won_on_time : (moves : List Move) (cert : List Node) (units depth : ℕ) → let w = WhiteWins in
+    rulings w true (each_verdict moves cert units depth)
     ≡ ((r w ∷ r w ∷ r w ∷ r w ∷ []) ∷ (f ∷ d ∷ f ∷ f ∷ []) ∷ (u w ∷ u w ∷ u w ∷ u w ∷ []) ∷ (r w ∷ r w ∷ r w ∷ r w ∷ []) ∷ [])
 unfolding ruling_of running_ruling_of winner_ruling_of
-white_won_on_time moves cert depth = refl
+white_won_on_time moves cert units depth = refl
 
 -- Black won
-black_won : (moves : List Move) (cert : List Node) (depth : ℕ) → let b = BlackWins in
-    rulings b false (each_verdict moves cert depth)
+black_won : (moves : List Move) (cert : List Node) (units depth : ℕ) → let b = BlackWins in
+    rulings b false (each_verdict moves cert units depth)
     ≡ ((r b ∷ r b ∷ u b ∷ r b ∷ []) ∷ (r b ∷ d ∷ u b ∷ r b ∷ []) ∷ (r b ∷ r b ∷ u b ∷ r b ∷ []) ∷ (r b ∷ r b ∷ u b ∷ r b ∷ []) ∷ [])
 unfolding ruling_of running_ruling_of winner_ruling_of
-black_won moves cert depth = refl
+black_won moves cert units depth = refl
 
 -- Black won, and White's flag fell
-black_won_on_time : (moves : List Move) (cert : List Node) (depth : ℕ) → let b = BlackWins in
-    rulings b true (each_verdict moves cert depth)
+black_won_on_time : (moves : List Move) (cert : List Node) (units depth : ℕ) → let b = BlackWins in
+    rulings b true (each_verdict moves cert units depth)
     ≡ ((r b ∷ f ∷ u b ∷ r b ∷ []) ∷ (r b ∷ d ∷ u b ∷ r b ∷ []) ∷ (r b ∷ f ∷ u b ∷ r b ∷ []) ∷ (r b ∷ f ∷ u b ∷ r b ∷ []) ∷ [])
 unfolding ruling_of running_ruling_of winner_ruling_of
-black_won_on_time moves cert depth = refl
+black_won_on_time moves cert units depth = refl
 
 -- a draw, as where a site rules so by itself; and no result: a dead position alone changes them, flag or not
-drawn : (forfeit : Bool) (moves : List Move) (cert : List Node) (depth : ℕ) → let x = Draw in
-    rulings x forfeit (each_verdict moves cert depth)
+drawn : (forfeit : Bool) (moves : List Move) (cert : List Node) (units depth : ℕ) → let x = Draw in
+    rulings x forfeit (each_verdict moves cert units depth)
     ≡ ((r x ∷ r x ∷ r x ∷ r x ∷ []) ∷ (r x ∷ d ∷ r x ∷ r x ∷ []) ∷ (r x ∷ r x ∷ r x ∷ r x ∷ []) ∷ (r x ∷ r x ∷ r x ∷ r x ∷ []) ∷ [])
 unfolding ruling_of running_ruling_of winner_ruling_of
-drawn forfeit moves cert depth = refl
+drawn forfeit moves cert units depth = refl
 
-without_result : (forfeit : Bool) (moves : List Move) (cert : List Node) (depth : ℕ) → let x = Unknown in
-    rulings x forfeit (each_verdict moves cert depth)
+without_result : (forfeit : Bool) (moves : List Move) (cert : List Node) (units depth : ℕ) → let x = Unknown in
+    rulings x forfeit (each_verdict moves cert units depth)
     ≡ ((r x ∷ r x ∷ r x ∷ r x ∷ []) ∷ (r x ∷ d ∷ r x ∷ r x ∷ []) ∷ (r x ∷ r x ∷ r x ∷ r x ∷ []) ∷ (r x ∷ r x ∷ r x ∷ r x ∷ []) ∷ [])
 unfolding ruling_of running_ruling_of winner_ruling_of
-without_result forfeit moves cert depth = refl
+without_result forfeit moves cert units depth = refl
 
 abbrev each_mark : List ResultMark
 each_mark = WhiteWins ∷ BlackWins ∷ Draw ∷ Unknown ∷ []

@@ -35,18 +35,22 @@ unfoldable pub winnable_text : List Move → List ℕ
 winnable_text [] = codes "winnable in 0"
 winnable_text (m ∷ ms) = codes "winnable in " ++ decimal (length (m ∷ ms)) ++ codes ":" ++ moves_text (m ∷ ms)
 
+-- the text of a search that spent its budget: the positions expanded, and the plies within which there is no mate
+unfoldable pub undecided_text : ℕ → ℕ → List ℕ
+undecided_text units depth = count_text (codes "undecided after ") units ++ count_text (codes " positions, depth ") depth
+
 -- the text of a verdict
 unfoldable pub verdict_text : Verdict → List ℕ
 verdict_text (Winnable moves) = winnable_text moves
 verdict_text (Unwinnable cert) = codes "unwinnable"
-verdict_text (Undecided depth) = count_text (codes "undecided, depth ") depth
+verdict_text (Undecided units depth) = undecided_text units depth
 verdict_text Skipped = codes "skipped"
 
 -- the certificate of a side that cannot mate, where certificates are printed
 unfoldable pub cert_part : Bool → Color → Verdict → List ℕ
 cert_part certs winner (Winnable moves) = []
 cert_part certs winner (Unwinnable cert) = if certs then cert_text winner cert else []
-cert_part certs winner (Undecided depth) = []
+cert_part certs winner (Undecided units depth) = []
 cert_part certs winner Skipped = []
 
 -- the line with the verdict on a side behind its label, and the certificate behind the line

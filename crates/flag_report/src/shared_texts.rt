@@ -1,7 +1,7 @@
 //! The texts that the blocks of positions and of games share.
 
 ghost use Rattle.std.specs.Prelude.{◌≡◌, ◌++◌, OnOk, decimal, codes};
-ghost use Rattle.flag_report.specs.Blocks.{line, count_text, moves_text, winnable_text, verdict_text, cert_part, side_text, findings_text};
+ghost use Rattle.flag_report.specs.Blocks.{line, count_text, moves_text, winnable_text, undecided_text, verdict_text, cert_part, side_text, findings_text};
 ghost use Rattle.cha_verdict.specs.Verdicts.{IsPrintable};
 ghost use Rattle.cha_fen.specs.Written.{fen_text};
 
@@ -62,11 +62,13 @@ fn put_winnable(alloc: Global, moves: &[Move], text: &mut Text) -> Result<(), No
     put_moves(moves, text)
 }
 
-/// Appends the text of a search to some depth that found nothing.
-fn put_undecided(alloc: Global, depth: u8, text: &mut Text) -> Result<(), NoMemory>
-    ensures { OnOk result (text.new ≡ text.old ++ count_text (codes "undecided, depth ") depth) }
+/// Appends the text of a search that spent its budget and found nothing.
+#[tactic(auto, unfolding(crate::specs::Blocks::undecided_text))]
+fn put_undecided(alloc: Global, units: u32, depth: u8, text: &mut Text) -> Result<(), NoMemory>
+    ensures { OnOk result (text.new ≡ text.old ++ undecided_text units depth) }
 {
-    put_count(alloc, b"undecided, depth ", u64::from(depth), text)?;
+    put_count(alloc, b"undecided after ", u64::from(units), text)?;
+    put_count(alloc, b" positions, depth ", u64::from(depth), text)?;
     Ok(())
 }
 
@@ -78,7 +80,7 @@ fn put_verdict(alloc: Global, verdict: &Verdict, text: &mut Text) -> Result<(), 
     match verdict {
         Verdict::Winnable(moves) => put_winnable(alloc, moves.items(), text),
         Verdict::Unwinnable(_) => text.append(b"unwinnable"),
-        Verdict::Undecided { depth } => put_undecided(alloc, *depth, text),
+        Verdict::Undecided { units, depth } => put_undecided(alloc, *units, *depth, text),
         Verdict::Skipped => text.append(b"skipped"),
     }
 }

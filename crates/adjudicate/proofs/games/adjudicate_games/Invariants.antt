@@ -12,6 +12,7 @@ invariant-loop-found g l = record {
   fine : l.reader.failed ≡ false;
   source_later : g.S.Source.faults l.fn.source ≤ g.S.Source.faults l.source;
   sink_later : g.K.Sink.faults l.fn.sink ≤ g.K.Sink.faults l.sink;
+  ready : g.C.Facts.ready l.crew;
 }
 
 abbrev pub decreases-loop-found : goal.decreases-loop-found

@@ -3,9 +3,9 @@ use Rattle.adjudicate.specs.Outcomes.{item_of, IsSoundOutcome, is_refused, is_de
 use Rattle.adjudicate.specs.Outcomes.Outcome.{JudgedPosition}
 use Rattle.adjudicate.proofs.judging.judge_position.Goals as goal
 
-pub returns : goal.returns
+pub returns-clause-judged : goal.returns-clause-judged
 unfolding item_of IsSoundOutcome is_refused is_dead_position is_open block
-returns c = (
+returns-clause-judged g c = (
   JudgedPosition c.args.position.now c.in_ok-decision.decision,
   refl,
   c.in_ok-decision.ensures.sound,

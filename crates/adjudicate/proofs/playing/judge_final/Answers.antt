@@ -3,9 +3,9 @@ use Rattle.adjudicate.specs.Outcomes.{item_of, IsSoundOutcome, is_unreadable, is
 use Rattle.adjudicate.specs.Outcomes.Outcome.{JudgedGame}
 use Rattle.adjudicate.proofs.playing.judge_final.Goals as goal
 
-pub returns : goal.returns
+pub returns-clause-judged : goal.returns-clause-judged
 unfolding item_of IsSoundOutcome is_unreadable is_changed_game is_open block
-returns c = (
+returns-clause-judged g c = (
   JudgedGame c.args.position.now c.args.recorded c.args.forfeit c.in_ok-decision.decision,
   refl,
   rw c.first_examined.ensures at c.in_ok-decision.ensures.sound,

@@ -9,6 +9,7 @@ invariant-loop-rest g l = record {
   written : WroteUpTo of_positions l.limits l.certs (position_items l.bytes) (position_items l.rest) (g.K.Sink.written l.fn.sink) (g.K.Sink.written l.sink) l.totals;
   room : l.totals.positions + length l.rest ≤ length l.bytes;
   later : g.K.Sink.faults l.fn.sink ≤ g.K.Sink.faults l.sink;
+  ready : g.C.Facts.ready l.crew;
 }
 
 abbrev pub decreases-loop-rest : goal.decreases-loop-rest

@@ -1,19 +1,19 @@
 use Rattle.std.proofs.Common.{◌≡◌, ◌≤◌, length, sym, ap, subst, arith}
 use Rattle.std.specs.Io.KnownBytes.{Consumes}
-use Rattle.adjudicate.specs.declared.orders.Order.TheVariants.{JudgePositions}
+use Rattle.cha_words.specs.declared.orders.Order.TheVariants.{JudgePositions}
 use Rattle.adjudicate.proofs.RunEndings.{unread, written_run}
 use Rattle.adjudicate.proofs.positions.judge_positions.Goals as goal
 
-pub returns-in-Ok : goal.returns-in-Ok
-returns-in-Ok g c =
+pub returns-in-Ok-clause-run : goal.returns-in-Ok-clause-run
+returns-in-Ok-clause-run g c =
     let all = c.in-Ok.ensures.all in
     let bytes = c.as_slice.result.now in
     let same : c.in-Ok.bytes.items ≡ bytes = sym c.as_slice.ensures.value in
     let consumed = subst (Consumes _ _) same all.0 in
     let few : length bytes ≤ 268435456 = let short = all.2 in omega (arith, short, ap length same, c.in-Ok.bytes.ok) in
-    written_run (JudgePositions _ _) bytes _ _ _ _ _ _ _ _ consumed all.1 _ few c.read_all.ensures.later c.judge_lines.ensures
+    written_run (JudgePositions _ _) tt bytes _ _ _ _ _ _ _ _ consumed all.1 _ few c.read_all.ensures.later c.judge_lines.ensures.written
 
-pub returns-in-Err : goal.returns-in-Err
-returns-in-Err g c =
+pub returns-in-Err-clause-run : goal.returns-in-Err-clause-run
+returns-in-Err-clause-run g c =
     let e = c.read_all.ensures in
-    unread (JudgePositions _ _) c.read_all.result _ _ _ _ _ _ e.later e.read_fault e.too_long e.no_memory e.cause e.within_limit c.in-Err.end _ c.in-Err.is c.from.ensures
+    unread (JudgePositions _ _) tt c.read_all.result _ _ _ _ _ _ e.later e.read_fault e.too_long e.no_memory e.cause e.within_limit c.in-Err.end _ c.in-Err.is c.from.ensures

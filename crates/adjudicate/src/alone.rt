@@ -1,0 +1,81 @@
+//! The same call where there is no runtime.
+
+ghost use Rattle.std.specs.Prelude.{◌≡◌, ◌≤◌, ◌↔◌, ◌⊎◌, ℕ, List, length, IsNone, IsSome, IfSome, Some};
+ghost use Rattle.cha_board.specs.declared.men.Color.{Color as Side};
+ghost use Rattle.cha_board.specs.Board.{Board, IsValid};
+ghost use Rattle.cha_outside.specs.Faults.{Rose};
+ghost use Rattle.cha_outside.specs.Gathering.{Took};
+ghost use Rattle.cha_verdict.specs.Bounds.{Bounds};
+ghost use Rattle.cha_verdict.specs.Sound.{IsSound, IsComplete, verdict_on};
+ghost use Rattle.cha_verdict.specs.declared.decisions.Decision.{Decision};
+ghost use Rattle.cha_words.specs.declared.orders.Order.TheVariants.{CheckCert, GenGames};
+ghost use Rattle.cha_words.specs.Language.{order};
+ghost use Rattle.adjudicate.specs.Checks.{IsTextOf, IsUnwinnableAtFirst};
+ghost use Rattle.adjudicate.specs.Runs.{IsRun, outside};
+
+use crate::checking::check_cert;
+use crate::commands::carry_out;
+use crate::endings::Status;
+use cha_outside::{MOST_BYTES, Sink, Source};
+use cha_verdict::{Limits, sound_is_complete};
+use cha_words::{Order, games_are_some, parse};
+use root_workers::{Alone, OpenGate};
+use shard_table::Shard;
+use std::alloc::Global;
+
+/// Does what the words order, as `run` does, without a runtime: it starts no thread, waits for none and takes no lock. So it
+/// can stand in a library. How many workers the words ask for changes nothing.
+pub fn run_alone<S: Source, K: Sink>(
+    alloc: Global,
+    words: &[String],
+    source: &mut S,
+    sink: &mut K,
+) -> Status
+    // The words are not in the language, and then nothing was read or written.
+    ensures usage { (result ≡ Status.Usage) ↔ IsNone (order words.now) }
+    ensures untouched { result ≡ Status.Usage → (source.new ≡ source.old) × (sink.new ≡ sink.old) }
+
+    // What the words order was done, status by status: on Done the whole input was read, and its report was written.
+    ensures run { IfSome (order words.now) (λ o. IsRun o result (outside (S.left source.old) (S.faults source.old) (K.written sink.old) (K.faults sink.old)) (outside (S.left source.new) (S.faults source.new) (K.written sink.new) (K.faults sink.new))) }
+
+    // What the verdicts of a report cannot miss.
+    ensures misses_nothing { (q : Board) (first : Side) (limits : Bounds) (d : Decision) → IsValid q → IsSound q first limits d → (winner : Side) → IsComplete q winner limits (verdict_on d winner) }
+
+    // Where a certificate was accepted, its text was read, and no series of legal moves from the position of its first node
+    // mates for its side.
+    ensures law { result ≡ Status.Done → order words.now ≡ Some CheckCert → Took (S.left source.old) (S.left source.new) (IsTextOf IsUnwinnableAtFirst) }
+
+    // With words of the language, an input that is not too long and nothing that fails, the report is written or memory
+    // was refused.
+    ensures complete { IsSome (order words.now) → (bytes : List ℕ) → S.left source.old ≡ Some bytes → length bytes ≤ MOST_BYTES
+        → ¬ Rose (S.faults source.old) (S.faults source.new) → ¬ Rose (K.faults sink.old) (K.faults sink.new)
+        → (result ≡ Status.Done) ⊎ ((result ≡ Status.NotAccepted) ⊎ (result ≡ Status.NoMemory)) }
+{
+    sound_is_complete();
+    games_are_some();
+    match parse(words) {
+        Some(order) => match order.limits() {
+            Some(limits) => by_itself(alloc, &order, &limits, source, sink),
+            None => check_cert(alloc, source, sink),
+        },
+        None => Status::Usage,
+    }
+}
+
+/// Does what an order asks for with one worker, which has facts of its own.
+fn by_itself<S: Source, K: Sink>(
+    alloc: Global,
+    order: &Order,
+    limits: &Limits,
+    source: &mut S,
+    sink: &mut K,
+) -> Status
+    requires some { (spend : Bounds) (seed count : ℕ) → order.now ≡ GenGames spend seed count → (1 ≤ count) × (count ≤ 1000) }
+    ensures { IsRun order.now result (outside (S.left source.old) (S.faults source.old) (K.written sink.old) (K.faults sink.old)) (outside (S.left source.new) (S.faults source.new) (K.written sink.new) (K.faults sink.new)) }
+{
+    let Ok(mut shard) = Shard::new(alloc, limits.entries()) else {
+        return Status::NoMemory;
+    };
+    let mut alone = Alone::new(alloc, &mut shard);
+    carry_out(alloc, order, &mut alone, &OpenGate, source, sink)
+}

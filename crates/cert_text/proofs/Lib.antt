@@ -3,8 +3,11 @@ mod Cutting
 mod Writing
 mod SharedWriting
 mod Going
+mod Many
 mod Parts
 pub mod Spelling
+mod SharedSpelling
+mod SharedParts
 mod Plain
 mod LinesAgain
 mod Rereading

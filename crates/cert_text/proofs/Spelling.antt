@@ -34,19 +34,19 @@ joined [] = refl
 joined (b ∷ bs) = join_step b bs (b == 10) (lines_of bs) refl refl (joined bs)
 
 -- what the steps of a reader say when they succeed
-record Chained {A B : Type 0} (r : Result A CertFault) (next : A → Result B CertFault) (b : B) : Type 0 where
-  value : A
-  first : r ≡ Ok value
-  last : next value ≡ Ok b
+pub record Chained {A B : Type 0} (r : Result A CertFault) (next : A → Result B CertFault) (b : B) : Type 0 where
+  pub value : A
+  pub first : r ≡ Ok value
+  pub last : next value ≡ Ok b
 
-then_ok : {A B : Type 0} (r : Result A CertFault) (next : A → Result B CertFault) (b : B) → and_then r next ≡ Ok b → Chained r next b
+pub then_ok : {A B : Type 0} (r : Result A CertFault) (next : A → Result B CertFault) (b : B) → and_then r next ≡ Ok b → Chained r next b
 then_ok (Ok a) next b e = record { value = a; first = refl; last = e }
 then_ok (Err fault) next b e = cc
 
-record Taken {A : Type 0} (read : List ℕ → Option A) (lines : List (List ℕ)) (f : Found A) : Type 0 where
-  line : List ℕ
-  is : lines ≡ line ∷ f.lines
-  says : read line ≡ Some f.value
+pub record Taken {A : Type 0} (read : List ℕ → Option A) (lines : List (List ℕ)) (f : Found A) : Type 0 where
+  pub line : List ℕ
+  pub is : lines ≡ line ∷ f.lines
+  pub says : read line ≡ Some f.value
 
 some_ok : {A : Type 0} (read : List ℕ → Option A) (kind : CertKind) (n : ℕ) (line : List ℕ) (lines : List (List ℕ)) (f : Found A) (o : Option A) → read line ≡ o
     → on_some o (misfit n kind) (λ a. found a (n + 1) lines) ≡ Ok f → Taken read (line ∷ lines) f
@@ -55,7 +55,7 @@ some_ok read kind n line lines f (Some a) r e =
     let found_is : record { value = a; number = n + 1; lines = lines } ≡ f = cc in
     record { line = line; is = ap (λ g. line ∷ g.lines) found_is; says = r ∙ ap (λ g. Some g.value) found_is }
 
-wanted_ok : {A : Type 0} (read : List ℕ → Option A) (kind : CertKind) (n : ℕ) (lines : List (List ℕ)) (f : Found A) → wanted read kind n lines ≡ Ok f → Taken read lines f
+pub wanted_ok : {A : Type 0} (read : List ℕ → Option A) (kind : CertKind) (n : ℕ) (lines : List (List ℕ)) (f : Found A) → wanted read kind n lines ≡ Ok f → Taken read lines f
 unfolding wanted
 wanted_ok read kind n [] f e = cc
 wanted_ok read kind n (line ∷ lines) f e = some_ok read kind n line lines f (read line) refl e
@@ -63,25 +63,25 @@ wanted_ok read kind n (line ∷ lines) f e = some_ok read kind n line lines f (r
 same_text : (a b : List ℕ) → is_text a b ≡ true → a ≡ b
 same_text a b t = (slice_eq-Decides Decides-eqb a b (is_text a b) refl).0 t
 
-if_some : {A : Type 0} (t : Bool) (a x : A) → (if t then Some a else None) ≡ Some x → (t ≡ true) × (a ≡ x)
+pub if_some : {A : Type 0} (t : Bool) (a x : A) → (if t then Some a else None) ≡ Some x → (t ≡ true) × (a ≡ x)
 if_some true a x e = (refl, cc)
 if_some false a x e = cc
 
-if_kept : {A : Type 0} (t : Bool) (o : Option A) (x : A) → (if t then o else None) ≡ Some x → o ≡ Some x
+pub if_kept : {A : Type 0} (t : Bool) (o : Option A) (x : A) → (if t then o else None) ≡ Some x → o ≡ Some x
 if_kept true o x e = e
 if_kept false o x e = cc
 
-if_left : {A : Type 0} (t : Bool) (o : Option A) (x : A) → (if t then None else o) ≡ Some x → o ≡ Some x
+pub if_left : {A : Type 0} (t : Bool) (o : Option A) (x : A) → (if t then None else o) ≡ Some x → o ≡ Some x
 if_left true o x e = cc
 if_left false o x e = e
 
-kept_ok : {A : Type 0} (text : A → List ℕ) (line : List ℕ) (o : Option A) (x : A) → kept text line o ≡ Some x → (o ≡ Some x) × (line ≡ text x)
+pub kept_ok : {A : Type 0} (text : A → List ℕ) (line : List ℕ) (o : Option A) (x : A) → kept text line o ≡ Some x → (o ≡ Some x) × (line ≡ text x)
 kept_ok text line None x e = cc
 kept_ok text line (Some a) x e =
     let parts = if_some (is_text line (text a)) a x e in
     (ap Some parts.1, same_text line (text a) parts.0 ∙ ap text parts.1)
 
-fixed_ok : (text line : List ℕ) (x : Bool) → fixed_of text line ≡ Some x → line ≡ text
+pub fixed_ok : (text line : List ℕ) (x : Bool) → fixed_of text line ≡ Some x → line ≡ text
 unfolding fixed_of
 fixed_ok text line x e = same_text line text (if_some (is_text line text) true x e).0
 
@@ -91,7 +91,7 @@ winner_cases line winner true b s t e = same_text line (winner_line White) s ∙
 winner_cases line winner false true s t e = same_text line (winner_line Black) t ∙ ap winner_line (let one : Black ≡ winner = cc in one)
 winner_cases line winner false false s t e = cc
 
-winner_ok : (line : List ℕ) (winner : Color) → winner_of line ≡ Some winner → line ≡ winner_line winner
+pub winner_ok : (line : List ℕ) (winner : Color) → winner_of line ≡ Some winner → line ≡ winner_line winner
 unfolding winner_of
 winner_ok line winner e = winner_cases line winner (is_text line (winner_line White)) (is_text line (winner_line Black)) refl refl e
 
@@ -103,14 +103,14 @@ small_ok n m e =
     let high : n < 4294967296 = (let t = both.1 in grind (arith, nat_tests)) in
     (omega (arith, low, parts.1), omega (arith, high, parts.1))
 
-count_ok : (line : List ℕ) (n : ℕ) → count_of line ≡ Some n → (line ≡ count_line n) × (0 < n) × (n < 4294967296)
+pub count_ok : (line : List ℕ) (n : ℕ) → count_of line ≡ Some n → (line ≡ count_line n) × (0 < n) × (n < 4294967296)
 unfolding count_of
 count_ok line n e =
     let parts = kept_ok count_line line (small_count (value_of 10 (drop 6 line))) n (if_kept (is_from 7 16 (length line)) _ n e) in
     let small = small_ok (value_of 10 (drop 6 line)) n parts.0 in
     (parts.1, small.0, small.1)
 
-loose_ok : (line : List ℕ) (set : List Bool) → loose_of line ≡ Some set → line ≡ loose_line set
+pub loose_ok : (line : List ℕ) (set : List Bool) → loose_of line ≡ Some set → line ≡ loose_line set
 unfolding loose_of
 loose_ok line set e = (kept_ok loose_line line (Some (set_of_bits (value_of 16 (drop 6 line)))) set (if_kept (length line == 22) _ set e)).1
 
@@ -122,7 +122,7 @@ row_ok : (rows : List Row) (line : List ℕ) (row : Row) → row_of rows line �
 unfolding row_of
 row_ok rows line row e = (kept_ok row_line line _ row (following_ok rows _ row (if_kept (length line == 27) _ row e))).1
 
-inner_ok : (line : List ℕ) (q : Board) → inner_of line ≡ Some q → line ≡ inner_line q
+pub inner_ok : (line : List ℕ) (q : Board) → inner_of line ≡ Some q → line ≡ inner_line q
 unfolding inner_of
 inner_ok line q e = (kept_ok inner_line line _ q (if_left (nat_lt (length line) 6) _ q e)).1
 
@@ -131,10 +131,10 @@ unfolding leaf_of
 leaf_ok line q e = (kept_ok leaf_line line _ q (if_left (nat_lt (length line) 5) _ q e)).1
 
 -- rows behind rows
-record RowsRead (rows : List Row) (lines : List (List ℕ)) (f : Found (List Row)) : Type 0 where
-  more : List Row
-  value : f.value ≡ rows ++ more
-  is : lines ≡ map row_line more ++ f.lines
+pub record RowsRead (rows : List Row) (lines : List (List ℕ)) (f : Found (List Row)) : Type 0 where
+  pub more : List Row
+  pub value : f.value ≡ rows ++ more
+  pub is : lines ≡ map row_line more ++ f.lines
 
 done_rows : (rows : List Row) (n : ℕ) (lines : List (List ℕ)) (f : Found (List Row)) → found rows n lines ≡ Ok f → RowsRead rows lines f
 done_rows rows n lines f e =
@@ -158,7 +158,7 @@ rows_none : (tail : List ℕ) (rows : List Row) (n : ℕ) (f : Found (List Row))
 rows_none tail rows n f true e = cc
 rows_none tail rows n f false e = done_rows rows n [] f e
 
-rows_ok : (tail : List ℕ) (rows : List Row) (n : ℕ) (lines : List (List ℕ)) (f : Found (List Row)) → rows_after tail rows n lines ≡ Ok f → RowsRead rows lines f
+pub rows_ok : (tail : List ℕ) (rows : List Row) (n : ℕ) (lines : List (List ℕ)) (f : Found (List Row)) → rows_after tail rows n lines ≡ Ok f → RowsRead rows lines f
 unfolding rows_after
 rows_ok tail rows n [] f e = rows_none tail rows n f (begins_reach tail) e
 rows_ok tail rows n (line ∷ lines) f e = mutual_rows tail rows n line lines f (begins_reach line) (row_of rows line) refl (λ row. rows_ok tail (rows ++ row ∷ []) (n + 1) lines f) e
@@ -221,7 +221,7 @@ record AllRead (lines : List (List ℕ)) (tail : List ℕ) (c : Certificate) : T
   pub some : 0 < length c.cert
   pub few : length c.cert < 4294967296
 
-ended_ok : (n : ℕ) (lines : List (List ℕ)) (tail : List ℕ) (value c : Certificate) → ended n lines tail value ≡ Ok c → (lines ≡ []) × (tail ≡ []) × (value ≡ c)
+pub ended_ok : (n : ℕ) (lines : List (List ℕ)) (tail : List ℕ) (value c : Certificate) → ended n lines tail value ≡ Ok c → (lines ≡ []) × (tail ≡ []) × (value ≡ c)
 ended_ok n [] [] value c e = (refl, refl, cc)
 ended_ok n [] (b ∷ bs) value c e = cc
 ended_ok n (line ∷ lines) tail value c e = cc

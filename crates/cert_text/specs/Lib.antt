@@ -4,5 +4,6 @@ pub mod Spelled
 pub mod SharedSpelled
 pub mod Lines
 pub mod Texts
+pub mod SharedTexts
 -- What only loops and lemmas use; public contracts cite IsCertText and IsWritable of it.
 pub mod Agreeing

@@ -19,7 +19,7 @@ use std::alloc::Global;
 
 /// The position of a line `inner FEN`.
 #[tactic(auto, unfolding(crate::specs::Texts::inner_of))]
-fn inner_named(alloc: Global, line: &[u8]) -> Result<Option<Position>, NoMemory>
+pub fn inner_named(alloc: Global, line: &[u8]) -> Result<Option<Position>, NoMemory>
     ensures { IfOk result (λ position. position ≡ inner_of line.now) }
 {
     if line.len() < 6 {

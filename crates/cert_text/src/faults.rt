@@ -25,6 +25,8 @@ pub enum CertKind {
     End,
     /// The allocator refused memory. The text may be right.
     NoMemory,
+    /// In version 2 the third line, `sets M` with M from 0 to 4294967295 in digits without leading zeros.
+    Sets,
 }
 
 /// Why a text is refused: the first line that does not fit its place, and what was wanted there.

@@ -1,9 +1,10 @@
 //! The text of a certificate, version 1: written, and read so that one certificate has one text; and the text of a shared
-//! certificate, version 2, written (this project).
+//! certificate, version 2, written and read (this project).
 //!
 //! `faults` says why a text is refused, `digits` has numbers as digits, `spelled` and `shared_spelled` write, `rest` and
 //! `lines` cut a text into lines,
-//! `heads` reads the first three lines, `leaves` a leaf's lines, `bodies` the nodes, and `reader` the whole.
+//! `heads` reads the first three lines, `leaves` a leaf's lines, `bodies` the nodes, and `reader` the whole;
+//! `shared_bodies` and `shared_reader` do so for version 2.
 #![tactic(auto)]
 
 mod bodies;
@@ -14,6 +15,8 @@ mod leaves;
 mod lines;
 mod reader;
 mod rest;
+mod shared_bodies;
+mod shared_reader;
 mod shared_spelled;
 mod spelled;
 #[cfg(test)]
@@ -21,5 +24,6 @@ mod tests;
 
 pub use faults::{CertFault, CertKind};
 pub use reader::{Certificate, read};
+pub use shared_reader::{SharedCertificate, read2};
 pub use shared_spelled::write2;
 pub use spelled::write;

@@ -1,7 +1,7 @@
 //! Certificate texts: of a queen that is lost at once, of two kings, and texts that do not fit, each with its first line
 //! that does not.
 
-use crate::{CertFault, CertKind, read, write, write2};
+use crate::{CertFault, CertKind, read, read2, write, write2};
 use cha_board::Color;
 use cha_cert::{Part, share};
 use cha_list::{Text, text_of};
@@ -54,6 +54,21 @@ fn a_shared_certificate_has_its_sets_first(rt: HostRuntime) -> Result<(), Fail> 
     let shared = share(rt.alloc(), &found.cert)?;
     let text = write2(rt.alloc(), Color::White, &shared)?;
     assert!(rt; text.items() == SHARED_KINGS.as_bytes());
+    let again = read2(rt.alloc(), text.items())?;
+    assert!(rt; again.cert.sets().len() == 1);
+    assert!(rt; again.cert.nodes().len() == 1);
+    for (old, new, line, kind) in [
+        ("cha-cert 2", "cha-cert 1", 1, CertKind::Header),
+        ("sets 1", "sets 01", 3, CertKind::Sets),
+        ("sets 1", "sets 2", 7, CertKind::Loose),
+        ("leaf 0", "leaf 1", 8, CertKind::Node),
+    ] {
+        let text = changed(rt.alloc(), SHARED_KINGS, old, new)?;
+        match read2(rt.alloc(), text.items()) {
+            Ok(_found) => assert!(rt; false, "{old}"),
+            Err(fault) => assert_eq!(rt; fault, CertFault { line, kind }, "{new}"),
+        }
+    }
     Ok(())
 }
 

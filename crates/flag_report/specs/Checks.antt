@@ -4,7 +4,7 @@ use Rattle.cha_board.specs.declared.men.Color.{Color}
 use Rattle.cha_board.specs.declared.men.Color.TheVariants.{White, Black}
 use Rattle.cert_text.specs.declared.faults.CertFault.{CertFault}
 use Rattle.cert_text.specs.declared.faults.CertKind.{CertKind}
-use Rattle.cert_text.specs.declared.faults.CertKind.TheVariants.{Header, Winner, Count, Node, Loose, Reach, End, NoMemory}
+use Rattle.cert_text.specs.declared.faults.CertKind.TheVariants.{Header, Winner, Count, Node, Loose, Reach, End, NoMemory, Sets}
 use Rattle.flag_report.specs.Blocks.{line, count_text}
 
 -- the certificate is valid: this side cannot mate
@@ -22,6 +22,7 @@ kind_text Loose = codes "loose"
 kind_text Reach = codes "reach"
 kind_text End = codes "end"
 kind_text NoMemory = []
+kind_text Sets = codes "sets"
 
 -- the text is no certificate: the number of the first line that does not fit, from 1, and what was wanted there
 unfoldable pub misfit_text : CertFault → List ℕ

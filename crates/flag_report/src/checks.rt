@@ -38,6 +38,7 @@ fn put_kind(kind: CertKind, text: &mut Text) -> Result<(), NoMemory>
         CertKind::Reach => text.append(b"reach"),
         CertKind::End => text.append(b"end"),
         CertKind::NoMemory => unreachable!(),
+        CertKind::Sets => text.append(b"sets"),
     }
 }
 

@@ -1,0 +1,28 @@
+use Rattle.std.proofs.Common.{rules, ◌∙◌, sym, ap, drop, Err, arith, length-drop}
+use Rattle.std.proofs.lemmas.List.{drop_all}
+use Rattle.cert_text.proofs.Going.{ended_here, not_ended}
+use Rattle.cert_text.proofs.SharedParts.{shared_parts_read}
+use Rattle.cert_text.proofs.SharedSpelling.{shared_is_spelled, some_shared, few_shared, few_sets_shared}
+use Rattle.cert_text.proofs.shared_reader.read2.Goals as goal
+
+pub returns-then-left-bytes-clause-value : goal.returns-then-left-bytes-clause-value
+returns-then-left-bytes-clause-value c =
+    shared_parts_read c.args.bytes.now _ _ _ _ _ _ _ _ _ _ _ _ _ _ _ _ _ _ _ _ _ _ c.in_ok-left.ensures.said c.in_ok-winner.ensures.said c.in_ok-sets.ensures.said (c.in_ok-sets.ensures.tail ∙ c.in_ok-winner.ensures.tail ∙ c.in_ok-left.ensures.tail) c.in_ok-shared.ensures.said c.in_ok-count.ensures.said c.in_ok-cert.ensures.said c.in_ok-left-2.ensures.said c.in_ok-cert.ensures.sets
+    (ended_here (drop c.in_ok-left-2.left.at c.args.bytes.now) c.args.bytes.now c.in_ok-left-2.left.number _ (drop_all c.in_ok-left-2.left.at c.args.bytes.now (omega arith)) (c.in_ok-left-2.ensures.tail ∙ c.in_ok-cert.ensures.tail ∙ c.in_ok-count.ensures.tail ∙ c.in_ok-shared.ensures.tail ∙ c.in_ok-sets.ensures.tail ∙ c.in_ok-winner.ensures.tail ∙ c.in_ok-left.ensures.tail))
+
+pub returns-else-left-bytes-clause-fault : goal.returns-else-left-bytes-clause-fault
+returns-else-left-bytes-clause-fault c kind =
+    shared_parts_read c.args.bytes.now _ _ _ _ _ _ _ _ _ _ _ _ _ _ _ _ _ _ _ _ _ _ c.in_ok-left.ensures.said c.in_ok-winner.ensures.said c.in_ok-sets.ensures.said (c.in_ok-sets.ensures.tail ∙ c.in_ok-winner.ensures.tail ∙ c.in_ok-left.ensures.tail) c.in_ok-shared.ensures.said c.in_ok-count.ensures.said c.in_ok-cert.ensures.said c.in_ok-left-2.ensures.said c.in_ok-cert.ensures.sets
+    (not_ended (drop c.in_ok-left-2.left.at c.args.bytes.now) c.args.bytes.now c.in_ok-left-2.left.number _ (let inside = c.in_ok-left-2.ensures.inside in let other = c.if-left-bytes.false in omega (arith, length-drop c.in_ok-left-2.left.at c.args.bytes.now, inside, other)) (c.in_ok-left-2.ensures.tail ∙ c.in_ok-cert.ensures.tail ∙ c.in_ok-count.ensures.tail ∙ c.in_ok-shared.ensures.tail ∙ c.in_ok-sets.ensures.tail ∙ c.in_ok-winner.ensures.tail ∙ c.in_ok-left.ensures.tail) ∙ ap Err (sym c.misfit.ensures))
+
+pub returns-then-left-bytes-clause-spelled : goal.returns-then-left-bytes-clause-spelled
+returns-then-left-bytes-clause-spelled c = shared_is_spelled c.args.bytes.now _ (returns-then-left-bytes-clause-value c)
+
+pub returns-then-left-bytes-clause-some : goal.returns-then-left-bytes-clause-some
+returns-then-left-bytes-clause-some c = some_shared c.args.bytes.now _ (returns-then-left-bytes-clause-value c)
+
+pub returns-then-left-bytes-clause-few : goal.returns-then-left-bytes-clause-few
+returns-then-left-bytes-clause-few c = few_shared c.args.bytes.now _ (returns-then-left-bytes-clause-value c)
+
+pub returns-then-left-bytes-clause-few_sets : goal.returns-then-left-bytes-clause-few_sets
+returns-then-left-bytes-clause-few_sets c = few_sets_shared c.args.bytes.now _ (returns-then-left-bytes-clause-value c)

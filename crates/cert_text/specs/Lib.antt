@@ -5,5 +5,6 @@ pub mod SharedSpelled
 pub mod Lines
 pub mod Texts
 pub mod SharedTexts
+pub mod Versions
 -- What only loops and lemmas use; public contracts cite IsCertText and IsWritable of it.
 pub mod Agreeing

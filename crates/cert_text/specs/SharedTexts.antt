@@ -1,5 +1,5 @@
 -- What a text of version 2 says, or the first line of it that does not fit its place (this project).
-use Rattle.std.specs.Prelude.{ℕ, zero, suc, ◌+◌, Bool, ◌||◌, ◌&&◌, if◌then◌else◌, nat_lt, List, [], ◌∷◌, ◌++◌, length, drop, take, Option, Some, None, Result, Ok, Err}
+use Rattle.std.specs.Prelude.{ℕ, zero, suc, ◌+◌, ◌||◌, if◌then◌else◌, nat_lt, List, [], ◌∷◌, ◌++◌, length, drop, take, Option, Some, None, Result}
 use Rattle.std.specs.List.{prefix_len}
 use Rattle.cha_list.specs.Bytes.{is_from, in_class}
 use Rattle.cha_list.specs.declared.classes.Class.TheVariants.{NotBlank}

@@ -4,7 +4,7 @@
 //! `faults` says why a text is refused, `digits` has numbers as digits, `spelled` and `shared_spelled` write, `rest` and
 //! `lines` cut a text into lines,
 //! `heads` reads the first three lines, `leaves` a leaf's lines, `bodies` the nodes, and `reader` the whole;
-//! `shared_bodies` and `shared_reader` do so for version 2.
+//! `shared_bodies` and `shared_reader` do so for version 2, and `versions` tells them apart and leads from the first to the second.
 #![tactic(auto)]
 
 mod bodies;
@@ -21,9 +21,11 @@ mod shared_spelled;
 mod spelled;
 #[cfg(test)]
 mod tests;
+mod versions;
 
 pub use faults::{CertFault, CertKind};
 pub use reader::{Certificate, read};
 pub use shared_reader::{SharedCertificate, read2};
 pub use shared_spelled::write2;
 pub use spelled::write;
+pub use versions::{migrate, read_any};

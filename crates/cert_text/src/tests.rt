@@ -1,9 +1,9 @@
 //! Certificate texts: of a queen that is lost at once, of two kings, and texts that do not fit, each with its first line
 //! that does not.
 
-use crate::{CertFault, CertKind, read, read2, write, write2};
+use crate::{CertFault, CertKind, migrate, read, read_any, read2, write, write2};
 use cha_board::Color;
-use cha_cert::{Part, share};
+use cha_cert::{Checked, Part, check_shared, share};
 use cha_list::{Text, text_of};
 use std::alloc::Global;
 use std::test::Fail;
@@ -69,6 +69,20 @@ fn a_shared_certificate_has_its_sets_first(rt: HostRuntime) -> Result<(), Fail> 
             Err(fault) => assert_eq!(rt; fault, CertFault { line, kind }, "{new}"),
         }
     }
+    Ok(())
+}
+
+#[test]
+fn a_text_of_the_first_version_is_migrated_and_accepted(rt: HostRuntime) -> Result<(), Fail> {
+    let alloc = rt.alloc();
+    let kings = changed(alloc, KINGS, "winner b", "winner w")?;
+    assert!(rt; migrate(alloc, kings.items())?.items() == SHARED_KINGS.as_bytes());
+    assert!(rt; migrate(alloc, SHARED_KINGS.as_bytes())?.items() == SHARED_KINGS.as_bytes());
+    let text = migrate(alloc, LOST.as_bytes())?;
+    let found = read_any(alloc, text.items())?;
+    let position = found.cert.nodes()[0].position;
+    let checked = check_shared(alloc, &position, found.winner, &found.cert)?;
+    assert!(rt; checked == Checked::Accepted);
     Ok(())
 }
 

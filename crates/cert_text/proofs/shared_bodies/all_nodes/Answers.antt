@@ -1,5 +1,5 @@
 use Rattle.std.proofs.lemmas.Grind.{common_steps}
-use Rattle.std.proofs.Common.{◌≡◌, rules, List, [], ◌∷◌, ◌++◌, ◌-◌, ◌+◌, drop, ◌∙◌, sym, ap, subst, arith}
+use Rattle.std.proofs.Common.{rules, ◌-◌, ◌+◌, drop, ◌∙◌, sym, ap, subst, arith}
 use Rattle.cert_text.specs.declared.faults.CertKind.TheVariants.{Node}
 use Rattle.cert_text.specs.Lines.{lines_of}
 use Rattle.cert_text.specs.Texts.{wanted}

@@ -1,5 +1,5 @@
 use Rattle.std.proofs.lemmas.Grind.{common_steps}
-use Rattle.std.proofs.Common.{◌≡◌, rules, List, [], ◌∷◌, ◌++◌, ◌-◌, ◌+◌, drop, length, ◌∙◌, sym, ap, subst, arith}
+use Rattle.std.proofs.Common.{◌≡◌, rules, [], ◌∷◌, ◌++◌, ◌-◌, ◌+◌, drop, length, ◌∙◌, sym, ap, subst, arith}
 use Rattle.std.proofs.lemmas.List.{length-append}
 use Rattle.cert_text.specs.Lines.{lines_of, tail_of}
 use Rattle.cert_text.specs.Texts.{and_then, found}

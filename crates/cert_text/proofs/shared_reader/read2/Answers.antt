@@ -1,4 +1,4 @@
-use Rattle.std.proofs.Common.{rules, ◌∙◌, sym, ap, drop, Err, arith, length-drop}
+use Rattle.std.proofs.Common.{◌∙◌, sym, ap, drop, Err, arith, length-drop}
 use Rattle.std.proofs.lemmas.List.{drop_all}
 use Rattle.cert_text.proofs.Going.{ended_here, not_ended}
 use Rattle.cert_text.proofs.SharedParts.{shared_parts_read}

@@ -72,11 +72,12 @@ parts word =
     let to_letter = before (is_some (file_at to_file)) to_file in
     parts_if (kind_at to_letter) (file_at to_file) (rank_at to_rank) (square_at to_target) (promotion_at word)
 
--- a sign that may stand behind a move: + # ! or ?
+-- a sign that may stand behind a move: the plus sign, the number sign, the exclamation mark or the question mark
 unfoldable pub is_sign : ℕ → Bool
 is_sign b = (b == 43) || (b == 35) || (b == 33) || (b == 63)
 
--- a word without the signs + # ! ? at its end (PGN standard, 8.2.3.5 and 8.2.3.8), which are not checked (this project)
+-- a word without the plus, number, exclamation and question marks at its end (PGN standard, 8.2.3.5 and 8.2.3.8),
+-- which are not checked (this project)
 unfoldable pub stem : List ℕ → List ℕ
 stem word = take (length word - suffix_len is_sign word) word
 

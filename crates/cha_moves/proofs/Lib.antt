@@ -21,6 +21,7 @@ pub mod GoingLegally
 pub mod SafeCastling
 pub mod Mated
 pub mod MateLines
+pub mod StayingDead
 pub mod Captured
 pub mod MateMoves
 pub mod Checking

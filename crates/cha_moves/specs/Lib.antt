@@ -5,6 +5,7 @@ pub mod Ends
 pub mod Standings
 pub mod MateLines
 pub mod Lines
+pub mod Dead
 pub mod Texts
 -- what only loops and lemmas use
 pub mod Ways

@@ -1,3 +1,4 @@
 pub mod Leaves
 pub mod Both
 pub mod Asking
+pub mod Backwards

@@ -1,14 +1,19 @@
-//! What is found about both sides of a position.
+//! What is found about both sides of a position, and from where on a game was dead.
 //!
 //! `deciding` has how the verdicts on both sides are found, `sides` the verdict on one side, `showing` the certificates that a
-//! side cannot mate, and `searching` the searches for a mate, one after the other.
+//! side cannot mate, `searching` the searches for a mate, one after the other, and `scanning` the way back through a game to
+//! the earliest position that is shown dead.
 #![tactic(auto)]
 
 mod deciding;
+mod scanning;
 mod searching;
 mod showing;
 mod sides;
 mod table_deciding;
+mod table_scanning;
 
 pub use deciding::decide_by;
+pub use scanning::scan_by;
 pub use table_deciding::decide;
+pub use table_scanning::scan_back;

@@ -1,6 +1,13 @@
 pub mod Examples
+pub mod Fed
+pub mod Feeding
+pub mod Following
 pub mod InOrder
 pub mod Keeping
+pub mod Kept
 pub mod KeptWords
 pub mod Passing
+pub mod Runs
 pub mod TagParts
+pub mod TagRests
+pub mod TagSteps

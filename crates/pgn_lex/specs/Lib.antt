@@ -1,7 +1,12 @@
 -- what public contracts say
 pub mod Classes
+pub mod Lexing
 pub mod Pieces
 pub mod Tags
 pub mod Tokens
 -- what only loops and lemmas use
+pub mod Left
+pub mod Stages
+pub mod TagStages
+pub mod Told
 pub mod Values

@@ -1,5 +1,5 @@
 -- The tokens of a text of games.
-use Rattle.std.specs.Prelude.{ℕ, zero, suc, ◌+◌, ◌==◌, Bool, true, false, not, ◌&&◌, if◌then◌else◌, List, [], ◌∷◌, ◌++◌, drop, Option, Some, None}
+use Rattle.std.specs.Prelude.{ℕ, zero, suc, ◌+◌, ◌==◌, Bool, true, false, not, ◌&&◌, if◌then◌else◌, List, [], ◌∷◌, ◌++◌, drop, Option, Some, None, length, nat_lt}
 use Rattle.cha_list.specs.declared.classes.Class.TheVariants.{InLine}
 use Rattle.cha_list.specs.Bytes.{in_class}
 use Rattle.pgn_lex.specs.declared.classes.PgnClass.TheVariants.{WordByte}
@@ -49,3 +49,24 @@ has_mark _ = false
 -- the tokens of a whole text
 unfoldable pub tokens : List ℕ → List Placed
 tokens bytes = if has_mark bytes then tokens_after 0 3 true (drop 3 bytes) else tokens_after 0 0 true bytes
+
+-- The tokens of bytes that begin at a place of the input, but for that of a piece which reaches their end: so far it may yet
+-- turn out another token, or be longer. So many bytes are passed first, as above.
+unfoldable pub settled_after : ℕ → ℕ → Bool → List ℕ → List Placed
+settled_after pass at first [] = []
+settled_after (suc pass) at first (b ∷ bs) = settled_after pass (at + 1) (not (in_class InLine b)) bs
+settled_after zero at first (b ∷ bs) =
+    (if nat_lt (piece first b bs).more (length bs) then placed at (piece first b bs).token else [])
+    ++ settled_after (piece first b bs).more (at + 1) (not (in_class InLine b)) bs
+
+-- two bytes of the mark EF BB BF, whose third may yet come
+unfoldable pub has_half_mark : List ℕ → Bool
+has_half_mark (a ∷ b ∷ []) = (a == 239) && (b == 187)
+has_half_mark _ = false
+
+-- The tokens that are settled in a text: a byte follows the piece of each, so whatever bytes follow the text, they are the
+-- first tokens of the whole.
+unfoldable pub settled_tokens : List ℕ → List Placed
+settled_tokens bytes =
+    if has_half_mark bytes then []
+    else (if has_mark bytes then settled_after 0 3 true (drop 3 bytes) else settled_after 0 0 true bytes)

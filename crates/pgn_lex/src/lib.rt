@@ -3,15 +3,23 @@
 //! `classes` has the bytes that PGN names, `kinds` the tokens, `reading` goes from piece to piece, `rules` is the table of what begins a piece, and
 //! `comments`, `words`, `tags` and `tag_values` have one function for each rule; `pieces` has what these give, and `order`
 //! the law of the places of tokens.
+//!
+//! `machine` is the lexer that takes single bytes, over `stages`, what each byte does, and `saying`, the tokens of pieces that
+//! ended; `history` tells contracts what was fed, and `settling` has the law of the tokens that are known before the rest.
 #![tactic(auto)]
 
 mod classes;
 mod comments;
+mod history;
 mod kinds;
+mod machine;
 mod order;
 mod pieces;
 mod reading;
 mod rules;
+mod saying;
+mod settling;
+mod stages;
 mod tag_values;
 mod tags;
 #[cfg(test)]
@@ -19,5 +27,7 @@ mod tests;
 mod words;
 
 pub use kinds::{Placed, Token};
+pub use machine::Lexer;
 pub use order::tokens_stand_in_order;
 pub use reading::tokens_of;
+pub use settling::settled_tokens_are_the_first;

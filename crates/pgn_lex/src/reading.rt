@@ -1,6 +1,6 @@
 //! From piece to piece through a whole text.
 
-ghost use Rattle.std.specs.Prelude.{◌≡◌, ◌≤◌, ◌++◌, OnOk, IfOk, length};
+ghost use Rattle.std.specs.Prelude.{◌≡◌, ◌≤◌, ◌++◌, OnOk, OnErr, IfOk, length};
 ghost use Rattle.std.specs.Bool.{OnTrue};
 ghost use Rattle.pgn_lex.specs.Tokens.{placed, has_mark, tokens};
 
@@ -22,8 +22,9 @@ fn marked(bytes: &[u8]) -> bool
 }
 
 /// Adds the token of a piece, if it has one.
-fn place(token: Option<Token>, offset: u64, out: &mut Vec<Placed>) -> Result<(), NoMemory>
-    ensures { OnOk result (out.new.items ≡ out.old.items ++ placed offset token) }
+pub fn place(token: Option<Token>, offset: u64, out: &mut Vec<Placed>) -> Result<(), NoMemory>
+    ensures ok { OnOk result (out.new.items ≡ out.old.items ++ placed offset token) }
+    ensures err { OnErr result (out.new.items ≡ out.old.items) }
 {
     match token {
         None => Ok(()),

@@ -15,7 +15,7 @@ use std::alloc::Global;
 
 /// Whether a byte is white space or a period.
 #[tactic(auto, unfolding(crate::specs::Pieces::is_white))]
-fn white(byte: u8) -> bool
+pub fn white(byte: u8) -> bool
     ensures { result ≡ is_white byte }
 {
     (9 <= byte && byte <= 13) || byte == b' ' || byte == b'.'

@@ -1,16 +1,25 @@
 //! Texts and their tokens, by the PGN standard and by the habits of real files.
 
-use crate::{Placed, Token, tokens_of};
+use crate::{Lexer, Placed, Token, tokens_of};
 use std::alloc::Global;
 use std::process::Abort;
 use std::test::Fail;
 
-/// The tokens of a text, each with its offset, as `[White=Carlsen]@0 e4@20 (@23 BadTag@30`. A value that was cut has
-/// `+` behind it.
-fn shown(alloc: Global, bytes: &[u8]) -> Result<Vec<u8>, Fail> {
-    let found = tokens_of(alloc, bytes)?;
+/// The tokens of a text that is fed byte by byte.
+fn lexed(alloc: Global, bytes: &[u8]) -> Result<Vec<Placed>, Fail> {
+    let mut found = Vec::new(alloc);
+    let mut lexer = Lexer::new(alloc)?;
+    for byte in bytes {
+        lexer.feed(*byte, &mut found)?;
+    }
+    lexer.end(&mut found)?;
+    Ok(found)
+}
+
+/// Tokens, each with its offset, as `[White=Carlsen]@0 e4@20 (@23 BadTag@30`. A value that was cut has `+` behind it.
+fn shown(alloc: Global, found: &[Placed]) -> Result<Vec<u8>, Fail> {
     let mut text = Vec::new(alloc);
-    for placed in found.as_slice() {
+    for placed in found {
         show(alloc, placed, &mut text)?;
     }
     Ok(text)
@@ -51,10 +60,12 @@ fn named(token: &Token) -> &'static [u8] {
     }
 }
 
-/// Asserts the tokens of a text.
+/// Asserts the tokens of a text, taken whole and byte by byte.
 fn has_tokens(rt: &impl Abort, alloc: Global, text: &[u8], want: &[u8]) -> Result<(), Fail> {
-    let found = shown(alloc, text)?;
-    assert_eq!(rt; found.as_slice(), want, "{text:?}");
+    let whole = shown(alloc, tokens_of(alloc, text)?.as_slice())?;
+    assert_eq!(rt; whole.as_slice(), want, "{text:?}");
+    let fed = shown(alloc, lexed(alloc, text)?.as_slice())?;
+    assert_eq!(rt; fed.as_slice(), want, "{text:?}");
     Ok(())
 }
 

@@ -6,7 +6,7 @@ pub loop-at-preserved : goal.loop-at-preserved
 loop-at-preserved c = record {
   inside = next_inside c.args.bytes.now _ c.loop-at.at c.in_ok-piece.piece.more c.loop-at-test.true c.split_at.ensures.back c.in_ok-piece.ensures.bound;
   tokens = next_piece c.args.bytes.now _ c.loop-at.at _ _ c.loop-at.first _ c.in_ok-piece.piece c.loop-at.out.items _ _ c.loop-at-test.true c.split_at.ensures.back
-      c.in_ok-piece.ensures.value c.in_ok-piece.ensures.bound refl refl (ap not c.is_of-first.ensures) c.in_ok-place.ensures c.loop-at.invariant.tokens;
+      c.in_ok-piece.ensures.value c.in_ok-piece.ensures.bound refl refl (ap not c.is_of-first.ensures) c.in_ok-place.ensures.ok c.loop-at.invariant.tokens;
 }
 
 pub returns : goal.returns

@@ -1,0 +1,46 @@
+-- What is kept of a word and of a value.
+use Rattle.std.proofs.Common.{◌≡◌, ℕ, zero, suc, ◌+◌, ◌<◌, ◌≤◌, min, ◌==◌, ◌||◌, false, nat_lt, List, [], ◌∷◌, ◌++◌, length, take, refl, sym, ap, ◌∙◌, arith, length-append}
+use Rattle.std.proofs.lemmas.List.{take_min, take_all, take-append-le, length-take}
+use Rattle.std.proofs.lemmas.Bool.Decides.{nat_tests}
+use Rattle.pgn_lex.specs.declared.kinds.Token.TheVariants.{Tag}
+
+pub few_kept : (k size : ℕ) (value kept : List ℕ) → size ≡ length value → k ≡ min size 4096 → kept ≡ take k value → kept ≡ take 4096 value
+few_kept k size value kept e f g =
+    let k' : k ≡ min 4096 (length value) = omega arith in
+    g ∙ ap (λ x. take x value) k' ∙ take_min 4096 value
+
+take_fewer : (value : List ℕ) → take 4096 (take 4097 value) ≡ take 4096 value
+take_fewer value = take_take 4096 4097 value (omega arith)
+  where
+    take_take : (n m : ℕ) (xs : List ℕ) → n ≤ m → take n (take m xs) ≡ take n xs
+    take_take zero m xs le = refl
+    take_take (suc n) zero xs le = absurd (omega arith)
+    take_take (suc n) (suc m) [] le = refl
+    take_take (suc n) (suc m) (x ∷ xs) le = ap (λ ys. x ∷ ys) (take_take n m xs (omega arith))
+
+longer : (n m : ℕ) → n ≡ min 4097 m → nat_lt 4096 n ≡ nat_lt 4096 m
+longer n m e = grind (arith, nat_tests)
+
+pub tag_kept : (name value w v : List ℕ) → name ≡ take 255 w → value ≡ take 4097 v
+    → Tag name (take 4096 value) (nat_lt 4096 (length value)) ≡ Tag (take 255 w) (take 4096 v) (nat_lt 4096 (length v))
+tag_kept name value w v e f =
+    let size : length value ≡ min 4097 (length v) = ap length f ∙ length-take 4097 v in
+    let text : take 4096 value ≡ take 4096 v = ap (take 4096) f ∙ take_fewer v in
+    rw (e, text, longer (length value) (length v) size) refl
+
+-- one byte more
+pub keeps_byte : (most : ℕ) (kept full : List ℕ) (b : ℕ) → kept ≡ take most full → length kept < most → kept ++ b ∷ [] ≡ take most (full ++ b ∷ [])
+keeps_byte most kept full b e few =
+    let size : length kept ≡ min most (length full) = ap length e ∙ length-take most full in
+    let all : kept ≡ full = e ∙ take_all most full (omega arith) in
+    let count : length (full ++ b ∷ []) ≡ length full + 1 = length-append full (b ∷ []) in
+    ap (λ xs. xs ++ b ∷ []) all ∙ sym (take_all most (full ++ b ∷ []) (omega arith))
+
+pub keeps_no_byte : (most : ℕ) (kept full : List ℕ) (b : ℕ) → kept ≡ take most full → most ≤ length kept → kept ≡ take most (full ++ b ∷ [])
+keeps_no_byte most kept full b e many =
+    let size : length kept ≡ min most (length full) = ap length e ∙ length-take most full in
+    e ∙ sym (take-append-le most full (b ∷ []) (omega arith))
+
+-- a byte that is no quote and no backslash
+pub other_byte : (b : ℕ) → (b ≡ 34 → ⊥) → (b ≡ 92 → ⊥) → ((b == 34) || (b == 92)) ≡ false
+other_byte b e f = grind (arith, nat_tests)

@@ -1,0 +1,108 @@
+//! The tokens of pieces that ended.
+
+ghost use Rattle.std.specs.Prelude.{◌≡◌, ◌++◌, List, ℕ, OnOk, OnErr, IfOk, length, take, nat_lt};
+ghost use Rattle.pgn_lex.specs.declared.kinds.Token.TheVariants.{Tag};
+ghost use Rattle.pgn_lex.specs.Stages.{bad_placed, token_at, tokens_at};
+
+use crate::kinds::{Placed, Token};
+use crate::reading::place;
+use crate::stages::Stage;
+use crate::words::word_said;
+use cha_list::{NoMemory, text_of};
+use std::alloc::Global;
+
+/// How many bytes of a value are kept.
+const KEPT: usize = 4096;
+
+/// The token of a tag pair, from its name and its value, of which one byte more than is kept may be there.
+fn tag_said(alloc: Global, name: &[u8], value: &[u8]) -> Result<Token, NoMemory>
+    ensures { IfOk result (λ token. token ≡ Tag name.now (take 4096 value.now) (nat_lt 4096 (length value.now))) }
+{
+    let (kept, _) = value.split_at(value.len().min(KEPT));
+    let name = text_of(alloc, name)?;
+    let text = text_of(alloc, kept)?;
+    Ok(Token::Tag {
+        name,
+        value: text,
+        cut: value.len() > KEPT,
+    })
+}
+
+/// The token of a piece that ended, from what is kept of its word or name and of its value.
+#[tactic(auto, unfolding(crate::specs::Stages::token_at))]
+fn said(alloc: Global, stage: Stage, word: &[u8], value: &[u8]) -> Result<Option<Token>, NoMemory>
+    ensures { IfOk result (λ token. (w v : List ℕ) → word.now ≡ take 255 w → value.now ≡ take 4097 v → token ≡ token_at stage w v) }
+{
+    match stage {
+        Stage::InComment => Ok(Some(Token::Unclosed)),
+        Stage::AfterDollar => Ok(Some(Token::Bad)),
+        Stage::InWord => {
+            let text = text_of(alloc, word)?;
+            Ok(word_said(text))
+        }
+        Stage::InTag => Ok(Some(Token::BadTag)),
+        Stage::InName => Ok(Some(Token::BadTag)),
+        Stage::AfterName => Ok(Some(Token::BadTag)),
+        Stage::InValue => Ok(Some(Token::BadTag)),
+        Stage::AfterBackslash => Ok(Some(Token::BadTag)),
+        Stage::AfterValue => Ok(Some(Token::BadTag)),
+        Stage::TagRead => {
+            let token = tag_said(alloc, word, value)?;
+            Ok(Some(token))
+        }
+        Stage::Spoilt => Ok(Some(Token::BadTag)),
+        Stage::StarRead => Ok(Some(Token::Star)),
+        Stage::EnterRead => Ok(Some(Token::Enter)),
+        Stage::LeaveRead => Ok(Some(Token::Leave)),
+        Stage::BadRead => Ok(Some(Token::Bad)),
+        _ => Ok(None),
+    }
+}
+
+/// A byte that begins nothing, at a place.
+fn bad_at(offset: u64) -> Placed
+    ensures { result ≡ record { token = Token.Bad; offset = offset } }
+{
+    Placed {
+        token: Token::Bad,
+        offset,
+    }
+}
+
+/// Adds the tokens of two bytes at the front that begin nothing.
+fn place_two(out: &mut Vec<Placed>) -> Result<(), NoMemory>
+    ensures ok { OnOk result (out.new.items ≡ out.old.items ++ (bad_placed 0 ++ bad_placed 1)) }
+    ensures err { OnErr result (out.new.items ≡ out.old.items) }
+{
+    out.try_reserve(2)?;
+    let Ok(()) = out.push(bad_at(0)) else {
+        unreachable!()
+    };
+    let Ok(()) = out.push(bad_at(1)) else {
+        unreachable!()
+    };
+    Ok(())
+}
+
+/// Adds the tokens of pieces that ended, the last of which began at a place. On a refusal none is added.
+#[tactic(auto, unfolding(crate::specs::Stages::tokens_at))]
+pub fn say(
+    alloc: Global,
+    stage: Stage,
+    start: u64,
+    word: &[u8],
+    value: &[u8],
+    out: &mut Vec<Placed>,
+) -> Result<(), NoMemory>
+    ensures ok { OnOk result ((w v : List ℕ) → word.now ≡ take 255 w → value.now ≡ take 4097 v → out.new.items ≡ out.old.items ++ tokens_at stage start w v) }
+    ensures err { OnErr result (out.new.items ≡ out.old.items) }
+{
+    match stage {
+        Stage::MarkBegun => place(Some(Token::Bad), 0, out),
+        Stage::MarkGrown => place_two(out),
+        _ => {
+            let token = said(alloc, stage, word, value)?;
+            place(token, start, out)
+        }
+    }
+}

@@ -1,0 +1,4 @@
+pub mod Taking
+pub mod Mating
+pub mod Dealing
+pub mod Deepening

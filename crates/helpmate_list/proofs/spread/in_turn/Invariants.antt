@@ -1,0 +1,5 @@
+use Rattle.helpmate_list.proofs.Dealing.{ArePartsBelow}
+use Rattle.helpmate_list.proofs.spread.in_turn.Given as goal
+
+abbrev pub invariant-loop-number : goal.invariant-loop-number
+invariant-loop-number l = ArePartsBelow l.task l.moves l.count l.number l.parts.items

@@ -1,0 +1,12 @@
+use Rattle.std.proofs.Common.{rules}
+use Rattle.helpmate_list.specs.Parts.{AreParts}
+use Rattle.helpmate_list.proofs.threads.in_threads.Goals as goal
+
+pub returns : goal.returns
+unfolding AreParts
+returns g c = (
+  search rules,
+  (λ i d less.
+      let e = c.in_ok-parts.ensures.each i d less in
+      search rules),
+)

@@ -1,0 +1,5 @@
+-- what public contracts say
+pub mod Shortest
+-- inside the crate
+pub mod Parts
+pub mod Turns

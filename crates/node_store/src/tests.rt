@@ -13,7 +13,7 @@ use std::test::Fail;
 
 /// Adds the position after a move, unless it is there: one that waits in a list, or a leaf.
 fn add(store: &mut Store, parent: u32, by: Move, list: Option<u8>) -> Result<u32, Fail> {
-    if parent >= store.len() || store.len() > 100_000 {
+    if parent >= store.len() || store.len() > 1_000_000 {
         Err("no place")?;
     }
     let here = store.position(parent);
@@ -109,13 +109,13 @@ fn is_found_by_its_line(alloc: Global, store: &Store, name: u32) -> Result<bool,
     Ok(store.find(&position) == Some(name) && same_position(&now, &position))
 }
 
-/// Walks from the opening by legal moves at random, back to the opening after each 60 plies, until 10,000 positions are
+/// Walks from the opening by legal moves at random, back to the opening after each 60 plies, until 100,000 positions are
 /// added.
 fn walk(alloc: Global, store: &mut Store) -> Result<(), Fail> {
     let mut random: u64 = 1;
     let mut name = 0;
-    for step in 0..40_000u32 {
-        if store.len() > 10_000 {
+    for step in 0..400_000u32 {
+        if store.len() > 100_000 {
             return Ok(());
         }
         if step % 60 == 0 || name >= store.len() {
@@ -142,7 +142,7 @@ fn the_positions_of_a_walk_are_found_again_by_their_lines(rt: HostRuntime) -> Re
     let alloc = rt.alloc();
     let mut store = Store::new(alloc, &Position::start())?;
     walk(alloc, &mut store)?;
-    assert_eq!(rt; store.len(), 10_001);
+    assert_eq!(rt; store.len(), 100_001);
     for name in 0..store.len() {
         assert!(rt; is_found_by_its_line(alloc, &store, name)?);
     }

@@ -14,12 +14,21 @@ use Rattle.flag_report.specs.declared.rulings.Judgment.{Judgment}
 use Rattle.flag_report.specs.Rulings.{win_of, judged, winner_ruling_of, running_ruling_of, ruling_of, first_of, is_changed}
 
 -- a mate, whatever was recorded and found
-mated : (winner : Color) (recorded : ResultMark) (forfeit : Bool) (white black : Verdict) → ruling_of (Mate winner) recorded forfeit white black ≡ judged (win_of winner) Mate511
+mated : (winner : Color) (recorded : ResultMark) (forfeit : Bool) (white black : Verdict) (earlier : Bool) → ruling_of (Mate winner) recorded forfeit white black earlier ≡ judged (win_of winner) Mate511
 unfolding ruling_of
-mated winner recorded forfeit white black = refl
+mated winner recorded forfeit white black earlier = refl
+
+-- a game that was dead before its end, whatever was recorded and found there: played on to a stalemate, or not
+dead_before : (recorded : ResultMark) (forfeit : Bool) (white black : Verdict) → ruling_of Stalemate recorded forfeit white black true ≡ judged Draw Dead522
+unfolding ruling_of
+dead_before recorded forfeit white black = refl
+
+dead_before_running : (recorded : ResultMark) (forfeit : Bool) (white black : Verdict) → ruling_of Running recorded forfeit white black true ≡ judged Draw Dead522
+unfolding ruling_of
+dead_before_running recorded forfeit white black = refl
 
 -- a stalemate, whatever was recorded and found
-stalemated : (recorded : ResultMark) (forfeit : Bool) (white black : Verdict) → ruling_of Stalemate recorded forfeit white black ≡ judged Draw Stalemate521
+stalemated : (recorded : ResultMark) (forfeit : Bool) (white black : Verdict) → ruling_of Stalemate recorded forfeit white black false ≡ judged Draw Stalemate521
 unfolding ruling_of
 stalemated recorded forfeit white black = refl
 
@@ -27,9 +36,9 @@ stalemated recorded forfeit white black = refl
 abbrev each_verdict : List Move → List Node → ℕ → ℕ → List Verdict
 each_verdict moves cert units depth = Winnable moves ∷ Unwinnable cert ∷ Undecided units depth ∷ Skipped ∷ []
 
--- the rulings where the game goes on: a row for each verdict on White, and in it one for each verdict on Black
+-- the rulings where the game goes on, and was not dead before: a row for each verdict on White, and in it one for each verdict on Black
 abbrev rulings : ResultMark → Bool → List Verdict → List (List Judgment)
-rulings recorded forfeit verdicts = map (λ white. map (λ black. ruling_of Running recorded forfeit white black) verdicts) verdicts
+rulings recorded forfeit verdicts = map (λ white. map (λ black. ruling_of Running recorded forfeit white black false) verdicts) verdicts
 
 -- a dead position, a draw by the flag, a recorded result, and a recorded winner of whom nothing was shown
 abbrev d : Judgment

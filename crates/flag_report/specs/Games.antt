@@ -1,5 +1,5 @@
 -- The texts that are printed for games (this project).
-use Rattle.std.specs.Prelude.{ℕ, Bool, List, ◌++◌, codes}
+use Rattle.std.specs.Prelude.{ℕ, Bool, List, ◌++◌, Option, codes}
 use Rattle.cha_board.specs.Board.{Board}
 use Rattle.cha_moves.specs.declared.ends.Standing.{Standing}
 use Rattle.pgn_games.specs.declared.marks.ResultMark.{ResultMark}
@@ -10,7 +10,9 @@ use Rattle.flag_report.specs.declared.rulings.Cause.TheVariants.{Mate511, Stalem
 use Rattle.flag_report.specs.declared.rulings.Judgment.{Judgment}
 use Rattle.flag_report.specs.declared.reasons.Unreadable.{Unreadable}
 use Rattle.flag_report.specs.Reasons.{reason_text}
+use Rattle.cha_verdict.specs.declared.scans.Scan.{Scan}
 use Rattle.flag_report.specs.Blocks.{line, count_text, findings_text}
+use Rattle.flag_report.specs.Scans.{scan_part}
 
 -- a result (PGN standard, 8.2.6)
 unfoldable pub mark_text : ResultMark → List ℕ
@@ -37,10 +39,10 @@ unfoldable pub result_line : ResultMark → Judgment → List ℕ
 result_line recorded ruling =
     line (codes "result: " ++ mark_text recorded ++ codes " -> " ++ mark_text ruling.mark ++ codes " " ++ cause_text ruling.cause)
 
--- the block of a game, of its final position and the verdicts on it
-unfoldable pub game_text : ℕ → Board → Standing → ResultMark → Verdict → Verdict → Judgment → Bool → List ℕ
-game_text number q standing recorded white black ruling certs =
-    game_heading number ++ findings_text q standing white black certs ++ result_line recorded ruling
+-- the block of a game, of its final position, the verdicts on it, and from where on it was dead
+unfoldable pub game_text : ℕ → Board → Standing → ResultMark → Verdict → Verdict → Option Scan → Judgment → Bool → List ℕ
+game_text number q standing recorded white black scan ruling certs =
+    game_heading number ++ findings_text q standing white black certs ++ scan_part scan certs ++ result_line recorded ruling
 
 -- the block of a game that cannot be read
 unfoldable pub unreadable_text : ℕ → Unreadable → List ℕ

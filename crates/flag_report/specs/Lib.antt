@@ -1,6 +1,7 @@
 pub mod Rulings
 pub mod Reasons
 pub mod Blocks
+pub mod Scans
 pub mod Games
 pub mod Checks
 pub mod Totals

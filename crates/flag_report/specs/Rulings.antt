@@ -35,16 +35,17 @@ recorded_ruling_of BlackWins forfeit white black = winner_ruling_of BlackWins fo
 recorded_ruling_of Draw forfeit white black = judged Draw Recorded
 recorded_ruling_of Unknown forfeit white black = judged Unknown Recorded
 
--- where the board does not end the game: first a dead position (Laws of Chess, Article 5.2.2)
+-- where neither the board nor an earlier dead position ends the game: first a dead position (Laws of Chess, Article 5.2.2)
 unfoldable pub running_ruling_of : ResultMark → Bool → Verdict → Verdict → Judgment
 running_ruling_of recorded forfeit white black =
     if are_dead white black then judged Draw Dead522 else recorded_ruling_of recorded forfeit white black
 
--- the result of a game: mate and stalemate come first (Laws of Chess, Articles 5.1.1 and 5.2.1)
-unfoldable pub ruling_of : Standing → ResultMark → Bool → Verdict → Verdict → Judgment
-ruling_of (Mate winner) recorded forfeit white black = judged (win_of winner) Mate511
-ruling_of Stalemate recorded forfeit white black = judged Draw Stalemate521
-ruling_of Running recorded forfeit white black = running_ruling_of recorded forfeit white black
+-- the result of a game: a mate comes first (Laws of Chess, Article 5.1.1), then that it was dead before its final position, and so
+-- ended there (Article 5.2.2), then a stalemate (Article 5.2.1)
+unfoldable pub ruling_of : Standing → ResultMark → Bool → Verdict → Verdict → Bool → Judgment
+ruling_of (Mate winner) recorded forfeit white black earlier = judged (win_of winner) Mate511
+ruling_of Stalemate recorded forfeit white black earlier = judged Draw (if earlier then Dead522 else Stalemate521)
+ruling_of Running recorded forfeit white black earlier = if earlier then judged Draw Dead522 else running_ruling_of recorded forfeit white black
 
 -- the side that is examined first: the recorded winner, and White where there is none (this project)
 unfoldable pub first_of : ResultMark → Color

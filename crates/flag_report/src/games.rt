@@ -1,18 +1,21 @@
 //! The blocks of games.
 
-ghost use Rattle.std.specs.Prelude.{◌≡◌, ◌++◌, OnOk, IfOk, codes};
+ghost use Rattle.std.specs.Prelude.{◌≡◌, ◌++◌, OnOk, IfOk, IfSome, codes};
+ghost use Rattle.std.specs.Option.{option_map};
 ghost use Rattle.flag_report.specs.Blocks.{line};
 ghost use Rattle.flag_report.specs.Games.{mark_text, cause_text, result_line, game_text, unreadable_text};
 ghost use Rattle.flag_report.specs.Reasons.{IsReason, reason_text};
+ghost use Rattle.flag_report.specs.Scans.{scan_part, CanBeTold};
 ghost use Rattle.cha_verdict.specs.Verdicts.{IsPrintable};
 
 use crate::reasons::{Unreadable, put_reason};
 use crate::rulings::{Cause, Judgment};
+use crate::scans::put_scan;
 use crate::shared_texts::{put_count_line, put_findings};
 use cha_board::Position;
 use cha_list::{NoMemory, Text};
 use cha_moves::Standing;
-use cha_verdict::Verdict;
+use cha_verdict::{Scan, Verdict};
 use pgn_games::ResultMark;
 use std::alloc::Global;
 
@@ -59,8 +62,25 @@ fn put_result(recorded: ResultMark, ruling: Judgment, text: &mut Text) -> Result
     Ok(())
 }
 
+/// Appends from where on a game was dead, if it ends in a dead position.
+#[tactic(auto, unfolding(crate::specs::Scans::scan_part))]
+fn put_scan_part(
+    alloc: Global,
+    scan: Option<&Scan>,
+    certs: bool,
+    text: &mut Text,
+) -> Result<(), NoMemory>
+    requires { IfSome (option_map (λ s. s.now) scan) CanBeTold }
+    ensures { OnOk result (text.new ≡ text.old ++ scan_part (option_map (λ s. s.now) scan.entry) certs) }
+{
+    match scan {
+        Some(scan) => put_scan(alloc, scan, certs, text),
+        None => Ok(()),
+    }
+}
+
 /// The block of a game with this number: the FEN of its final position, the verdicts on both sides, the state of the
-/// position, by how it stands, and the result.
+/// position, by how it stands, from where on the game was dead, if it ends so, and the result.
 ///
 /// ```text
 /// game 1
@@ -71,7 +91,10 @@ fn put_result(recorded: ResultMark, ruling: Judgment, text: &mut Text) -> Result
 /// result: 0-1 -> 1/2-1/2 by 6.9
 /// ```
 ///
-/// Where `certs` says so, the certificate of a side that cannot mate follows its line.
+/// A game that ends in a dead position has a line more before the result, as `dead from: ply 1`.
+///
+/// Where `certs` says so, the certificate of a side that cannot mate follows its line, and the certificates of an earlier dead
+/// position the line that names its ply.
 #[tactic(auto, unfolding(crate::specs::Games::game_text))]
 pub fn game_block(
     alloc: Global,
@@ -81,16 +104,19 @@ pub fn game_block(
     recorded: ResultMark,
     white: &Verdict,
     black: &Verdict,
+    scan: Option<&Scan>,
     ruling: Judgment,
     certs: bool,
 ) -> Result<Text, NoMemory>
     requires white { IsPrintable white.now }
     requires black { IsPrintable black.now }
-    ensures { IfOk result (λ text. text ≡ game_text number position.now standing recorded white.now black.now ruling certs) }
+    requires scan { IfSome (option_map (λ s. s.now) scan) CanBeTold }
+    ensures { IfOk result (λ text. text ≡ game_text number position.now standing recorded white.now black.now (option_map (λ s. s.now) scan.entry) ruling certs) }
 {
     let mut text = Text::new(alloc);
     put_count_line(alloc, b"game ", number, &mut text)?;
     put_findings(alloc, position, standing, white, black, certs, &mut text)?;
+    put_scan_part(alloc, scan, certs, &mut text)?;
     put_result(recorded, ruling, &mut text)?;
     Ok(text)
 }

@@ -34,6 +34,12 @@ pub struct Judgment {
     pub cause: Cause,
 }
 
+/// A draw, since neither side can mate.
+const DEAD: Judgment = Judgment {
+    mark: ResultMark::Draw,
+    cause: Cause::Dead522,
+};
+
 /// The result in which a side wins.
 fn win(winner: Color) -> ResultMark
     ensures { result ≡ win_of winner }
@@ -72,10 +78,7 @@ fn running_ruling(recorded: ResultMark, forfeit: bool, white: &Verdict, black: &
     ensures { result ≡ running_ruling_of recorded forfeit white.now black.now }
 {
     if are_dead(white, black) {
-        return Judgment {
-            mark: ResultMark::Draw,
-            cause: Cause::Dead522,
-        };
+        return DEAD;
     }
     match recorded {
         ResultMark::WhiteWins => winner_ruling(recorded, forfeit, white),
@@ -87,12 +90,14 @@ fn running_ruling(recorded: ResultMark, forfeit: bool, white: &Verdict, black: &
     }
 }
 
-/// The result of a game: its final position stands so, this was recorded, `forfeit` says that a side lost on time, and
-/// these are the verdicts on the final position. The first that fits is the cause:
+/// The result of a game: its final position stands so, this was recorded, `forfeit` says that a side lost on time, these are
+/// the verdicts on the final position, and `earlier` says that a position before it was dead already, where the game ended at
+/// once. The first that fits is the cause:
 ///
 /// | where | result | cause |
 /// |---|---|---|
 /// | a side is checkmated | the other side wins | `Mate511` |
+/// | neither side could mate before the final position | a draw | `Dead522` |
 /// | a side is stalemated | a draw | `Stalemate521` |
 /// | neither side can mate | a draw | `Dead522` |
 /// | a side lost on time, and the recorded winner cannot mate | a draw | `Flag69` |
@@ -105,14 +110,16 @@ pub fn ruling(
     forfeit: bool,
     white: &Verdict,
     black: &Verdict,
+    earlier: bool,
 ) -> Judgment
-    ensures { result ≡ ruling_of state recorded forfeit white.now black.now }
+    ensures { result ≡ ruling_of state recorded forfeit white.now black.now earlier }
 {
     match state {
         Standing::Mate(winner) => Judgment {
             mark: win(winner),
             cause: Cause::Mate511,
         },
+        _ if earlier => DEAD,
         Standing::Stalemate => Judgment {
             mark: ResultMark::Draw,
             cause: Cause::Stalemate521,

@@ -3,10 +3,12 @@
 ghost use Rattle.std.specs.Prelude.{◌≡◌, ◌++◌, OnOk, decimal, codes};
 ghost use Rattle.flag_report.specs.Blocks.{line, count_text, moves_text, winnable_text, undecided_text, verdict_text, cert_part, side_text, findings_text};
 ghost use Rattle.cha_verdict.specs.Verdicts.{IsPrintable};
+ghost use Rattle.cha_verdict.specs.declared.verdicts.Verdict.TheVariants.{Unwinnable};
 ghost use Rattle.cha_fen.specs.Written.{fen_text};
 
 use crate::status::{put_status, status_of};
 use cha_board::{Color, Position};
+use cha_cert::Cert;
 use cha_fen::write;
 use cha_list::{NoMemory, Text};
 use cha_moves::{Move, Standing, move_text};
@@ -85,9 +87,28 @@ fn put_verdict(alloc: Global, verdict: &Verdict, text: &mut Text) -> Result<(), 
     }
 }
 
+/// Appends a certificate, where certificates are printed.
+#[tactic(auto, unfolding(crate::specs::Blocks::cert_part))]
+pub fn put_cert(
+    alloc: Global,
+    winner: Color,
+    cert: &Cert,
+    certs: bool,
+    text: &mut Text,
+) -> Result<(), NoMemory>
+    requires { IsPrintable (Unwinnable cert.now) }
+    ensures { OnOk result (text.new ≡ text.old ++ cert_part certs winner (Unwinnable cert.now)) }
+{
+    if !certs {
+        return Ok(());
+    }
+    let written = cert_text::write(alloc, winner, cert)?;
+    text.append(written.items())
+}
+
 /// Appends the certificate of a side that cannot mate, where certificates are printed.
 #[tactic(auto, unfolding(crate::specs::Blocks::cert_part))]
-fn put_cert(
+fn put_cert_of(
     alloc: Global,
     winner: Color,
     verdict: &Verdict,
@@ -98,10 +119,7 @@ fn put_cert(
     ensures { OnOk result (text.new ≡ text.old ++ cert_part certs winner verdict.now) }
 {
     match verdict {
-        Verdict::Unwinnable(cert) if certs => {
-            let written = cert_text::write(alloc, winner, cert)?;
-            text.append(written.items())
-        }
+        Verdict::Unwinnable(cert) => put_cert(alloc, winner, cert, certs, text),
         _ => Ok(()),
     }
 }
@@ -121,7 +139,7 @@ fn put_side(
     text.append(label)?;
     put_verdict(alloc, verdict, text)?;
     text.append(b"\n")?;
-    put_cert(alloc, winner, verdict, certs, text)
+    put_cert_of(alloc, winner, verdict, certs, text)
 }
 
 /// Appends the line with the FEN of a position.

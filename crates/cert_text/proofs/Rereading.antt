@@ -13,9 +13,9 @@ use Rattle.mob_sets.specs.Rows.{Row, row_place}
 use Rattle.mob_sets.specs.Tidy.{AreTidy, IsFull}
 use Rattle.cha_cert.specs.declared.nodes.Node.{Node}
 use Rattle.cha_cert.specs.declared.nodes.Part.{Part}
-use Rattle.cha_cert.specs.declared.nodes.Part.TheVariants.{Inner, Leaf}
+use Rattle.cha_cert.specs.declared.nodes.Part.TheVariants.{Inner, Leaf, Small}
 use Rattle.cert_text.specs.declared.faults.CertKind.TheVariants as kinds
-use Rattle.cert_text.specs.Spelled.{header_line, end_line, winner_line, count_line, row_line, inner_line, leaf_line, part_lines, node_lines, cert_lines, cert_text}
+use Rattle.cert_text.specs.Spelled.{header_line, end_line, winner_line, count_line, row_line, inner_line, leaf_line, small_line, part_lines, node_lines, cert_lines, cert_text}
 use Rattle.cert_text.specs.Lines.{lines_of, tail_of}
 use Rattle.cert_text.specs.Texts.{found, fixed_of, follows, wanted, begins_reach, rows_after, leaf_after, node_after, nodes_after, ended, cert_of}
 use Rattle.cert_text.specs.declared.faults.CertFault.{CertFault}
@@ -36,6 +36,10 @@ inner_no_row q = refl
 leaf_no_row : (q : Board) → begins_reach (leaf_line q) ≡ false
 unfolding leaf_line
 leaf_no_row q = refl
+
+small_no_row : (q : Board) → begins_reach (small_line q) ≡ false
+unfolding small_line
+small_no_row q = refl
 
 row_begins : (row : Row) → begins_reach (row_line row) ≡ true
 unfolding row_line
@@ -87,6 +91,7 @@ rows_again rows (row ∷ more) n rest tidy known none =
 part_again : (q : Board) (part : Part) (n : ℕ) (rest : List (List ℕ)) → IsValid q → IsWritablePart part → NotRow rest
     → (m : ℕ) × (node_after [] n (part_lines q part ++ rest) ≡ found (record { position = q; part = part }) m rest)
 unfolding node_after leaf_after wanted
+part_again q Small n rest valid ok none = absurd ok
 part_again q Inner n rest valid ok none = (n + 1, rw (inner_again q valid) refl)
 part_again q (Leaf sets) n rest valid ok none =
     let rows = rows_again [] sets.rows (n + 1 + 1) rest ok.0 ok.1 none in
@@ -96,6 +101,7 @@ part_no_row : (q : Board) (part : Part) (a b : List (List ℕ)) → NotRow ((par
 unfolding NotRow
 part_no_row q Inner a b = inner_no_row q
 part_no_row q (Leaf sets) a b = leaf_no_row q
+part_no_row q Small a b = small_no_row q
 
 first_no_row : (nodes : List Node) → NotRow (flat_map node_lines nodes ++ end_line ∷ [])
 unfolding NotRow

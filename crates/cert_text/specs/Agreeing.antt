@@ -7,7 +7,7 @@ use Rattle.mob_sets.specs.Rows.{Row}
 use Rattle.mob_sets.specs.Tidy.{AreTidy}
 use Rattle.cha_cert.specs.declared.nodes.Node.{Node}
 use Rattle.cha_cert.specs.declared.nodes.Part.{Part}
-use Rattle.cha_cert.specs.declared.nodes.Part.TheVariants.{Inner, Leaf}
+use Rattle.cha_cert.specs.declared.nodes.Part.TheVariants.{Inner, Leaf, Small}
 use Rattle.cert_text.specs.declared.faults.CertFault.{CertFault}
 use Rattle.cert_text.specs.declared.rest.Left.{Left}
 use Rattle.cert_text.specs.Spelled.{cert_text}
@@ -24,10 +24,12 @@ Agrees view (Err fault) said = fault.kind ≢ kinds.NoMemory → said ≡ Err fa
 abbrev pub seen : {A : Type 0} → List ℕ → A → Left → Found A
 seen bytes value left = record { value = value; number = left.number; lines = lines_of (drop left.at bytes) }
 
--- a node whose text is read as that node: its position is valid, and the rows of a leaf are tidy and on the board
+-- a node whose text is read as that node: its position is valid, it is not one of small material, and the rows of a leaf are
+-- tidy and on the board
 abbrev pub IsWritablePart : Part → Type 0
 IsWritablePart Inner = ⊤
 IsWritablePart (Leaf sets) = AreTidy sets.rows × All (λ row. row.origin < 64) sets.rows × (length sets.loose ≡ 64)
+IsWritablePart Small = ⊥
 
 pub record IsWritable (node : Node) : Type 0 where
   pub position : IsValid node.position

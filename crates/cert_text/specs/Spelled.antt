@@ -1,6 +1,6 @@
 -- The text of a certificate, version 1 (this project).
-use Rattle.std.specs.Prelude.{ℕ, ◌+◌, Bool, List, [], ◌∷◌, ◌++◌, map, length, codes, decimal}
-use Rattle.std.specs.List.{flat_map}
+use Rattle.std.specs.Prelude.{⊤, ℕ, ◌+◌, Bool, List, [], ◌∷◌, ◌++◌, map, length, codes, decimal}
+use Rattle.std.specs.List.{All, flat_map}
 use Rattle.cha_board.specs.declared.men.Color.{Color}
 use Rattle.cha_board.specs.declared.men.Color.TheVariants.{White, Black}
 use Rattle.cha_board.specs.Squares.{file_of, rank_of}
@@ -11,7 +11,7 @@ use Rattle.cha_fen.specs.Written.{fen_text}
 use Rattle.mob_sets.specs.Rows.{Row}
 use Rattle.cha_cert.specs.declared.nodes.Node.{Node}
 use Rattle.cha_cert.specs.declared.nodes.Part.{Part}
-use Rattle.cha_cert.specs.declared.nodes.Part.TheVariants.{Inner, Leaf}
+use Rattle.cha_cert.specs.declared.nodes.Part.TheVariants.{Inner, Leaf, Small}
 use Rattle.cert_text.specs.Digits.{hex_digits}
 
 -- a set as sixteen hexadecimal digits: bit s of the number stands for square s
@@ -44,13 +44,27 @@ inner_line q = codes "inner " ++ fen_text q
 unfoldable pub leaf_line : Board → List ℕ
 leaf_line q = codes "leaf " ++ fen_text q
 
--- the lines of a node
+-- small 8/8/8/4k3/3q4/8/8/4KN2 w - -
+unfoldable pub small_line : Board → List ℕ
+small_line q = codes "small " ++ fen_text q
+
+-- the lines of a node; version 1 has none for small material, and is asked of no such node
 abbrev pub part_lines : Board → Part → List (List ℕ)
 part_lines q Inner = inner_line q ∷ []
 part_lines q (Leaf sets) = leaf_line q ∷ loose_line sets.loose ∷ map row_line sets.rows
+part_lines q Small = small_line q ∷ []
 
 abbrev pub node_lines : Node → List (List ℕ)
 node_lines node = part_lines node.position node.part
+
+-- no node is one of small material
+abbrev pub IsNotSmall : Part → Type 0
+IsNotSmall Inner = ⊤
+IsNotSmall (Leaf sets) = ⊤
+IsNotSmall Small = ⊥
+
+abbrev pub HasNoSmall : List Node → Type 0
+HasNoSmall nodes = All (λ node. IsNotSmall node.part) nodes
 
 abbrev pub header_line : List ℕ
 header_line = codes "cha-cert 1"

@@ -5,7 +5,7 @@ ghost use Rattle.std.specs.List.{flat_map};
 ghost use Rattle.cert_text.specs.Spelled.{winner_line, count_line, lines_text};
 ghost use Rattle.cert_text.specs.SharedSpelled.{sets_line, shared_leaf_line, set_lines, shared_node_lines, shared_header_line, shared_text};
 
-use crate::spelled::{put_count, put_inner, put_sets};
+use crate::spelled::{put_count, put_inner, put_sets, put_small};
 use cha_board::{Color, Position};
 use cha_cert::{SharedCert, SharedNode, SharedPart};
 use cha_list::{NoMemory, Text};
@@ -46,6 +46,7 @@ fn put_shared_node(alloc: Global, node: &SharedNode, text: &mut Text) -> Result<
     match node.part {
         SharedPart::Inner => put_inner(alloc, &node.position, text)?,
         SharedPart::Leaf(number) => put_shared_leaf(alloc, number, &node.position, text)?,
+        SharedPart::Small => put_small(alloc, &node.position, text)?,
     }
     text.push(b'\n')?;
     Ok(())
@@ -111,7 +112,8 @@ fn put_node_count(alloc: Global, count: u64, text: &mut Text) -> Result<(), NoMe
 /// end
 /// ```
 ///
-/// Each line ends with a line feed. The sets come first, each once, and a leaf names its sets by their number, from 0.
+/// Each line ends with a line feed. The sets come first, each once, and a leaf names its sets by their number, from 0. A
+/// node of small material has the line `small FEN`.
 pub fn write2(alloc: Global, winner: Color, cert: &SharedCert) -> Result<Text, NoMemory>
     requires some { 0 < length cert.now.nodes }
     requires few { length cert.now.nodes < 2 ^ 32 }

@@ -10,9 +10,10 @@ use Rattle.cha_moves.specs.Ends.{IsMated}
 use Rattle.mob_law.specs.Closed.{IsClosed}
 use Rattle.mob_law.specs.Threats.{HasNoMate}
 use Rattle.mob_sets.specs.Rows.{SetRows, sets_of}
+use Rattle.mob_small.specs.Small.{IsSmallUnwinnable}
 use Rattle.cha_cert.specs.declared.nodes.Node.{Node}
 use Rattle.cha_cert.specs.declared.nodes.Part.{Part}
-use Rattle.cha_cert.specs.declared.nodes.Part.TheVariants.{Inner, Leaf}
+use Rattle.cha_cert.specs.declared.nodes.Part.TheVariants.{Inner, Leaf, Small}
 use Rattle.cha_cert.specs.declared.checking.Checked.{Checked}
 use Rattle.cha_cert.specs.declared.checking.Checked.TheVariants.{Accepted, Fails}
 
@@ -34,6 +35,7 @@ pub record LeafHolds (w : Color) (q : Board) (sets : SetRows) : Type 0 where
 abbrev pub PartHolds : Color → List Node → Board → Part → Type 0
 PartHolds w nodes q Inner = InnerHolds w nodes q
 PartHolds w nodes q (Leaf sets) = LeafHolds w q sets
+PartHolds w nodes q Small = IsSmallUnwinnable q w
 
 abbrev pub NodeHolds : Color → List Node → Node → Type 0
 NodeHolds w nodes node = PartHolds w nodes node.position node.part

@@ -6,10 +6,10 @@ use Rattle.cha_board.specs.SquareSets.{empty_set}
 use Rattle.mob_sets.specs.Rows.{SetRows}
 use Rattle.cha_cert.specs.declared.nodes.Node.{Node}
 use Rattle.cha_cert.specs.declared.nodes.Part.{Part}
-use Rattle.cha_cert.specs.declared.nodes.Part.TheVariants.{Inner, Leaf}
+use Rattle.cha_cert.specs.declared.nodes.Part.TheVariants.{Inner, Leaf, Small}
 use Rattle.cha_cert.specs.declared.shared.SharedNode.{SharedNode}
 use Rattle.cha_cert.specs.declared.shared.SharedPart.{SharedPart}
-use Rattle.cha_cert.specs.declared.shared.SharedPart.TheVariants.{Inner as SharedInner, Leaf as SharedLeaf}
+use Rattle.cha_cert.specs.declared.shared.SharedPart.TheVariants.{Inner as SharedInner, Leaf as SharedLeaf, Small as SharedSmall}
 
 -- a list of sets, and nodes whose leaves name them by their numbers
 pub record Shared : Type 0 where
@@ -20,6 +20,7 @@ pub record Shared : Type 0 where
 abbrev pub Names : ℕ → SharedPart → Type 0
 Names n SharedInner = ⊤
 Names n (SharedLeaf i) = i < n
+Names n SharedSmall = ⊤
 
 -- each leaf names sets that are there
 abbrev pub AreNamed : Shared → Type 0
@@ -33,6 +34,7 @@ no_sets = record { rows = []; loose = empty_set }
 abbrev pub part_of : List SetRows → SharedPart → Part
 part_of sets SharedInner = Inner
 part_of sets (SharedLeaf i) = Leaf (slice_index_or sets i no_sets)
+part_of sets SharedSmall = Small
 
 abbrev pub node_of : List SetRows → SharedNode → Node
 node_of sets node = record { position = node.position; part = part_of sets node.part }

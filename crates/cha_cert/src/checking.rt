@@ -13,6 +13,7 @@ use cha_list::NoMemory;
 use cha_moves::{after, is_mate, legal};
 use mob_check::proves_unwinnable;
 use mob_sets::Sets;
+use mob_small::small_verdict;
 use std::alloc::Global;
 
 /// What a check of a certificate answers.
@@ -27,8 +28,9 @@ pub enum Checked {
 
 /// Checks that a certificate shows that no series of legal moves from a position mates for a side (this project).
 ///
-/// A leaf holds where its mobility sets are closed for its position and have no mate for the side. An inner node holds
-/// where its position is no mate for the side and each legal move leads to the position of some node.
+/// A leaf holds where its mobility sets are closed for its position and have no mate for the side. A node of small material
+/// holds where there is no pawn, at most one man beside each king, and no mate for the side with such men. An inner node
+/// holds where its position is no mate for the side and each legal move leads to the position of some node.
 pub fn check(
     alloc: Global,
     position: &Position,
@@ -88,6 +90,7 @@ fn node_holds(
     match &node.part {
         Part::Inner => inner_holds(alloc, index, winner, &node.position),
         Part::Leaf(sets) => Ok(leaf_holds(winner, &node.position, sets)),
+        Part::Small => Ok(small_verdict(&node.position, winner)),
     }
 }
 

@@ -15,6 +15,8 @@ pub enum Part {
     Inner,
     /// These mobility sets are closed for the position and have no mate.
     Leaf(Sets),
+    /// The position has small material, with which the side cannot mate.
+    Small,
 }
 
 /// A position, and why no series of legal moves from it mates.

@@ -16,6 +16,8 @@ pub enum SharedPart {
     Inner,
     /// The mobility sets of this number, counted from 0, are closed for the position and have no mate.
     Leaf(u32),
+    /// The position has small material, with which the side cannot mate.
+    Small,
 }
 
 /// A position, and why no series of legal moves from it mates.

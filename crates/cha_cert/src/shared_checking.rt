@@ -12,6 +12,7 @@ use crate::indexing::Index;
 use crate::shared::{SharedCert, SharedNode, SharedPart};
 use cha_board::{Color, Position, same_position};
 use cha_list::NoMemory;
+use mob_small::small_verdict;
 use std::alloc::Global;
 
 /// Checks that a shared certificate shows that no series of legal moves from a position mates for a side: it answers what
@@ -80,5 +81,6 @@ fn node_holds(
             let sets = &shared.sets()[number as usize];
             Ok(leaf_holds(winner, &node.position, sets))
         }
+        SharedPart::Small => Ok(small_verdict(&node.position, winner)),
     }
 }

@@ -2,7 +2,7 @@
 
 ghost use Rattle.std.specs.Prelude.{◌≡◌, ◌<◌, ◌≤◌, ◌^◌, [], ◌∷◌, ◌++◌, List, None, length, IfOk, IfSome, OnOk, Contains};
 ghost use Rattle.cha_cert.specs.declared.nodes.Node.{Node as CertNode};
-ghost use Rattle.cha_cert.specs.declared.nodes.Part.TheVariants.{Inner as CertInner, Leaf as CertLeaf};
+ghost use Rattle.cha_cert.specs.declared.nodes.Part.TheVariants.{Inner as CertInner, Leaf as CertLeaf, Small as CertSmall};
 ghost use Rattle.cha_cert.specs.Shared.{Names, AreInOrder, Shares, IsAt, expansion, part_of};
 
 use crate::nodes::{Cert, Node, Part};
@@ -37,6 +37,7 @@ fn add(alloc: Global, shared: &mut SharedCert, node: &Node) -> Result<(), NoMemo
     match &node.part {
         Part::Inner => add_inner(shared, node.position),
         Part::Leaf(sets) => add_leaf(alloc, shared, node.position, sets),
+        Part::Small => add_small(shared, node.position),
     }
 }
 
@@ -47,6 +48,17 @@ fn add_inner(shared: &mut SharedCert, position: Position) -> Result<(), NoMemory
     shared.push(SharedNode {
         position,
         part: SharedPart::Inner,
+    })?;
+    Ok(())
+}
+
+/// Appends a node of small material.
+fn add_small(shared: &mut SharedCert, position: Position) -> Result<(), NoMemory>
+    ensures { (nodes : List CertNode) → Shares shared.old nodes → OnOk result (Shares shared.new (nodes ++ (record { position = position; part = CertSmall }) ∷ [])) }
+{
+    shared.push(SharedNode {
+        position,
+        part: SharedPart::Small,
     })?;
     Ok(())
 }
@@ -115,6 +127,7 @@ fn part_with(alloc: Global, sets: &[Sets], part: SharedPart) -> Result<Part, NoM
 {
     match part {
         SharedPart::Inner => Ok(Part::Inner),
+        SharedPart::Small => Ok(Part::Small),
         SharedPart::Leaf(number) => Ok(Part::Leaf(sets[number as usize].copy(alloc)?)),
     }
 }

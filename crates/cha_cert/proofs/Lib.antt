@@ -1,6 +1,8 @@
 mod Finding
+mod Costing
 pub mod Bounded
 mod Answering
 mod Leading
 mod OnceWritten
+mod Telling
 mod Expanded

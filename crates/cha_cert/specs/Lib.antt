@@ -1,3 +1,4 @@
 pub mod Certificates
 pub mod Indexed
+pub mod Costs
 pub mod Shared

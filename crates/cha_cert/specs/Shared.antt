@@ -1,9 +1,12 @@
 -- Certificates in which equal sets are written once (this project).
-use Rattle.std.specs.Prelude.{◌≡◌, ⊤, ℕ, ◌<◌, ◌≤◌, List, [], map, length, slice_index_or, slice_get, Some}
-use Rattle.std.specs.List.{All}
+use Rattle.std.specs.Prelude.{◌≡◌, ⊤, ℕ, ◌<◌, ◌≤◌, ◌==◌, ◌&&◌, Bool, true, false, not, List, [], ◌∷◌, ◌++◌, map, length, slice_index_or, slice_get, position, Option, Some, None}
+use Rattle.std.specs.List.{All, fold}
+use lib.Pointwise.{pointwise}
 use Rattle.cha_list.specs.Distinct.{AreDistinct}
+use Rattle.cha_board.specs.Board.{Board}
+use Rattle.cha_board.specs.Men.{same_kind}
 use Rattle.cha_board.specs.SquareSets.{empty_set}
-use Rattle.mob_sets.specs.Rows.{SetRows}
+use Rattle.mob_sets.specs.Rows.{Row, SetRows}
 use Rattle.cha_cert.specs.declared.nodes.Node.{Node}
 use Rattle.cha_cert.specs.declared.nodes.Part.{Part}
 use Rattle.cha_cert.specs.declared.nodes.Part.TheVariants.{Inner, Leaf, Small}
@@ -55,6 +58,38 @@ pub record IsFirstNamed (nodes : List SharedNode) (i : ℕ) : Type 0 where
 pub record AreInOrder (c : Shared) : Type 0 where
   pub distinct : AreDistinct c.sets
   pub first : (i : ℕ) → i < length c.sets → IsFirstNamed c.nodes i
+
+-- whether sets are equal, as a test: their rows and their loose origins are
+abbrev pub same_bit : Bool → Bool → Bool
+same_bit true b = b
+same_bit false b = not b
+
+abbrev pub same_squares : List Bool → List Bool → Bool
+same_squares a b = pointwise same_bit a b
+
+abbrev pub same_row : Row → Row → Bool
+same_row a b = (a.origin == b.origin) && (same_kind a.kind b.kind && same_squares a.squares b.squares)
+
+abbrev pub same_sets : SetRows → SetRows → Bool
+same_sets a b = pointwise same_row a.rows b.rows && same_squares a.loose b.loose
+
+-- the number of the first of some sets that equal others, if any do
+unfoldable pub number_in : List SetRows → SetRows → Option ℕ
+number_in all s = position (λ t. same_sets t s) all
+
+-- One more node behind shared ones: a leaf names the first of the sets that equal its own, which are appended where none do.
+abbrev pub leaf_added : Shared → Board → SetRows → Option ℕ → Shared
+leaf_added c q s (Some i) = record { sets = c.sets; nodes = c.nodes ++ (record { position = q; part = SharedLeaf i }) ∷ [] }
+leaf_added c q s None = record { sets = c.sets ++ s ∷ []; nodes = c.nodes ++ (record { position = q; part = SharedLeaf (length c.sets) }) ∷ [] }
+
+abbrev pub part_added : Shared → Board → Part → Shared
+part_added c q Inner = record { sets = c.sets; nodes = c.nodes ++ (record { position = q; part = SharedInner }) ∷ [] }
+part_added c q Small = record { sets = c.sets; nodes = c.nodes ++ (record { position = q; part = SharedSmall }) ∷ [] }
+part_added c q (Leaf s) = leaf_added c q s (number_in c.sets s)
+
+-- the nodes with their equal sets written once
+unfoldable pub shared_of : List Node → Shared
+shared_of nodes = fold (λ (c : Shared) (node : Node). part_added c node.position node.part) (record { sets = []; nodes = [] }) nodes
 
 -- a shared certificate says what so many nodes say, its sets in order
 pub record Shares (c : Shared) (nodes : List Node) : Type 0 where

@@ -16,9 +16,10 @@ mod sharing;
 #[cfg(test)]
 mod tests;
 
-pub use checking::{Checked, check};
+pub use checking::{Checked, check, check_counted};
+pub use indexing::{Index, Place};
 pub use law::valid_means_unwinnable;
 pub use nodes::{Cert, Node, Part};
 pub use shared::{SharedCert, SharedNode, SharedPart};
-pub use shared_checking::check_shared;
+pub use shared_checking::{check_shared, check_shared_counted, shared_node_holds};
 pub use sharing::{expand, share};

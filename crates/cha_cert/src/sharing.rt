@@ -3,7 +3,7 @@
 ghost use Rattle.std.specs.Prelude.{◌≡◌, ◌<◌, ◌≤◌, ◌^◌, [], ◌∷◌, ◌++◌, List, None, length, IfOk, IfSome, OnOk, Contains};
 ghost use Rattle.cha_cert.specs.declared.nodes.Node.{Node as CertNode};
 ghost use Rattle.cha_cert.specs.declared.nodes.Part.TheVariants.{Inner as CertInner, Leaf as CertLeaf, Small as CertSmall};
-ghost use Rattle.cha_cert.specs.Shared.{Names, AreInOrder, Shares, IsAt, expansion, part_of};
+ghost use Rattle.cha_cert.specs.Shared.{Names, AreInOrder, Shares, IsAt, expansion, part_of, number_in, part_added, shared_of};
 
 use crate::nodes::{Cert, Node, Part};
 use crate::same::same_sets;
@@ -21,6 +21,7 @@ pub fn share(alloc: Global, cert: &Cert) -> Result<SharedCert, NoMemory>
     ensures order { IfOk result (λ shared. AreInOrder shared) }
     ensures size { IfOk result (λ shared. length shared.nodes ≡ length cert.now) }
     ensures few { IfOk result (λ shared. length shared.sets ≤ length cert.now) }
+    ensures exact { IfOk result (λ shared. shared ≡ shared_of cert.now) }
 {
     let mut shared = SharedCert::new(alloc);
     for node in cert.nodes() {
@@ -32,7 +33,8 @@ pub fn share(alloc: Global, cert: &Cert) -> Result<SharedCert, NoMemory>
 /// Appends a node to what is shared already.
 fn add(alloc: Global, shared: &mut SharedCert, node: &Node) -> Result<(), NoMemory>
     requires { length shared.old.sets < 2 ^ 32 }
-    ensures { (nodes : List CertNode) → Shares shared.old nodes → OnOk result (Shares shared.new (nodes ++ node.now ∷ [])) }
+    ensures exact { OnOk result (shared.new ≡ part_added shared.old node.now.position node.now.part) }
+    ensures shares { (nodes : List CertNode) → Shares shared.old nodes → OnOk result (Shares shared.new (nodes ++ node.now ∷ [])) }
 {
     match &node.part {
         Part::Inner => add_inner(shared, node.position),
@@ -43,7 +45,8 @@ fn add(alloc: Global, shared: &mut SharedCert, node: &Node) -> Result<(), NoMemo
 
 /// Appends an inner node.
 fn add_inner(shared: &mut SharedCert, position: Position) -> Result<(), NoMemory>
-    ensures { (nodes : List CertNode) → Shares shared.old nodes → OnOk result (Shares shared.new (nodes ++ (record { position = position; part = CertInner }) ∷ [])) }
+    ensures exact { OnOk result (shared.new ≡ part_added shared.old position CertInner) }
+    ensures shares { (nodes : List CertNode) → Shares shared.old nodes → OnOk result (Shares shared.new (nodes ++ (record { position = position; part = CertInner }) ∷ [])) }
 {
     shared.push(SharedNode {
         position,
@@ -54,7 +57,8 @@ fn add_inner(shared: &mut SharedCert, position: Position) -> Result<(), NoMemory
 
 /// Appends a node of small material.
 fn add_small(shared: &mut SharedCert, position: Position) -> Result<(), NoMemory>
-    ensures { (nodes : List CertNode) → Shares shared.old nodes → OnOk result (Shares shared.new (nodes ++ (record { position = position; part = CertSmall }) ∷ [])) }
+    ensures exact { OnOk result (shared.new ≡ part_added shared.old position CertSmall) }
+    ensures shares { (nodes : List CertNode) → Shares shared.old nodes → OnOk result (Shares shared.new (nodes ++ (record { position = position; part = CertSmall }) ∷ [])) }
 {
     shared.push(SharedNode {
         position,
@@ -71,7 +75,8 @@ fn add_leaf(
     sets: &Sets,
 ) -> Result<(), NoMemory>
     requires { length shared.old.sets < 2 ^ 32 }
-    ensures { (nodes : List CertNode) → Shares shared.old nodes → OnOk result (Shares shared.new (nodes ++ (record { position = position; part = CertLeaf sets.now }) ∷ [])) }
+    ensures exact { OnOk result (shared.new ≡ part_added shared.old position (CertLeaf sets.now)) }
+    ensures shares { (nodes : List CertNode) → Shares shared.old nodes → OnOk result (Shares shared.new (nodes ++ (record { position = position; part = CertLeaf sets.now }) ∷ [])) }
 {
     match number_of(shared.sets(), sets) {
         Some(number) => {
@@ -97,6 +102,7 @@ fn add_leaf(
 fn number_of(all: &[Sets], wanted: &Sets) -> Option<usize>
     ensures some { IfSome result (λ number. IsAt all.now wanted.now number) }
     ensures none { result ≡ None → Contains all.now wanted.now → ⊥ }
+    ensures exact { result ≡ number_in all.now wanted.now }
 {
     for number in 0..all.len() {
         if same_sets(&all[number], wanted) {

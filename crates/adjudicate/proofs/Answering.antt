@@ -10,7 +10,7 @@ use Rattle.cha_cert.specs.declared.checking.Checked.TheVariants.{Accepted, Fails
 use Rattle.cha_cert.specs.Certificates.{BeginsAt, IsValidCert}
 use Rattle.cert_text.specs.declared.faults.CertFault.{CertFault}
 use Rattle.cert_text.specs.declared.reader.Certificate.{Certificate}
-use Rattle.cert_text.specs.Texts.{cert_of}
+use Rattle.cert_text.specs.Versions.{any_cert_of}
 use Rattle.adjudicate.specs.declared.checking.Answer.{Answer}
 use Rattle.cha_words.specs.declared.orders.Order.TheVariants.{CheckCert}
 use Rattle.adjudicate.specs.Checks.{IsAnswerTo, IsReadAs, IsValidAtFirst}
@@ -22,22 +22,22 @@ pub nothing_answered : (bytes : List ℕ) (a : Option (List ℕ)) → Grew a a (
 nothing_answered bytes a = ([], appends_nothing a, refl)
 
 -- the line is written whole
-pub answered : (bytes line shown : List ℕ) (old new : Option (List ℕ)) → IsAnswerTo (cert_of bytes) line → shown ≡ line → Appends old new shown → Grew old new (IsReport CheckCert bytes)
+pub answered : (bytes line shown : List ℕ) (old new : Option (List ℕ)) → IsAnswerTo (any_cert_of bytes) line → shown ≡ line → Appends old new shown → Grew old new (IsReport CheckCert bytes)
 answered bytes line shown old new is same added = (line, subst (Appends old new) same added, is)
 
 -- the line is written in part
-pub cut_answer : (bytes line shown : List ℕ) (old new : Option (List ℕ)) (n : ℕ) → IsAnswerTo (cert_of bytes) line → shown ≡ line → Appends old new (take n shown) → Grew old new (HasBegun CheckCert bytes)
+pub cut_answer : (bytes line shown : List ℕ) (old new : Option (List ℕ)) (n : ℕ) → IsAnswerTo (any_cert_of bytes) line → shown ≡ line → Appends old new (take n shown) → Grew old new (HasBegun CheckCert bytes)
 cut_answer bytes line shown old new n is same added =
     (take n line, subst (λ x. Appends old new (take n x)) same added, (line, is, (drop n line, sym (take-append-drop n line))))
 
 -- what is found of a certificate holds of its text
-pub of_text : (r : Result Answer NoMemory) (bytes : List ℕ) (c : Certificate) (P : Certificate → Type 0) → cert_of bytes ≡ Ok c → IfOk r (λ answer. IsTrue answer.accepted ↔ P c)
+pub of_text : (r : Result Answer NoMemory) (bytes : List ℕ) (c : Certificate) (P : Certificate → Type 0) → any_cert_of bytes ≡ Ok c → IfOk r (λ answer. IsTrue answer.accepted ↔ P c)
     → IfOk r (λ answer. IsTrue answer.accepted ↔ IsReadAs P bytes)
 of_text (Ok answer) bytes c P e h = ((λ t. (c, e, h.0 t)), (λ text. h.1 (let same : text.0 ≡ c = let f = sym text.1 ∙ e in cc in subst P same text.2)))
 of_text (Err refused) bytes c P e h = tt
 
 -- a text that is none of a certificate
-pub no_text : (bytes : List ℕ) (fault : CertFault) (P : Certificate → Type 0) → cert_of bytes ≡ Err fault → IsReadAs P bytes → ⊥
+pub no_text : (bytes : List ℕ) (fault : CertFault) (P : Certificate → Type 0) → any_cert_of bytes ≡ Err fault → IsReadAs P bytes → ⊥
 no_text bytes fault P e text = let f = sym text.1 ∙ e in cc
 
 -- a certificate begins at one position

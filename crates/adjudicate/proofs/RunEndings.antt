@@ -11,7 +11,7 @@ use Rattle.cha_board.specs.Board.{Board, IsValid}
 use Rattle.cha_cert.specs.declared.nodes.Node.{Node}
 use Rattle.cha_cert.specs.Certificates.{BeginsAt, AllValid}
 use Rattle.cha_cert.proofs.Bounded.{valid_is_unwinnable}
-use Rattle.cert_text.proofs.Spelling.{read_is_spelled}
+use Rattle.cert_text.proofs.EitherVersion.{any_is_spelled}
 use Rattle.cha_words.specs.declared.orders.Order.{Order}
 use Rattle.cha_words.specs.declared.orders.Order.TheVariants.{AdjudicateGames, JudgePositions, CheckCert, GenGames}
 use Rattle.adjudicate.specs.declared.endings.Status.{Status}
@@ -49,7 +49,7 @@ law_holds CheckCert Done before now ended done check =
     let valid = read.2.1 in (
       ended.0,
       ended.1,
-      (cert, read_is_spelled ended.0 cert read.1, (read.2.0, valid.begins, first_is_valid read.2.0 cert.cert valid.begins valid.positions, valid_is_unwinnable read.2.0 cert.winner cert.cert valid)),
+      (cert, any_is_spelled ended.0 cert read.1, (read.2.0, valid.begins, first_is_valid read.2.0 cert.cert valid.begins valid.positions, valid_is_unwinnable read.2.0 cert.winner cert.cert valid)),
     )
 
 -- What was read and written makes a run, where its causes are known.

@@ -8,8 +8,7 @@ use Rattle.cha_cert.specs.declared.checking.Checked.TheVariants.{Accepted, Fails
 use Rattle.cha_cert.specs.Certificates.{BeginsAt, IsValidCert, Answers}
 use Rattle.cert_text.specs.declared.faults.CertFault.{CertFault}
 use Rattle.cert_text.specs.declared.reader.Certificate.{Certificate}
-use Rattle.cert_text.specs.Spelled.{cert_text}
-use Rattle.cert_text.specs.Texts.{cert_of}
+use Rattle.cert_text.specs.Versions.{any_cert_of, IsAnyText}
 use Rattle.flag_report.specs.Checks.{accepted_text, misfit_text, failing_text}
 use Rattle.cha_words.specs.declared.orders.Order.{Order}
 use Rattle.cha_words.specs.declared.orders.Order.TheVariants.{AdjudicateGames, JudgePositions, CheckCert, GenGames}
@@ -34,13 +33,13 @@ IsValidAtFirst c = (p : Board) × IsValidCert p c.winner c.cert
 abbrev pub IsUnwinnableAtFirst : Certificate → Type 0
 IsUnwinnableAtFirst c = (p : Board) × BeginsAt p c.cert × IsValid p × IsUnwinnable p c.winner
 
--- the bytes are the text of a certificate that is such
+-- the bytes are a text of a certificate that is such, in either version
 abbrev pub IsTextOf : (Certificate → Type 0) → List ℕ → Type 0
-IsTextOf P bytes = (c : Certificate) × (cert_text c.winner c.cert ≡ bytes) × P c
+IsTextOf P bytes = (c : Certificate) × IsAnyText c.winner c.cert bytes × P c
 
--- the bytes are read as a certificate that is such
+-- the bytes are read as a certificate that is such: of version 2 as the expansion of what they spell
 abbrev pub IsReadAs : (Certificate → Type 0) → List ℕ → Type 0
-IsReadAs P bytes = (c : Certificate) × (cert_of bytes ≡ Ok c) × P c
+IsReadAs P bytes = (c : Certificate) × (any_cert_of bytes ≡ Ok c) × P c
 
 -- What an order asks of its input: of a certificate that the bytes are read as one and that it is valid. Of games and positions
 -- nothing is asked.

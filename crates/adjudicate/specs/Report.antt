@@ -2,7 +2,7 @@
 use Rattle.std.specs.Prelude.{◌≡◌, ℕ, ◌+◌, Bool, List, [], ◌∷◌, ◌++◌, length, map, Option}
 use Rattle.flag_report.specs.Totals.{game_summary_text, position_summary_text}
 use Rattle.cha_verdict.specs.Bounds.{Bounds}
-use Rattle.cert_text.specs.Texts.{cert_of}
+use Rattle.cert_text.specs.Versions.{any_cert_of}
 use Rattle.cha_words.specs.declared.orders.Order.{Order}
 use Rattle.cha_words.specs.declared.orders.Order.TheVariants.{AdjudicateGames, JudgePositions, CheckCert, GenGames}
 use Rattle.adjudicate.specs.Outcomes.{Item, Outcome, item_of, IsSoundOutcome, AllSound, block, blocks, game_totals, position_totals, game_items, position_items}
@@ -30,7 +30,7 @@ IsSummaryOn limits last items out = (os : List Outcome) × (map item_of os ≡ i
 abbrev pub IsReport : Order → List ℕ → List ℕ → Type 0
 IsReport (AdjudicateGames limits certs) bytes out = IsReportOn limits certs last_of_games (game_items bytes) out
 IsReport (JudgePositions limits certs) bytes out = IsReportOn limits certs last_of_positions (position_items bytes) out
-IsReport CheckCert bytes out = IsAnswerTo (cert_of bytes) out
+IsReport CheckCert bytes out = IsAnswerTo (any_cert_of bytes) out
 IsReport (GenGames limits seed count) bytes out = IsSummaryOn limits last_of_games (game_items (made seed count)) out
 
 -- a list is the front of another
@@ -53,7 +53,7 @@ HasBegunOn limits certs last items out =
 abbrev pub HasBegun : Order → List ℕ → List ℕ → Type 0
 HasBegun (AdjudicateGames limits certs) bytes out = HasBegunOn limits certs last_of_games (game_items bytes) out
 HasBegun (JudgePositions limits certs) bytes out = HasBegunOn limits certs last_of_positions (position_items bytes) out
-HasBegun CheckCert bytes out = (whole : List ℕ) × IsAnswerTo (cert_of bytes) whole × IsFront out whole
+HasBegun CheckCert bytes out = (whole : List ℕ) × IsAnswerTo (any_cert_of bytes) whole × IsFront out whole
 HasBegun (GenGames limits seed count) bytes out = (whole : List ℕ) × IsSummaryOn limits last_of_games (game_items (made seed count)) whole × IsFront out whole
 
 -- the output is the blocks of sound outcomes of the first items

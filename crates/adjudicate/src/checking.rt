@@ -1,7 +1,8 @@
 //! The check of one certificate.
 
 ghost use Rattle.std.specs.Prelude.{◌≡◌, ◌<◌, ◌^◌, ◌↔◌, length, IsTrue, IfOk, Ok};
-ghost use Rattle.cert_text.specs.Texts.{cert_of};
+ghost use Rattle.cha_cert.specs.Shared.{expansion};
+ghost use Rattle.cert_text.specs.Versions.{any_cert_of};
 ghost use Rattle.cha_words.specs.declared.orders.Order.TheVariants.{CheckCert};
 ghost use Rattle.adjudicate.specs.Checks.{IsAnswerTo, IsReadAs, IsValidAtFirst};
 ghost use Rattle.adjudicate.specs.Runs.{IsRun, outside};
@@ -9,14 +10,15 @@ ghost use Rattle.adjudicate.specs.Steps.{IsWritten, ended_by};
 
 use crate::endings::Status;
 use crate::writing::put;
-use cert_text::{CertKind, Certificate, read};
-use cha_cert::{Checked, check};
+use cert_text::{CertKind, SharedCertificate, read_any};
+use cha_cert::{Checked, check_shared};
 use cha_list::{NoMemory, Text};
 use cha_outside::{MOST_BYTES, Sink, Source, Wrote, read_all};
 use flag_report::{accepted_line, failing_line, misfit_line};
 use std::alloc::Global;
 
-/// Checks the certificate whose text a source gives, and writes the answer. It reads the whole source first.
+/// Checks the certificate whose text a source gives, in either version, and writes the answer. It reads the whole source
+/// first.
 pub fn check_cert<S: Source, K: Sink>(alloc: Global, source: &mut S, sink: &mut K) -> Status
     ensures { IsRun CheckCert result (outside (S.left source.old) (S.faults source.old) (K.written sink.old) (K.faults sink.old)) (outside (S.left source.new) (S.faults source.new) (K.written sink.new) (K.faults sink.new)) }
 {
@@ -59,10 +61,10 @@ struct Answer {
 
 /// What is answered on a text.
 fn answer_to(alloc: Global, bytes: &[u8]) -> Result<Answer, NoMemory>
-    ensures line { IfOk result (λ answer. IsAnswerTo (cert_of bytes.now) answer.line) }
+    ensures line { IfOk result (λ answer. IsAnswerTo (any_cert_of bytes.now) answer.line) }
     ensures accepted { IfOk result (λ answer. IsTrue answer.accepted ↔ IsReadAs IsValidAtFirst bytes.now) }
 {
-    match read(alloc, bytes) {
+    match read_any(alloc, bytes) {
         Ok(certificate) => answer_on(alloc, &certificate),
         Err(fault) => {
             if fault.kind == CertKind::NoMemory {
@@ -77,15 +79,15 @@ fn answer_to(alloc: Global, bytes: &[u8]) -> Result<Answer, NoMemory>
 }
 
 /// What is answered on a certificate: what its check answers, asked for the position of its first node.
-fn answer_on(alloc: Global, certificate: &Certificate) -> Result<Answer, NoMemory>
-    requires some { 0 < length certificate.now.cert }
-    requires few { length certificate.now.cert < 2 ^ 32 }
-    ensures line { IfOk result (λ answer. IsAnswerTo (Ok certificate.now) answer.line) }
-    ensures accepted { IfOk result (λ answer. IsTrue answer.accepted ↔ IsValidAtFirst certificate.now) }
+fn answer_on(alloc: Global, certificate: &SharedCertificate) -> Result<Answer, NoMemory>
+    requires some { 0 < length certificate.now.cert.nodes }
+    requires few { length certificate.now.cert.nodes < 2 ^ 32 }
+    ensures line { IfOk result (λ answer. IsAnswerTo (Ok (record { winner = certificate.now.winner; cert = expansion certificate.now.cert })) answer.line) }
+    ensures accepted { IfOk result (λ answer. IsTrue answer.accepted ↔ IsValidAtFirst (record { winner = certificate.now.winner; cert = expansion certificate.now.cert })) }
 {
     let nodes = certificate.cert.nodes();
     let winner = certificate.winner;
-    match check(alloc, &nodes[0].position, winner, &certificate.cert)? {
+    match check_shared(alloc, &nodes[0].position, winner, &certificate.cert)? {
         Checked::Accepted => Ok(Answer {
             accepted: true,
             line: accepted_line(alloc, winner)?,

@@ -11,3 +11,4 @@ mod SharedParts
 mod Plain
 mod LinesAgain
 mod Rereading
+pub mod EitherVersion

@@ -6,7 +6,7 @@ ghost use Rattle.cert_text.specs.declared.faults.CertKind.TheVariants.{NoMemory 
 ghost use Rattle.cert_text.specs.SharedSpelled.{shared_text};
 ghost use Rattle.cert_text.specs.Texts.{cert_of};
 ghost use Rattle.cert_text.specs.SharedTexts.{shared_cert_of};
-ghost use Rattle.cert_text.specs.Versions.{is_first_version, IsMigrated};
+ghost use Rattle.cert_text.specs.Versions.{is_first_version, any_cert_of, IsMigrated};
 
 use crate::faults::CertFault;
 use crate::reader::read;
@@ -27,6 +27,8 @@ fn begins_as_first(bytes: &[u8]) -> bool
 /// The shared certificate of a text of either version, told by its first line: of version 2 the one that it is the text of,
 /// of version 1 one whose expansion that is. A text whose first line is neither has its fault there.
 pub fn read_any(alloc: Global, bytes: &[u8]) -> Result<SharedCertificate, CertFault>
+    ensures value { IfOk result (λ read. any_cert_of bytes.now ≡ Ok (record { winner = read.winner; cert = expansion read.cert })) }
+    ensures fault { IfErr result (λ fault. fault.kind ≢ Wanting → any_cert_of bytes.now ≡ Err fault) }
     ensures first { IfOk result (λ read. IsTrue (is_first_version bytes.now) → cert_of bytes.now ≡ Ok (record { winner = read.winner; cert = expansion read.cert })) }
     ensures second { IfOk result (λ read. IsTrue (not (is_first_version bytes.now)) → shared_cert_of bytes.now ≡ Ok read) }
     ensures first_fault { IfErr result (λ fault. fault.kind ≢ Wanting → IsTrue (is_first_version bytes.now) → cert_of bytes.now ≡ Err fault) }

@@ -16,7 +16,7 @@ end
 ";
 
 /// Certificates that are accepted, with the winner.
-pub const ACCEPTED: [Row; 9] = [
+pub const ACCEPTED: [Row; 12] = [
     (FORCED, "accepted w\n"),
     // Two bare kings, for either side.
     (
@@ -56,10 +56,23 @@ pub const ACCEPTED: [Row; 9] = [
         "cha-cert 1\nwinner w\nnodes 2\ninner 7k/5Q2/6K1/8/8/8/8/8 b - -\nleaf 4k3/8/8/8/8/8/8/4K3 w - -\nloose 1000000000000010\nreach e1 K ffffffffffffffff\nreach e8 K ffffffffffffffff\nend\n",
         "accepted w\n",
     ),
+    // Version 2: the sets first, a leaf with their number, small material, and sets that no leaf names.
+    (
+        "cha-cert 2\nwinner w\nsets 1\nloose 1000000000000010\nreach e1 K ffffffffffffffff\nreach e8 K ffffffffffffffff\nnodes 1\nleaf 0 4k3/8/8/8/8/8/8/4K3 w - -\nend\n",
+        "accepted w\n",
+    ),
+    (
+        "cha-cert 2\nwinner w\nsets 0\nnodes 1\nsmall 8/8/8/4k3/3q4/8/8/4KN2 w - -\nend\n",
+        "accepted w\n",
+    ),
+    (
+        "cha-cert 2\nwinner w\nsets 1\nloose 0000000000000000\nnodes 1\ninner 7k/5Q2/6K1/8/8/8/8/8 b - -\nend\n",
+        "accepted w\n",
+    ),
 ];
 
 /// Certificates that are refused, with the node or the line.
-pub const REFUSED: [Row; 26] = [
+pub const REFUSED: [Row; 37] = [
     // The capture leads to no node.
     (
         "cha-cert 1\nwinner w\nnodes 1\ninner k7/1Q6/8/8/8/8/8/4K3 b - -\nend\n",
@@ -92,7 +105,7 @@ pub const REFUSED: [Row; 26] = [
     ),
     ("", "refused: line 1 header\n"),
     ("cha-cert 1", "refused: line 1 header\n"),
-    ("cha-cert 2\nwinner w\n", "refused: line 1 header\n"),
+    ("cha-cert 3\nwinner w\n", "refused: line 1 header\n"),
     ("cha-cert 1\r\nwinner w\n", "refused: line 1 header\n"),
     ("cha-cert 1\n", "refused: line 2 winner\n"),
     ("cha-cert 1\nwinner white\n", "refused: line 2 winner\n"),
@@ -152,5 +165,51 @@ pub const REFUSED: [Row; 26] = [
     (
         "cha-cert 1\nwinner w\nnodes 1\ninner 7k/5Q2/6K1/8/8/8/8/8 b - -\nend\n\n",
         "refused: line 6 end\n",
+    ),
+    // Version 2.
+    (
+        "cha-cert 2\nwinner w\nsets 1\nloose 1000000000000010\nreach e1 K ffffffffffffffff\nreach e8 K ffffffffffffffff\nnodes 1\nleaf 1 4k3/8/8/8/8/8/8/4K3 w - -\nend\n",
+        "refused: line 8 node\n",
+    ),
+    (
+        "cha-cert 2\nwinner w\nsets 2\nloose 1000000000000010\nreach e1 K ffffffffffffffff\nreach e8 K ffffffffffffffff\nnodes 1\nleaf 0 4k3/8/8/8/8/8/8/4K3 w - -\nend\n",
+        "refused: line 7 loose\n",
+    ),
+    (
+        "cha-cert 2\nwinner w\nsets 01\nloose 1000000000000010\nreach e1 K ffffffffffffffff\nreach e8 K ffffffffffffffff\nnodes 1\nleaf 0 4k3/8/8/8/8/8/8/4K3 w - -\nend\n",
+        "refused: line 3 sets\n",
+    ),
+    (
+        "cha-cert 2\nwinner w\nsets 0\nloose 1000000000000010\nreach e1 K ffffffffffffffff\nreach e8 K ffffffffffffffff\nnodes 1\nleaf 0 4k3/8/8/8/8/8/8/4K3 w - -\nend\n",
+        "refused: line 4 count\n",
+    ),
+    (
+        "cha-cert 2\nwinner w\nsets 1\nloose 1000000000000010\nreach e1 K ffffffffffffffff\nreach e8 K ffffffffffffffff\nnodes 1\nleaf 00 4k3/8/8/8/8/8/8/4K3 w - -\nend\n",
+        "refused: line 8 node\n",
+    ),
+    (
+        "cha-cert 2\nwinner w\nsets 1\nloose 1000000000000010\nreach e1 K ffffffffffffffff\nreach e8 K ffffffffffffffff\nnodes 1\nleaf 4k3/8/8/8/8/8/8/4K3 w - -\nend\n",
+        "refused: line 8 node\n",
+    ),
+    (
+        "cha-cert 1\nwinner w\nsets 1\nloose 1000000000000010\nreach e1 K ffffffffffffffff\nreach e8 K ffffffffffffffff\nnodes 1\nleaf 0 4k3/8/8/8/8/8/8/4K3 w - -\nend\n",
+        "refused: line 3 count\n",
+    ),
+    (
+        "cha-cert 2\nwinner w\n",
+        "refused: line 3 sets\n",
+    ),
+    (
+        "cha-cert 2\nwinner w\nsets 0\nnodes 1\nsmall 8/8/8/4k3/3r4/8/8/4KN2 w - -\nend\n",
+        "refused: node 0\n",
+    ),
+    (
+        "cha-cert 2\nwinner w\nsets 0\nnodes 1\nsmall 4k3/8/8/8/8/8/4P3/4K3 w - -\nend\n",
+        "refused: node 0\n",
+    ),
+    // Version 1 has no line for small material.
+    (
+        "cha-cert 1\nwinner w\nnodes 1\nsmall 8/8/8/4k3/3q4/8/8/4KN2 w - -\nend\n",
+        "refused: line 4 node\n",
     ),
 ];

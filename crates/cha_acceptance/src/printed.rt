@@ -12,22 +12,24 @@ const BARE_KINGS: &str = "\
 game 1
 fen: 4k3/8/8/8/8/8/8/4K3 w - -
 white: unwinnable
-cha-cert 1
+cha-cert 2
 winner w
-nodes 1
-leaf 4k3/8/8/8/8/8/8/4K3 w - -
+sets 1
 loose 1000000000000010
 reach e1 K ffffffffffffffff
 reach e8 K ffffffffffffffff
+nodes 1
+leaf 0 4k3/8/8/8/8/8/8/4K3 w - -
 end
 black: unwinnable
-cha-cert 1
+cha-cert 2
 winner b
-nodes 1
-leaf 4k3/8/8/8/8/8/8/4K3 w - -
+sets 1
 loose 1000000000000010
 reach e1 K ffffffffffffffff
 reach e8 K ffffffffffffffff
+nodes 1
+leaf 0 4k3/8/8/8/8/8/8/4K3 w - -
 end
 status: dead
 result: * -> 1/2-1/2 by 5.2.2
@@ -39,10 +41,9 @@ const BISHOP_BEYOND: &str = "\
 position 1
 fen: 4k3/7B/8/p1p1p1p1/P1P1P1P1/8/8/4K3 w - -
 white: unwinnable
-cha-cert 1
+cha-cert 2
 winner w
-nodes 1
-leaf 4k3/7B/8/p1p1p1p1/P1P1P1P1/8/8/4K3 w - -
+sets 1
 loose 1080000000000010
 reach e1 K 0000000000ffffff
 reach a4 P 0000000001000000
@@ -55,12 +56,13 @@ reach e5 P 0000001000000000
 reach g5 P 0000004000000000
 reach h7 B 55aa55aa00000000
 reach e8 K ffffff0000000000
+nodes 1
+leaf 0 4k3/7B/8/p1p1p1p1/P1P1P1P1/8/8/4K3 w - -
 end
 black: unwinnable
-cha-cert 1
+cha-cert 2
 winner b
-nodes 1
-leaf 4k3/7B/8/p1p1p1p1/P1P1P1P1/8/8/4K3 w - -
+sets 1
 loose 1080000000000010
 reach e1 K 0000000000ffffff
 reach a4 P 0000000001000000
@@ -73,6 +75,8 @@ reach e5 P 0000001000000000
 reach g5 P 0000004000000000
 reach h7 B 55aa55aa00000000
 reach e8 K ffffff0000000000
+nodes 1
+leaf 0 4k3/7B/8/p1p1p1p1/P1P1P1P1/8/8/4K3 w - -
 end
 status: dead
 positions: 1, refused: 0, dead: 1, undecided: 0
@@ -83,14 +87,15 @@ const BARE_WHITE: &str = "\
 position 1
 fen: 8/8/8/8/8/1k6/7r/K7 w - -
 white: unwinnable
-cha-cert 1
+cha-cert 2
 winner w
-nodes 1
-leaf 8/8/8/8/8/1k6/7r/K7 w - -
+sets 1
 loose 0000000000028001
 reach a1 K ffffffffffffffff
 reach h2 R ffffffffffffffff
 reach b3 K ffffffffffffffff
+nodes 1
+leaf 0 8/8/8/8/8/1k6/7r/K7 w - -
 end
 black: winnable in 2: a1b1 h2h1
 status: live
@@ -124,7 +129,7 @@ fn certificates_in(alloc: Global, report: &str) -> Result<Vec<String>, Fail> {
     let mut text = String::new(alloc);
     let mut inside = false;
     for line in report.lines() {
-        inside = inside || line == "cha-cert 1";
+        inside = inside || line == "cha-cert 2";
         if inside {
             text.push_str(line)?;
             text.push('\n')?;

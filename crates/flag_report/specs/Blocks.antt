@@ -9,7 +9,8 @@ use Rattle.cha_moves.specs.Step.{Move}
 use Rattle.cha_moves.specs.Texts.{move_bytes}
 use Rattle.cha_moves.specs.declared.ends.Standing.{Standing}
 use Rattle.cha_moves.specs.declared.ends.Standing.TheVariants.{Mate, Stalemate, Running}
-use Rattle.cert_text.specs.Spelled.{cert_text}
+use Rattle.cha_cert.specs.Shared.{shared_of}
+use Rattle.cert_text.specs.SharedSpelled.{shared_text}
 use Rattle.cha_verdict.specs.declared.verdicts.Verdict.{Verdict}
 use Rattle.cha_verdict.specs.declared.verdicts.Verdict.TheVariants.{Winnable, Unwinnable, Undecided, Skipped}
 use Rattle.cha_verdict.specs.Verdicts.{is_winnable, are_dead}
@@ -46,10 +47,10 @@ verdict_text (Unwinnable cert) = codes "unwinnable"
 verdict_text (Undecided units depth) = undecided_text units depth
 verdict_text Skipped = codes "skipped"
 
--- the certificate of a side that cannot mate, where certificates are printed
+-- the certificate of a side that cannot mate, its equal sets written once, where certificates are printed
 unfoldable pub cert_part : Bool → Color → Verdict → List ℕ
 cert_part certs winner (Winnable moves) = []
-cert_part certs winner (Unwinnable cert) = if certs then cert_text winner cert else []
+cert_part certs winner (Unwinnable cert) = if certs then shared_text winner (shared_of cert) else []
 cert_part certs winner (Undecided units depth) = []
 cert_part certs winner Skipped = []
 

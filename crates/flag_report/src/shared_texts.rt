@@ -7,8 +7,9 @@ ghost use Rattle.cha_verdict.specs.declared.verdicts.Verdict.TheVariants.{Unwinn
 ghost use Rattle.cha_fen.specs.Written.{fen_text};
 
 use crate::status::{put_status, status_of};
+use cert_text::write2;
 use cha_board::{Color, Position};
-use cha_cert::Cert;
+use cha_cert::{Cert, share};
 use cha_fen::write;
 use cha_list::{NoMemory, Text};
 use cha_moves::{Move, Standing, move_text};
@@ -102,7 +103,8 @@ pub fn put_cert(
     if !certs {
         return Ok(());
     }
-    let written = cert_text::write(alloc, winner, cert)?;
+    let shared = share(alloc, cert)?;
+    let written = write2(alloc, winner, &shared)?;
     text.append(written.items())
 }
 

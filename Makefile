@@ -2,10 +2,12 @@
 # make run        shows it on a sample
 # make test       the gate: all proofs, must-fail edits, tests and programs
 # make install    copies the program to PREFIX/bin (PREFIX=/usr/local)
+# make lib        builds libcha.a and libcha.so; make install-lib copies them, the header and cha.pc
+# make lib-test   runs both from C, under sanitizers, and from Python
 PREFIX ?= /usr/local
 PROGRAM = crates/cha_main/out/cha_main
 
-.PHONY: all run test install clean kit
+.PHONY: all run test install clean kit lib lib-test install-lib
 
 all: cha
 
@@ -26,5 +28,33 @@ install: cha
 	install -d $(DESTDIR)$(PREFIX)/bin
 	install -m 755 cha $(DESTDIR)$(PREFIX)/bin/cha
 
+# The library's own code and the few lines of C by which it takes memory.
+LIBRARY = crates/cha_c/out/libcha_c.a
+HEAP = $(dir $(shell rt doc 2>/dev/null))c/liblibc_c.a
+
+lib: libcha.a libcha.so
+
+$(LIBRARY): kit
+	@cd crates/cha_c && rt lib
+
+libcha.a: $(LIBRARY)
+	@rm -f $@
+	@printf 'create $@\naddlib $(LIBRARY)\naddlib $(HEAP)\nsave\nend\n' | $(AR) -M
+
+libcha.so: $(LIBRARY)
+	@$(CC) -shared -o $@ -Wl,--version-script=library/exports.map -Wl,--whole-archive $(LIBRARY) -Wl,--no-whole-archive $(HEAP)
+
+lib-test: lib cha
+	$(CC) -std=c11 -Wall -Wextra -g -fsanitize=address,undefined -Iinclude -Wl,--wrap=malloc,--wrap=realloc,--wrap=free -o library/test library/test.c libcha.a
+	./library/test
+	CHA_LIBRARY=./libcha.so python3 library/test.py ./cha $(FILES)
+
+install-lib: lib
+	install -d $(DESTDIR)$(PREFIX)/lib/pkgconfig $(DESTDIR)$(PREFIX)/include
+	install -m 644 include/cha.h $(DESTDIR)$(PREFIX)/include/cha.h
+	install -m 644 libcha.a $(DESTDIR)$(PREFIX)/lib/libcha.a
+	install -m 755 libcha.so $(DESTDIR)$(PREFIX)/lib/libcha.so
+	sed 's|@PREFIX@|$(PREFIX)|' library/cha.pc.in > $(DESTDIR)$(PREFIX)/lib/pkgconfig/cha.pc
+
 clean:
-	rm -rf cha crates/*/out
+	rm -rf cha libcha.a libcha.so library/test crates/*/out

@@ -1,0 +1,51 @@
+/* cha: what neither side can mate, in one's own process. See docs/LIBRARY.md.
+ *
+ * Both functions keep nothing between two calls, start no thread, and may be called from several threads at once. They take memory
+ * by malloc and realloc and give it back by free before they return. They read no file and no environment.
+ *
+ * Each pointer must be valid for its length, also where that is 0, and never null; the output must not overlap the inputs. A call
+ * wants a stack of 256 kB.
+ */
+#ifndef CHA_H
+#define CHA_H
+
+#include <stddef.h>
+#include <stdint.h>
+
+#ifdef __cplusplus
+extern "C" {
+#endif
+
+/* What cha_run and cha_check answer. */
+enum cha_answer {
+    CHA_DONE = 0,         /* the whole input was judged; of a certificate, that it is accepted */
+    CHA_USAGE = 1,        /* the words are not in the language of the command words */
+    CHA_TOO_LONG = 4,     /* the input has more than 268,435,456 bytes */
+    CHA_NO_MEMORY = 5,    /* malloc or realloc refused memory */
+    CHA_NOT_ACCEPTED = 6, /* the certificate is not accepted */
+    CHA_NO_ROOM = 7       /* the output is longer than its room */
+};
+
+/* Does what command words order with an input, as the program cha does with its words and its standard input, and writes what the
+ * program prints to the front of out.
+ *
+ * words, words_len  the words behind the program's name in UTF-8, with one zero byte between two of them ("position\0--certs")
+ * input, input_len  what the program reads: PGN, FEN lines or the text of a certificate
+ * out, out_len      room for the output
+ * used              afterwards how many bytes the output has; written in every case
+ *
+ * Where the answer is CHA_NO_ROOM, nothing was written, and a call with *used bytes of room has enough. Options for threads change
+ * nothing: one thread does the work.
+ */
+uint8_t cha_run(const uint8_t *words, size_t words_len, const uint8_t *input, size_t input_len, uint8_t *out, size_t out_len,
+                size_t *used);
+
+/* Checks the text of a certificate. CHA_DONE means: in the position of its first node, no series of legal moves mates for its side.
+ * CHA_NOT_ACCEPTED: the bytes are no certificate, or one that does not hold. */
+uint8_t cha_check(const uint8_t *text, size_t text_len);
+
+#ifdef __cplusplus
+}
+#endif
+
+#endif

@@ -1,0 +1,58 @@
+"""The library from Python: examples in docstrings, and reports beside the program's, also from two threads at once.
+
+    CHA_LIBRARY=./libcha.so python3 library/test.py ./cha [FILE ..]
+
+Files that end in .pgn are adjudicated, others are read as positions.
+"""
+
+import doctest
+import os
+import subprocess
+import sys
+import threading
+import unittest
+
+TOP = os.path.dirname(os.path.dirname(os.path.abspath(__file__)))
+sys.path.insert(0, os.path.join(TOP, "python"))
+
+import cha  # noqa: E402
+import cha._calls  # noqa: E402
+import cha._reports  # noqa: E402
+
+PROGRAM, FILES = sys.argv[1], sys.argv[2:]
+
+
+def printed(words, data):
+    return subprocess.run([PROGRAM, *words], input=data, stdout=subprocess.PIPE, check=True).stdout
+
+
+class Library(unittest.TestCase):
+    def test_examples(self):
+        for module in (cha, cha._calls, cha._reports):
+            self.assertEqual(doctest.testmod(module).failed, 0)
+
+    def test_reports_are_the_programs(self):
+        for path in [os.path.join(TOP, "docs", "sample.pgn"), *FILES]:
+            with open(path, "rb") as file:
+                data = file.read()
+            words = ["adjudicate" if path.endswith(".pgn") else "position", "--certs", "--workers=1"]
+            self.assertEqual(cha.report(words, data), printed(words, data), path)
+
+    def test_two_threads_at_once(self):
+        data = b"8/8/8/4k3/3q4/8/8/4KN2 w - -\n" * 20
+        wanted, found = cha.report(["position"], data), []
+        threads = [threading.Thread(target=lambda: found.append(cha.report(["position"], data))) for _ in range(2)]
+        for thread in threads:
+            thread.start()
+        for thread in threads:
+            thread.join()
+        self.assertEqual(found, [wanted, wanted])
+
+    def test_errors_have_their_kind(self):
+        self.assertRaises(cha.UsageError, cha.report, ["gen", "1"], "")
+        self.assertEqual([found.reason for found in cha.games("1. e4 ] *")], ["bad token at byte 6"])
+        [found] = cha.positions("8/8/8/4k3/8/8/8/4KR2 w - -", budget=1, depth=2)
+        self.assertEqual((found.white.kind, found.white.positions, found.white.depth), ("undecided", 1, 2))
+
+
+unittest.main(argv=sys.argv[:1])

@@ -12,7 +12,7 @@ use Rattle.cha_verdict.specs.declared.scans.Edge.TheVariants.{Start, Live, Uncle
 use Rattle.cha_verdict.specs.declared.scans.EarlierCerts.{EarlierCerts}
 use Rattle.cha_verdict.specs.declared.scans.Scan.{Scan}
 use Rattle.cha_verdict.specs.Bounds.{Bounds}
-use Rattle.cha_verdict.specs.Verdicts.{is_winnable, is_undecided, IsPrintable}
+use Rattle.cha_verdict.specs.Verdicts.{is_winnable, is_undecided, are_dead, IsPrintable}
 use Rattle.cha_verdict.specs.Sound.{IsSound}
 
 -- certificates for both sides are valid for a position
@@ -53,6 +53,11 @@ HasEdge qs first limits ply Unclear = IsOpenBefore qs first limits ply Unclear
 pub record IsSoundScan (qs : List Board) (first : Color) (limits : Bounds) (scan : Scan) : Type 0 where
   pub earlier : IsEarlier qs scan.ply scan.earlier
   pub edge : HasEdge qs first limits scan.ply scan.edge
+
+-- verdicts on the last position that show it dead come with a sound scan, and others with none
+abbrev pub HasScan : List Board → Color → Bounds → Decision → Option Scan → Type 0
+HasScan qs first limits last None = are_dead last.white last.black ≡ false
+HasScan qs first limits last (Some scan) = (are_dead last.white last.black ≡ true) × IsSoundScan qs first limits scan
 
 -- the certificates of a scan can be printed
 abbrev pub IsPrintableScan : Option EarlierCerts → Type 0

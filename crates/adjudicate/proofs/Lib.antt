@@ -4,5 +4,6 @@ pub mod Progress
 pub mod RunEndings
 pub mod Answering
 pub mod PlayedGames
+pub mod Scanned
 pub mod GameLoop
 pub mod LineLoop

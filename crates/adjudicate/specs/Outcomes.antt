@@ -25,16 +25,18 @@ use Rattle.flag_report.specs.Rulings.{ruling_of, first_of, is_changed}
 use Rattle.flag_report.specs.Blocks.{status_of, is_dead, position_text, refused_text}
 use Rattle.flag_report.specs.Games.{game_text, unreadable_text}
 use Rattle.cha_verdict.specs.declared.decisions.Decision.{Decision}
+use Rattle.cha_verdict.specs.declared.scans.Scan.{Scan}
 use Rattle.cha_verdict.specs.Bounds.{Bounds}
 use Rattle.cha_verdict.specs.Sound.{IsSound}
+use Rattle.cha_verdict.specs.Scans.{HasScan}
 use Rattle.adjudicate.specs.Lines.{lines}
 
--- an item of an input: a line that is a position, a line that is none, a game that was played to a position, with its
--- recorded result and whether it was lost on time, or a game that cannot be read
+-- an item of an input: a line that is a position, a line that is none, a game that was played to a position, with all its
+-- positions from the start on, its recorded result and whether it was lost on time, or a game that cannot be read
 pub data Item : Type 0 where
   PositionLine : Board → Item
   RefusedLine : FenFault → Item
-  PlayedGame : Board → ResultMark → Bool → Item
+  PlayedGame : Board → List Board → ResultMark → Bool → Item
   UnreadableGame : Unreadable → Item
 
 -- the most bytes that a line may have
@@ -67,14 +69,14 @@ stopped_by game stop = Moves stop.ply (slice_index_or game.words (stop.ply - 1) 
 
 -- the item of a game whose words gave these positions, or not
 abbrev pub played_item : Game → Result (List Board) PlayFault → Item
-played_item game (Ok qs) = PlayedGame (final_of game.start qs) game.recorded game.forfeit
+played_item game (Ok qs) = PlayedGame (final_of game.start qs) qs game.recorded game.forfeit
 played_item game (Err stop) = UnreadableGame (stopped_by game stop)
 
 abbrev pub item_unless : Option GameFault → Game → Item
 item_unless None game = played_item game (positions game.start game.words)
 item_unless (Some fault) game = UnreadableGame (Tokens fault)
 
--- the item of a game: its first fault, or else its first word that names no move, or else its final position
+-- the item of a game: its first fault, or else its first word that names no move, or else its positions
 unfoldable pub game_item : Game → Item
 game_item game = item_unless game.fault game
 
@@ -82,25 +84,26 @@ game_item game = item_unless game.fault game
 abbrev pub game_items : List ℕ → List Item
 game_items bytes = map game_item (games bytes)
 
--- what is found about an item: the verdicts on a position, or on the final position of a game, or nothing
+-- what is found about an item: the verdicts on a position, or on the final position of a game, and from where on the game was dead,
+-- or nothing
 pub data Outcome : Type 0 where
   JudgedPosition : Board → Decision → Outcome
   Refused : FenFault → Outcome
-  JudgedGame : Board → ResultMark → Bool → Decision → Outcome
+  JudgedGame : Board → List Board → ResultMark → Bool → Decision → Option Scan → Outcome
   GivenUp : Unreadable → Outcome
 
 -- the item that an outcome is of
 unfoldable pub item_of : Outcome → Item
 item_of (JudgedPosition q d) = PositionLine q
 item_of (Refused fault) = RefusedLine fault
-item_of (JudgedGame q recorded forfeit d) = PlayedGame q recorded forfeit
+item_of (JudgedGame q qs recorded forfeit d scan) = PlayedGame q qs recorded forfeit
 item_of (GivenUp why) = UnreadableGame why
 
--- the verdicts are true of the position
+-- the verdicts are true of the position; a game whose final position they show dead has a sound scan, and no other has one
 unfoldable pub IsSoundOutcome : Bounds → Outcome → Type 0
 IsSoundOutcome limits (JudgedPosition q d) = IsSound q White limits d
 IsSoundOutcome limits (Refused fault) = ⊤
-IsSoundOutcome limits (JudgedGame q recorded forfeit d) = IsSound q (first_of recorded) limits d
+IsSoundOutcome limits (JudgedGame q qs recorded forfeit d scan) = IsSound q (first_of recorded) limits d × HasScan qs (first_of recorded) limits d scan
 IsSoundOutcome limits (GivenUp why) = ⊤
 
 -- each outcome is sound
@@ -108,15 +111,20 @@ abbrev pub AllSound : Bounds → List Outcome → Type 0
 AllSound limits [] = ⊤
 AllSound limits (o ∷ os) = IsSoundOutcome limits o × AllSound limits os
 
--- the result of a game, by its final position and the verdicts on it
-abbrev pub judgment_of : Board → ResultMark → Bool → Decision → Judgment
-judgment_of q recorded forfeit d = ruling_of (standing_of q) recorded forfeit d.white d.black
+-- a position before the last one was dead: the ply of the scan is below the number of moves
+abbrev pub was_dead : List Board → Option Scan → Bool
+was_dead qs None = false
+was_dead qs (Some scan) = nat_lt (scan.ply + 1) (length qs)
+
+-- the result of a game, by its final position, the verdicts on it, and whether it was dead before
+abbrev pub judgment_of : Board → List Board → ResultMark → Bool → Decision → Option Scan → Judgment
+judgment_of q qs recorded forfeit d scan = ruling_of (standing_of q) recorded forfeit d.white d.black (was_dead qs scan)
 
 -- the block of an outcome under a number, with or without certificates
 unfoldable pub block : Bool → ℕ → Outcome → List ℕ
 block certs number (JudgedPosition q d) = position_text number q (standing_of q) d.white d.black certs
 block certs number (Refused fault) = refused_text number fault
-block certs number (JudgedGame q recorded forfeit d) = game_text number q (standing_of q) recorded d.white d.black (judgment_of q recorded forfeit d) certs
+block certs number (JudgedGame q qs recorded forfeit d scan) = game_text number q (standing_of q) recorded d.white d.black scan (judgment_of q qs recorded forfeit d scan) certs
 block certs number (GivenUp why) = unreadable_text number why
 
 -- the blocks of outcomes, numbered from here on
@@ -139,7 +147,7 @@ is_unreadable (GivenUp why) = true
 is_unreadable _ = false
 
 unfoldable pub is_changed_game : Outcome → Bool
-is_changed_game (JudgedGame q recorded forfeit d) = is_changed recorded (judgment_of q recorded forfeit d).mark
+is_changed_game (JudgedGame q qs recorded forfeit d scan) = is_changed recorded (judgment_of q qs recorded forfeit d scan).mark
 is_changed_game _ = false
 
 -- a side of which nothing was shown
@@ -149,7 +157,7 @@ has_open_side d = is_undecided d.white || is_undecided d.black
 unfoldable pub is_open : Outcome → Bool
 is_open (JudgedPosition q d) = has_open_side d
 is_open (Refused fault) = false
-is_open (JudgedGame q recorded forfeit d) = has_open_side d
+is_open (JudgedGame q qs recorded forfeit d scan) = has_open_side d
 is_open (GivenUp why) = false
 
 -- what is counted over the outcomes of games and of positions

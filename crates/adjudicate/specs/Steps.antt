@@ -4,6 +4,10 @@ use Rattle.cha_outside.specs.Faults.{Rose}
 use Rattle.flag_report.specs.declared.totals.GameTotals.{GameTotals}
 use Rattle.flag_report.specs.declared.totals.PositionTotals.{PositionTotals}
 use Rattle.cha_verdict.specs.Bounds.{Bounds}
+use Rattle.cha_board.specs.Board.{Board}
+use Rattle.pgn_games.specs.declared.played.Game.{Game}
+use Rattle.cha_verdict.specs.declared.decisions.Decision.{Decision}
+use Rattle.cha_verdict.specs.declared.scans.Scan.{Scan}
 use Rattle.adjudicate.specs.declared.judging.LineBlock.{LineBlock}
 use Rattle.adjudicate.specs.declared.playing.GameBlock.{GameBlock}
 use Rattle.cha_words.specs.declared.orders.Order.{Order}
@@ -12,6 +16,7 @@ use Rattle.adjudicate.specs.declared.endings.Status.TheVariants.{Done, Usage, Re
 use Rattle.adjudicate.specs.Checks.{IsAccepted}
 use Rattle.adjudicate.specs.Report.{IsReport, HasBegun, HasWholeBlocks}
 use Rattle.adjudicate.specs.Runs.{Grew}
+use Rattle.adjudicate.specs.Outcomes.Outcome.{JudgedGame}
 use Rattle.adjudicate.specs.Outcomes.{Item, Outcome, item_of, IsSoundOutcome, block, is_refused, is_dead_position, is_unreadable, is_changed_game, is_open, AllSound, game_totals}
 
 abbrev pub one_if : Bool → ℕ
@@ -61,6 +66,14 @@ Judges counted limits certs item number s text totals =
 
 abbrev pub JudgesGame : Bounds → Bool → Item → GameTotals → GameBlock → Type 0
 JudgesGame limits certs item s judged = Judges game_counted limits certs item s.games s judged.block judged.totals
+
+-- the block of a game under the next number, by the verdicts on its final position and its scan, and the totals with it
+abbrev pub outcome_of : Game → Board → List Board → Decision → Option Scan → Outcome
+outcome_of game q qs d scan = JudgedGame q qs game.recorded game.forfeit d scan
+
+pub record IsReported (game : Game) (q : Board) (qs : List Board) (d : Decision) (scan : Option Scan) (certs : Bool) (s : GameTotals) (judged : GameBlock) : Type 0 where
+  pub block : judged.block ≡ block certs (s.games + 1) (outcome_of game q qs d scan)
+  pub totals : judged.totals ≡ game_counted s (outcome_of game q qs d scan)
 
 abbrev pub JudgesLine : Bounds → Bool → Item → PositionTotals → LineBlock → Type 0
 JudgesLine limits certs item s judged = Judges line_counted limits certs item s.positions s judged.block judged.totals

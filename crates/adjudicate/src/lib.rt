@@ -20,7 +20,7 @@ mod top;
 mod writing;
 
 pub use alone::run_alone;
-pub use cha_decide::{decide, decide_by};
+pub use cha_decide::{decide, decide_by, scan_back, scan_by};
 pub use cha_words::{Order, parse};
 pub use endings::Status;
 pub use root_workers::{Gate, OpenGate};

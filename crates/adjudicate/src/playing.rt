@@ -1,25 +1,28 @@
 //! What is found about one game.
 
-ghost use Rattle.std.specs.Prelude.{◌≡◌, ◌≤◌, Bool, None, length, IfOk};
-ghost use Rattle.adjudicate.specs.Outcomes.{game_item, played_item, stopped_by};
+ghost use Rattle.std.specs.Prelude.{◌≡◌, ◌<◌, ◌≤◌, Bool, None, Ok, length, IfOk, IfSome};
+ghost use Rattle.std.specs.Option.{option_map};
+ghost use Rattle.cha_verdict.specs.Verdicts.{IsPrintable};
+ghost use Rattle.flag_report.specs.Scans.{CanBeTold};
+ghost use Rattle.adjudicate.specs.Outcomes.{game_item, played_item, stopped_by, was_dead as was_dead_before};
 ghost use Rattle.flag_report.specs.Reasons.{IsReason, IsNotWantOfMemory};
 ghost use Rattle.std.specs.Bool.{OnTrue, OnFalse};
 ghost use Rattle.cha_san.specs.Playing.{positions};
 ghost use Rattle.cha_verdict.specs.Bounds.{Bounds};
-ghost use Rattle.adjudicate.specs.Outcomes.Item.{PlayedGame, UnreadableGame};
-ghost use Rattle.adjudicate.specs.Steps.{JudgesGame, GameRoom, game_counted_as};
+ghost use Rattle.adjudicate.specs.Outcomes.Item.{UnreadableGame};
+ghost use Rattle.adjudicate.specs.Steps.{JudgesGame, IsReported, GameRoom, game_counted_as};
 
 use crate::judging::some_undecided;
 use cha_board::Position;
-use cha_decide::decide_by;
+use cha_decide::{decide_by, scan_by};
 use cha_list::{NoMemory, Text, text_of};
 use cha_moves::state;
 use cha_san::{PlayFault, SanFault, play};
-use cha_verdict::Limits;
+use cha_verdict::{Decision, Limits, Scan};
 use flag_report::{
     GameTotals, Unreadable, changes_result, first_examined, game_block, ruling, unreadable_block,
 };
-use pgn_games::{Game, ResultMark};
+use pgn_games::Game;
 use root_workers::{Crew, Gate};
 use std::alloc::Global;
 
@@ -71,21 +74,16 @@ fn judge_played<C: Crew>(
     ensures judged { IfOk result (JudgesGame limits.now certs (played_item game.now (positions game.now.start game.now.words)) totals.now) }
 {
     match play(alloc, game) {
-        Ok(played) => {
-            let all = played.items();
-            let last = all[all.len() - 1];
-            judge_final(
-                alloc,
-                &last,
-                game.recorded,
-                game.forfeit,
-                limits,
-                certs,
-                totals,
-                crew,
-                gate,
-            )
-        }
+        Ok(played) => judge_final(
+            alloc,
+            game,
+            played.items(),
+            limits,
+            certs,
+            totals,
+            crew,
+            gate,
+        ),
         Err(stop) => {
             if lacks_memory(stop.fault) {
                 return Err(NoMemory);
@@ -95,12 +93,11 @@ fn judge_played<C: Crew>(
     }
 }
 
-/// Judges the final position of a game.
+/// Judges the final position of a game, and from where on it was dead, if it is.
 fn judge_final<C: Crew>(
     alloc: Global,
-    position: &Position,
-    recorded: ResultMark,
-    forfeit: bool,
+    game: &Game,
+    positions: &[Position],
     limits: &Limits,
     certs: bool,
     totals: &GameTotals,
@@ -108,27 +105,73 @@ fn judge_final<C: Crew>(
     gate: &(dyn Gate + Sync),
 ) -> Result<GameBlock, NoMemory>
     requires room { GameRoom totals.now }
+    requires some { 0 < length positions.now }
+    requires few { length positions.now ≤ 12001 }
     requires ready { C.ready crew.old }
     ensures stays_ready { C.ready crew.new }
-    ensures judged { IfOk result (JudgesGame limits.now certs (PlayedGame position.now recorded forfeit) totals.now) }
+    ensures judged { IfOk result (JudgesGame limits.now certs (played_item game.now (Ok positions.now)) totals.now) }
 {
-    let decision = decide_by(
+    let first = first_examined(game.recorded);
+    let last = &positions[positions.len() - 1];
+    let decision = decide_by(alloc, last, first, limits, crew, gate)?;
+    let scan = scan_by(alloc, positions, first, &decision, limits, crew, gate)?;
+    report(
         alloc,
-        position,
-        first_examined(recorded),
-        limits,
-        crew,
-        gate,
-    )?;
+        game,
+        last,
+        positions,
+        &decision,
+        scan.as_ref(),
+        certs,
+        totals,
+    )
+}
+
+/// Whether a game was dead before its last position.
+fn was_dead(positions: &[Position], scan: Option<&Scan>) -> bool
+    ensures { result ≡ was_dead_before positions.now (option_map (λ s. s.now) scan.entry) }
+{
+    match scan {
+        Some(scan) => scan.ply as usize + 1 < positions.len(),
+        None => false,
+    }
+}
+
+/// The block of a game, and the totals with it, by the verdicts on its final position and from where on it was dead.
+fn report(
+    alloc: Global,
+    game: &Game,
+    position: &Position,
+    positions: &[Position],
+    decision: &Decision,
+    scan: Option<&Scan>,
+    certs: bool,
+    totals: &GameTotals,
+) -> Result<GameBlock, NoMemory>
+    requires room { GameRoom totals.now }
+    requires white { IsPrintable decision.now.white }
+    requires black { IsPrintable decision.now.black }
+    requires scan { IfSome (option_map (λ s. s.now) scan) CanBeTold }
+    ensures { IfOk result (IsReported game.now position.now positions.now decision.now (option_map (λ s. s.now) scan.entry) certs totals.now) }
+{
     let standing = state(position);
     let white = &decision.white;
     let black = &decision.black;
-    let judgment = ruling(standing, recorded, forfeit, white, black);
-    let number = totals.games + 1;
+    let earlier = was_dead(positions, scan);
+    let judgment = ruling(standing, game.recorded, game.forfeit, white, black, earlier);
     let block = game_block(
-        alloc, number, position, standing, recorded, white, black, judgment, certs,
+        alloc,
+        totals.games + 1,
+        position,
+        standing,
+        game.recorded,
+        white,
+        black,
+        scan,
+        judgment,
+        certs,
     )?;
-    let changed = changes_result(recorded, judgment);
+    let changed = changes_result(game.recorded, judgment);
     Ok(GameBlock {
         block,
         totals: with_game(totals, false, changed, some_undecided(white, black)),

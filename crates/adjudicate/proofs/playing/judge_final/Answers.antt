@@ -1,14 +1,8 @@
-use Rattle.std.proofs.Common.{refl}
-use Rattle.adjudicate.specs.Outcomes.{item_of, IsSoundOutcome, is_unreadable, is_changed_game, is_open, block}
-use Rattle.adjudicate.specs.Outcomes.Outcome.{JudgedGame}
+use Rattle.adjudicate.proofs.Scanned.{final_is, judged}
 use Rattle.adjudicate.proofs.playing.judge_final.Goals as goal
 
 pub returns-clause-judged : goal.returns-clause-judged
-unfolding item_of IsSoundOutcome is_unreadable is_changed_game is_open block
-returns-clause-judged g c = (
-  JudgedGame c.args.position.now c.args.recorded c.args.forfeit c.in_ok-decision.decision,
-  refl,
-  rw c.first_examined.ensures at c.in_ok-decision.ensures.sound,
-  rw (c.ruling-judgment.ensures, c.state-standing.ensures.value) at c.in_ok-block.ensures,
-  rw (c.changes_result-changed.ensures, c.ruling-judgment.ensures, c.state-standing.ensures.value, c.some_undecided.ensures) at c.with_game.ensures,
-)
+returns-clause-judged g c =
+    judged c.args.limits.now c.args.certs c.args.game.now c.index-positions-positions.result c.args.positions.now c.in_ok-decision.decision c.in_ok-scan.scan c.args.totals.now
+    (final_is c.args.positions.now c.args.game.now.start c.index-positions-positions.result c.requires.some c.index-positions-positions.is)
+    (rw c.first_examined-first.ensures at c.in_ok-decision.ensures.sound) (rw c.first_examined-first.ensures at c.in_ok-scan.ensures.scan) c.report.result (rw c.as_ref.ensures.value at c.report.ensures)

@@ -8,6 +8,8 @@
 mod answers;
 mod first;
 mod gather;
+#[cfg(test)]
+mod known;
 mod leading;
 mod least;
 mod parts;

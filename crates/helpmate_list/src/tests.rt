@@ -1,6 +1,7 @@
 //! Shortest mates of known positions, by crews of all sizes.
 
-use crate::{Lines, Shortest, least_mates, least_mates_alone};
+use crate::known::KNOWN;
+use crate::{Lines, MOST_LINES, Shortest, least_mates, least_mates_alone};
 use cha_board::{Color, Position};
 use cha_fen::read;
 use cha_moves::move_text;
@@ -61,6 +62,38 @@ fn all_shortest_lines_come_in_the_order_of_moves(rt: HostRuntime) -> Result<(), 
                 assert_eq!(rt; text_of(alloc, &lines)?.as_str(), wanted_lines);
             }
             Shortest::NoneWithin => panic!(rt; "{fen}"),
+        }
+    }
+    Ok(())
+}
+
+#[test]
+fn known_helpmates_are_as_many_as_a_plain_program_counts(rt: HostRuntime) -> Result<(), Fail> {
+    let alloc = rt.alloc();
+    for (fen, winner, wanted, count) in KNOWN {
+        let position = place(fen)?;
+        match least_mates(&rt, alloc, &position, winner, 4, 2)? {
+            Shortest::Found { plies, lines, more } => {
+                assert_eq!(rt; plies, wanted, "{fen}");
+                assert_eq!(rt; lines.items().len(), count.min(MOST_LINES), "{fen}");
+                assert_eq!(rt; more, MOST_LINES < count, "{fen}");
+            }
+            Shortest::NoneWithin => panic!(rt; "{fen}"),
+        }
+    }
+    Ok(())
+}
+
+#[test]
+fn a_ply_less_finds_none(rt: HostRuntime) -> Result<(), Fail> {
+    let alloc = rt.alloc();
+    for (fen, winner, plies, _count) in KNOWN {
+        if 1 < plies {
+            let position = place(fen)?;
+            match least_mates_alone(alloc, &position, winner, plies - 1)? {
+                Shortest::NoneWithin => {}
+                Shortest::Found { .. } => panic!(rt; "{fen}"),
+            }
         }
     }
     Ok(())

@@ -156,34 +156,36 @@ class Misfit(Exception):
 
 
 class Text:
-    """The lines of a certificate, taken one after the other."""
+    """The lines of a certificate, taken one after the other. A last line without its line feed is there, and fits nowhere."""
 
     def __init__(self, data):
         self.lines = data.split("\n")
-        self.rest = self.lines.pop()
+        self.whole = len(self.lines) - 1
+        if not self.lines[-1]:
+            self.lines.pop()
         self.taken = 0
 
     def next(self):
         return self.lines[self.taken] if self.taken < len(self.lines) else None
 
     def take(self, kind, pattern):
-        line = self.next()
-        found = None if line is None else re.fullmatch(pattern, line, re.ASCII)
+        found = re.fullmatch(pattern, self.next(), re.ASCII) if self.taken < self.whole else None
         if not found:
             raise Misfit(f"line {self.taken + 1} {kind}")
         self.taken += 1
         return found
 
 
-def read_position(text):
-    found = text.take("node", "(inner|leaf) (.*)")
+def read_node(text, pattern):
+    """A node line: what matches the pattern, and the position behind it."""
+    found = text.take("node", f"(?:{pattern}) (?P<fen>.*)")
     try:
-        position = read_fen(found[2])
+        position = read_fen(found["fen"])
     except Refused:
         position = None
-    if position is None or write_fen(position) != found[2]:
+    if position is None or write_fen(position) != found["fen"]:
         raise Misfit(f"line {text.taken} node")
-    return found[1], position
+    return found, position
 
 
 def squares_of(digits):
@@ -202,23 +204,67 @@ def read_sets(text):
     return sets
 
 
-def read_certificate(data):
-    text, nodes = Text(data), []
-    text.take("header", "cha-cert 1")
-    winner = text.take("winner", "winner ([wb])")[1]
-    count = int(text.take("count", "nodes ([1-9][0-9]*)")[1])
-    if count > MOST:
-        raise Misfit("line 3 count")
+def read_number(text, kind, word, least):
+    """A line with a number from least on, without leading zeros."""
+    found = int(text.take(kind, f"{word} (0|[1-9][0-9]*)")[1])
+    if not least <= found <= MOST:
+        raise Misfit(f"line {text.taken} {kind}")
+    return found
+
+
+def read_first(text):
+    """The nodes of version 1, each with its own sets, or with none where it is an inner node."""
+    count, nodes = read_number(text, "count", "nodes", 1), []
     while len(nodes) < count:
-        kind, position = read_position(text)
-        nodes.append((position, read_sets(text) if kind == "leaf" else None))
+        found, position = read_node(text, "(?P<kind>inner|leaf)")
+        nodes.append((position, read_sets(text) if found["kind"] == "leaf" else None))
+    return nodes
+
+
+def read_second(text):
+    """The nodes of version 2, whose leaves name sets that stand before them. A node of small material has the word `small`."""
+    sets, nodes = [], []
+    many = read_number(text, "sets", "sets", 0)
+    while len(sets) < many:
+        sets.append(read_sets(text))
+    count = read_number(text, "count", "nodes", 1)
+    while len(nodes) < count:
+        found, position = read_node(text, "inner|(?P<small>small)|leaf (?P<named>0|[1-9][0-9]*)")
+        if found["named"] is not None and int(found["named"]) >= many:
+            raise Misfit(f"line {text.taken} node")
+        nodes.append((position, sets[int(found["named"])] if found["named"] else found["small"]))
+    return nodes
+
+
+def read_certificate(data):
+    text = Text(data)
+    version = text.take("header", "cha-cert ([12])")[1]
+    winner = text.take("winner", "winner ([wb])")[1]
+    nodes = read_first(text) if version == "1" else read_second(text)
     text.take("end", "end")
-    if text.next() is not None or text.rest:
+    if text.next() is not None:
         raise Misfit(f"line {text.taken + 1} end")
     return winner, nodes
 
 
+# the men with which a lone knight or bishop never mates, whatever the squares
+HARMLESS = {"N": ("", "Q"), "B": ("", "Q", "R")}
+
+
+def is_small(position, winner):
+    """Whether no pawn is there, each side has at most one man beside its king, and the winner's never mates."""
+    beside = {"w": "", "b": ""}
+    for man in position.men:
+        if man is not None and man[1] != "K":
+            beside[man[0]] += man[1]
+    own, their = beside[winner], beside[other(winner)]
+    few = len(own) <= 1 and len(their) <= 1 and "P" not in own + their
+    return few and (not own or their in HARMLESS.get(own, ()))
+
+
 def holds(position, sets, known, winner):
+    if sets == "small":
+        return is_small(position, winner)
     if sets is not None:
         return is_closed(position, sets) and has_no_mate(position, sets, winner)
     return not is_mated(position, other(winner)) and all(after(position, move) in known for move in legal(position))

@@ -1,0 +1,39 @@
+/* Refuses one call of malloc, calloc or realloc, the one that REFUSE_AT numbers from 1, and tells at the end how many there were. */
+#define _GNU_SOURCE
+#include <dlfcn.h>
+#include <stdatomic.h>
+#include <stddef.h>
+#include <stdio.h>
+#include <stdlib.h>
+
+static atomic_long calls;
+static long refused_at = -1;
+
+static int refused(void) {
+    if (refused_at < 0) {
+        const char *number = getenv("REFUSE_AT");
+        refused_at = number ? atol(number) : 0;
+    }
+    return atomic_fetch_add(&calls, 1) + 1 == refused_at;
+}
+
+void *malloc(size_t size) {
+    static void *(*next)(size_t);
+    if (!next) next = (void *(*)(size_t))dlsym(RTLD_NEXT, "malloc");
+    return refused() ? NULL : next(size);
+}
+
+void *realloc(void *block, size_t size) {
+    static void *(*next)(void *, size_t);
+    if (!next) next = (void *(*)(void *, size_t))dlsym(RTLD_NEXT, "realloc");
+    return refused() ? NULL : next(block, size);
+}
+
+__attribute__((destructor)) static void tell(void) {
+    const char *file = getenv("REFUSE_TELLS");
+    FILE *out = file ? fopen(file, "w") : NULL;
+    if (out) {
+        fprintf(out, "%ld\n", atomic_load(&calls));
+        fclose(out);
+    }
+}

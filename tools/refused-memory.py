@@ -1,0 +1,73 @@
+#!/usr/bin/env python3
+"""Runs `cha` on known inputs with each allocation refused in turn, and says how the runs ended.
+
+    tools/refused-memory.py [PROGRAM]
+
+Each run ends with its usual output, or with status 5 and whole blocks of it, or, where a store or a thread went without memory, with
+status 0 and a whole sound report. The status of this script is 0 where all do. It wants a C compiler.
+"""
+import os
+import subprocess
+import sys
+import tempfile
+
+HERE = os.path.dirname(os.path.abspath(__file__))
+RUNS = [
+    (["adjudicate", "--certs"], '[FEN "4k3/8/8/8/8/8/8/4K3 w - -"]\n*'),
+    (["adjudicate"], "1. f3 e5 2. g4 Qh4# 0-1"),
+    (["adjudicate"], '[FEN "6k1/5ppp/8/8/8/8/5PPP/3R2K1 b - -"]\n[Termination "time forfeit"]\n\n1-0'),
+    (["position", "--workers=4", "--depth=3"], "8/8/8/4k3/8/8/8/4KR2 w - -\n8/8/8/4k3/3q4/8/8/4KN2 w - -"),
+    (["check"], "cha-cert 1\nwinner w\nnodes 2\ninner k7/1Q6/8/8/8/8/8/4K3 b - -\nleaf 8/1k6/8/8/8/8/8/4K3 w - -\n"
+                "loose 0002000000000010\nreach e1 K ffffffffffffffff\nreach b7 K ffffffffffffffff\nend\n"),
+    (["gen", "7", "3", "--budget", "500", "--depth", "2"], ""),
+]
+
+
+def run(program, library, words, text, number, told):
+    room = {**os.environ, "LD_PRELOAD": library, "REFUSE_AT": str(number), "REFUSE_TELLS": told}
+    done = subprocess.run([program, *words], input=text.encode(), stdout=subprocess.PIPE, stderr=subprocess.DEVNULL, env=room, timeout=60)
+    with open(told) as file:
+        return done.returncode, done.stdout.decode(), int(file.read())
+
+
+def is_front(words, out, whole):
+    """Returns whether an output is whole blocks at the front of another."""
+    begins = ("game ", "position ")
+    ends_well = out == "" or any(whole[len(out):].startswith(word) for word in (*begins, word_of_summary(words)))
+    return whole.startswith(out) and ends_well
+
+
+def word_of_summary(words):
+    return {"adjudicate": "games: ", "position": "positions: "}.get(words[0], "\0")
+
+
+def main():
+    program = os.path.abspath(sys.argv[1] if len(sys.argv) > 1 else os.path.join(HERE, "..", "cha"))
+    bad = 0
+    with tempfile.TemporaryDirectory() as folder:
+        library, told = f"{folder}/refuse.so", f"{folder}/told"
+        subprocess.run([os.environ.get("CC", "cc"), "-O1", "-shared", "-fPIC", "-o", library, f"{HERE}/refuse.c", "-ldl"], check=True)
+        for words, text in RUNS:
+            usual = run(program, library, words, text, 0, told)
+            ends, number = {}, 0
+            while True:
+                number += 1
+                status, out, calls = run(program, library, words, text, number, told)
+                if calls < number:
+                    break
+                if (status, out) == usual[:2]:
+                    end = "as usual"
+                elif status == 5 and is_front(words, out, usual[1]):
+                    end = "status 5"
+                elif status == 0 and len(out.splitlines()) >= 1 and out.splitlines()[-1].split(":")[0] == usual[1].splitlines()[-1].split(":")[0]:
+                    end = "another whole report"
+                else:
+                    end, bad = f"WRONG: status {status}", bad + 1
+                    print(f"{' '.join(words)}, allocation {number}: status {status}, output {out!r}")
+                ends[end] = ends.get(end, 0) + 1
+            print(f"{' '.join(words)}: {number - 1} allocations; " + ", ".join(f"{end}: {count}" for end, count in sorted(ends.items())), flush=True)
+    return 1 if bad else 0
+
+
+if __name__ == "__main__":
+    sys.exit(main())

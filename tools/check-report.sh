@@ -39,7 +39,7 @@ while IFS= read -r line; do
     if [ -n "$text" ]; then
         text+=$line$'\n'
         [ "$line" != end ] || count_one "$(fault)"
-    elif [ "$line" = 'cha-cert 1' ]; then
+    elif [ "$line" = 'cha-cert 1' ] || [ "$line" = 'cha-cert 2' ]; then
         if [ -n "$side" ]; then text=$line$'\n'; else count_one 'a certificate of no verdict'; fi
     else
         [ -z "$side" ] || count_one 'no certificate'

@@ -1,8 +1,8 @@
 mod Finding
 mod Costing
 pub mod Bounded
-mod Answering
+pub mod Answering
 mod Leading
 mod OnceWritten
 mod Telling
-mod Expanded
+pub mod Expanded

@@ -6,7 +6,7 @@ use Rattle.std.proofs.lemmas.Bool.Decides.{nat_tests}
 use Rattle.std.proofs.lemmas.List.{length-take}
 use Rattle.pgn_lex.specs.declared.kinds.Placed.{Placed}
 use Rattle.pgn_games.specs.declared.faults.GameFault.{GameFault}
-use Rattle.pgn_games.specs.declared.faults.GameFault.TheVariants.{BadToken, Unclosed, ValueTooLong, Variant, TooManyPlies}
+use Rattle.pgn_games.specs.declared.faults.GameFault.TheVariants.{Variant, TooManyPlies}
 use Rattle.pgn_games.specs.Fields.{depth_at_end, tag_value, move_words, first_bad, is_unclosed, is_cut, says_chess, passes}
 use Rattle.pgn_games.specs.Games.{is_open, start_fault, fault_of}
 

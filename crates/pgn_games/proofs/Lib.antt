@@ -1,6 +1,9 @@
 pub mod Chains
 pub mod Cuts
 pub mod EachToken
+pub mod Ends
 pub mod Examples
-pub mod Giving
+pub mod Gathering
+pub mod KeptTokens
 pub mod Outsides
+pub mod Settled

@@ -3,3 +3,7 @@ pub mod Cutting
 pub mod Fields
 pub mod Games
 pub mod Reading
+pub mod Settling
+-- what only loops and lemmas use
+pub mod Holding
+pub mod Keeping

@@ -1,16 +1,17 @@
 //! The games of a text in PGN, of any bytes whatever, one at a time.
 //!
-//! `played`, `marks` and `faults` have the game that is given, and `reading` the reader; `turns` and `cutting` cut tokens
-//! into games, `whole` has the law that no token is lost, and `tag_pairs`, `movetext` and `slices` say what the tokens of
-//! one game say.
+//! `played`, `marks` and `faults` have the game that is given, and `reading` the reader; `turns` says what a token does to a
+//! game, and `cutter` keeps what a reader needs of its source; `whole` has the law that no token is lost, and `settling` that
+//! of the games that are known before the rest; `tag_pairs`, `movetext` and `slices` say what the tokens of one game say.
 #![tactic(auto)]
 
-mod cutting;
+mod cutter;
 mod faults;
 mod marks;
 mod movetext;
 mod played;
 mod reading;
+mod settling;
 mod slices;
 mod tag_pairs;
 #[cfg(test)]
@@ -23,4 +24,5 @@ pub use faults::GameFault;
 pub use marks::ResultMark;
 pub use played::{Game, Words};
 pub use reading::Reader;
+pub use settling::settled_games_are_the_first;
 pub use whole::each_token_is_in_one_game;

@@ -7,7 +7,7 @@ mod small_texts;
 use crate::{Game, GameFault, ReadEnd, Reader, ResultMark};
 use cha_board::Position;
 use cha_fen::{FenFault, write};
-use cha_outside::{Bytes, Pieces};
+use cha_outside::Pieces;
 use long_texts::{LONG, Long};
 use real_files::FILES;
 use small_texts::{BAD_TOKENS, ENDS, STARTS, TAGS, TWO_FAULTS, VARIATIONS};
@@ -17,10 +17,11 @@ use std::test::Fail;
 
 const OPENING: &[u8] = b"rnbqkbnr/pppppppp/8/8/8/8/PPPPPPPP/RNBQKBNR w KQkq -";
 
-/// The games of a text, as `e4 e5 1-0 | <4k3/8/8/8/8/8/4P3/4K3 w - -> e4 * time #BadToken 12`: the start where it is not the
+/// The games of a text that comes in pieces of a size, as `e4 e5 1-0 | <4k3/8/8/8/8/8/4P3/4K3 w - -> e4 * time #BadToken 12`: the start where it is not the
 /// opening position, the move words, the result, `time` where the game was forfeited on time, and the fault.
-fn shown(alloc: Global, bytes: &[u8]) -> Result<Vec<u8>, Fail> {
-    let mut source = Bytes::new(bytes.to_vec(alloc)?);
+fn shown(alloc: Global, bytes: &[u8], size: u32) -> Result<Vec<u8>, Fail> {
+    let sizes = [size].to_vec(alloc)?;
+    let mut source = Pieces::new(bytes.to_vec(alloc)?, sizes, Vec::new(alloc));
     let mut reader = Reader::new(alloc)?;
     let mut text = Vec::new(alloc);
     for _call in 0..100 {
@@ -92,10 +93,12 @@ fn named(fault: GameFault) -> &'static str {
     }
 }
 
-/// Asserts the games of a text.
+/// Asserts the games of a text, whatever pieces it comes in.
 fn has_games(rt: &impl Abort, alloc: Global, text: &[u8], want: &[u8]) -> Result<(), Fail> {
-    let found = shown(alloc, text)?;
-    assert_eq!(rt; found.as_slice(), want, "{text:?}");
+    for size in [1, 2, 7, 4096] {
+        let found = shown(alloc, text, size)?;
+        assert_eq!(rt; found.as_slice(), want, "{text:?}");
+    }
     Ok(())
 }
 
@@ -132,7 +135,7 @@ fn long_texts_have_their_games(rt: HostRuntime) -> Result<(), Fail> {
     Ok(())
 }
 
-/// Eight bytes in pieces of three take four reads, the end among them.
+/// Of eight bytes in pieces of three the first game needs two reads: the byte behind its last token is in the second piece.
 #[test]
 fn a_reader_fails_where_its_source_fails(rt: HostRuntime) -> Result<(), Fail> {
     let alloc = rt.alloc();
@@ -142,7 +145,7 @@ fn a_reader_fails_where_its_source_fails(rt: HostRuntime) -> Result<(), Fail> {
         let mut source = Pieces::new(b"e4 * d4 ".to_vec(alloc)?, sizes, fails);
         let mut reader = Reader::new(alloc)?;
         let found = reader.next(&mut source);
-        assert_eq!(rt; reader.failed(), failing <= 4, "call {failing}");
+        assert_eq!(rt; reader.failed(), failing <= 2, "call {failing}");
         match found {
             Ok(game) => assert!(rt; game.is_some()),
             Err(end) => assert_eq!(rt; end, ReadEnd::ReadFault),

@@ -1,0 +1,230 @@
+-- The tokens that a reader keeps, and the games that they make up.
+use Rattle.std.proofs.Common.{◌≡◌, ◌==◌, ℕ, zero, suc, ◌+◌, ◌<◌, ◌≤◌, Bool, true, false, List, [], ◌∷◌, ◌++◌, Some, length, take, drop, map, refl, sym, ap, ◌∙◌, arith, append-nil, append_assoc, length-append}
+use Rattle.std.specs.List.{slice_get}
+use Rattle.std.proofs.lemmas.Bool.Decides.{nat_tests}
+use Rattle.std.proofs.Math.Seq.{take-append_seam}
+use Rattle.pgn_lex.specs.declared.kinds.Placed.{Placed}
+use Rattle.pgn_lex.specs.Lexing.{Appends}
+use Rattle.pgn_lex.specs.Tokens.{tokens, has_mark, settled_after, has_half_mark, settled_tokens}
+use Rattle.pgn_lex.proofs.Feeding.{settled_first}
+use Rattle.pgn_games.specs.declared.played.Game.{Game}
+use Rattle.pgn_games.specs.declared.turns.Place.TheVariants.{Before}
+use Rattle.pgn_games.specs.Cutting.{cut}
+use Rattle.pgn_games.specs.Games.{game_of, games}
+use Rattle.pgn_games.specs.Settling.{games_ended, settled_games}
+use Rattle.pgn_games.specs.Holding.{first_end, IsScanned, IsCut, IsCutAtEnd, IsOpen, IsLast}
+use Rattle.pgn_games.proofs.Ends.{closes, none_ended, some_first, none_scanned, nothing_scanned, open_game}
+use Rattle.pgn_games.proofs.Settled.{take_map, length_map}
+
+-- before the first byte
+pub nothing_cut : IsCut [] [] 0
+nothing_cut = record {
+  games = [];
+  number = refl;
+  cuts = λ ts. refl;
+  counts = λ ts. let f : games_ended Before ts ≡ 0 + games_ended Before ts = omega arith in f;
+  few = omega arith;
+}
+
+-- tokens more
+pub told_more : (told told' kept kept' added : List Placed) (given : ℕ) → IsCut told kept given → told' ≡ told ++ added → kept' ≡ kept ++ added → IsCut told' kept' given
+told_more told told' kept kept' added given h e f = rw (e, f) (record {
+  games = h.games;
+  number = h.number;
+  cuts = λ ts. ap (cut Before) (append_assoc told added ts) ∙ h.cuts (added ++ ts) ∙ ap (λ xs. h.games ++ cut Before xs) (sym (append_assoc kept added ts));
+  counts = λ ts. ap (games_ended Before) (append_assoc told added ts) ∙ h.counts (added ++ ts) ∙ ap (λ xs. given + games_ended Before xs) (sym (append_assoc kept added ts));
+  few = omega (arith, h.few, length-append told added, length-append kept added);
+})
+
+pub told_last : (told told' kept kept' added : List Placed) (given : ℕ) → IsCut told kept given → told' ≡ told ++ added → kept' ≡ kept ++ added → IsCutAtEnd told' kept' given
+told_last told told' kept kept' added given h e f =
+    let more = told_more told told' kept kept' added given h e f in
+    record {
+      games = more.games;
+      number = more.number;
+      cuts = ap (cut Before) (sym (append-nil told')) ∙ more.cuts [] ∙ ap (λ xs. more.games ++ cut Before xs) (append-nil kept');
+      few = more.few;
+    }
+
+-- the front of what is kept is the game
+front_is : (game behind : List Placed) → take (length game) (game ++ behind) ≡ game
+front_is game behind = take-append_seam game behind
+
+back_is : (game behind : List Placed) → drop (length game) (game ++ behind) ≡ behind
+back_is [] behind = refl
+back_is (t ∷ game) behind = back_is game behind
+
+first_game : (game behind ts : List Placed) → first_end Before (game ++ behind) ≡ Some (length game) → cut Before ((game ++ behind) ++ ts) ≡ game ∷ cut Before (behind ++ ts)
+first_game game behind ts whole =
+    let h = closes Before (game ++ behind) (length game) ts whole in
+    h.0 ∙ ap (λ g. g ∷ cut Before (drop (length game) (game ++ behind) ++ ts)) (front_is game behind) ∙ ap (λ xs. game ∷ cut Before (xs ++ ts)) (back_is game behind)
+
+-- a game is given
+one_behind : (games : List (List Placed)) (game : List Placed) (later : List (List Placed)) → games ++ (game ∷ later) ≡ (games ++ game ∷ []) ++ later
+one_behind games game later = sym (append_assoc games (game ∷ []) later)
+
+pub gave_open : (told game behind kept : List Placed) (given given' : ℕ) → IsCut told (game ++ behind) given → first_end Before (game ++ behind) ≡ Some (length game) → kept ≡ behind → given' ≡ given + 1
+    → IsCut told kept given'
+gave_open told game behind kept given given' h whole k g = rw (k, g) (record {
+  games = h.games ++ game ∷ [];
+  number = omega (arith, h.number, length-append h.games (game ∷ []));
+  cuts = λ ts. h.cuts ts ∙ ap (λ gs. h.games ++ gs) (first_game game behind ts whole) ∙ one_behind h.games game (cut Before (behind ++ ts));
+  counts = λ ts. h.counts ts ∙ counted (closes Before (game ++ behind) (length game) ts whole).1 (ap (λ xs. games_ended Before (xs ++ ts)) (back_is game behind));
+  few = omega (arith, h.few, length-append game behind, some_first (game ++ behind) (length game) whole);
+})
+  where
+    counted : {a b c : ℕ} → a ≡ 1 + b → b ≡ c → given + a ≡ given + 1 + c
+    counted e f = omega (arith, e, f)
+
+pub gave_last : (told game behind kept : List Placed) (given given' : ℕ) → IsCutAtEnd told (game ++ behind) given → cut Before (game ++ behind) ≡ game ∷ cut Before behind → 0 < length game → kept ≡ behind → given' ≡ given + 1
+    → IsCutAtEnd told kept given'
+gave_last told game behind kept given given' h first some k g = rw (k, g) (record {
+  games = h.games ++ game ∷ [];
+  number = omega (arith, h.number, length-append h.games (game ∷ []));
+  cuts = h.cuts ∙ ap (λ gs. h.games ++ gs) first ∙ one_behind h.games game (cut Before behind);
+  few = omega (arith, h.few, length-append game behind, some);
+})
+
+pub whole_first : (game behind : List Placed) → first_end Before (game ++ behind) ≡ Some (length game) → (cut Before (game ++ behind) ≡ game ∷ cut Before behind) × (0 < length game)
+whole_first game behind whole =
+    (ap (cut Before) (sym (append-nil (game ++ behind))) ∙ first_game game behind [] whole ∙ ap (λ xs. game ∷ cut Before xs) (append-nil behind), some_first (game ++ behind) (length game) whole)
+
+pub left_first : (game behind : List Placed) (place : _) → IsScanned game place → behind ≡ [] → 0 < length game → cut Before (game ++ behind) ≡ game ∷ cut Before behind
+unfolding cut
+left_first game behind place scanned none some =
+    rw none (ap (cut Before) (append-nil game) ∙ open_game game (none_scanned game place scanned) some)
+
+-- the game that is given
+at_place : (games : List (List Placed)) (game : List Placed) (later : List (List Placed)) (all : List (List Placed)) (given : ℕ) → length games ≡ given → all ≡ games ++ (game ∷ later) → slice_get (map game_of all) given ≡ Some (game_of game)
+at_place [] game later all given n e = let z : given ≡ 0 = sym n in rw (z, e) refl
+at_place (g ∷ games) game later all zero n e = absurd (omega arith)
+at_place (g ∷ games) game later all (suc given) n e = rw e (at_place games game later (games ++ (game ∷ later)) given (omega arith) refl)
+
+pub game_open : (fed bytes rest : List ℕ) (game behind : List Placed) (given : ℕ) → IsCut (settled_tokens fed) (game ++ behind) given → first_end Before (game ++ behind) ≡ Some (length game) → bytes ≡ fed ++ rest
+    → slice_get (games bytes) given ≡ Some (game_of game)
+unfolding games
+game_open fed bytes rest game behind given h whole e =
+    let first = settled_first fed rest in
+    let all = ap tokens e ∙ first in
+    at_place h.games game _ (cut Before (tokens bytes)) given h.number (ap (cut Before) all ∙ h.cuts _ ∙ ap (λ gs. h.games ++ gs) (first_game game behind _ whole))
+
+pub game_last : (fed bytes : List ℕ) (game behind : List Placed) (given : ℕ) → IsCutAtEnd (tokens fed) (game ++ behind) given → cut Before (game ++ behind) ≡ game ∷ cut Before behind → bytes ≡ fed
+    → slice_get (games bytes) given ≡ Some (game_of game)
+unfolding games
+game_last fed bytes game behind given h first e =
+    at_place h.games game (cut Before behind) (cut Before (tokens bytes)) given h.number (ap (λ bs. cut Before (tokens bs)) e ∙ h.cuts ∙ ap (λ gs. h.games ++ gs) first)
+
+pub none_last : (fed bytes : List ℕ) (kept : List Placed) (given : ℕ) → IsCutAtEnd (tokens fed) kept given → kept ≡ [] → bytes ≡ fed → length (games bytes) ≤ given
+unfolding games cut
+none_last fed bytes kept given h none e =
+    let all : cut Before (tokens bytes) ≡ h.games = ap (λ bs. cut Before (tokens bs)) e ∙ h.cuts ∙ ap (λ xs. h.games ++ cut Before xs) none ∙ append-nil h.games in
+    omega (arith, length_map game_of (cut Before (tokens bytes)), ap length all, h.number)
+
+-- the games that were given stay the first
+front_of : (all games later : List (List Placed)) (given : ℕ) → all ≡ games ++ later → length games ≡ given → take given all ≡ games
+front_of all games later given e n = rw (e, ← n) (take-append_seam games later)
+
+fronts : (fed rest : List ℕ) (kept : List Placed) (given : ℕ) → (h : IsCut (settled_tokens fed) kept given) → take given (games (fed ++ rest)) ≡ map game_of h.games
+unfolding games
+fronts fed rest kept given h =
+    take_map game_of given (cut Before (tokens (fed ++ rest)))
+    ∙ ap (map game_of) (front_of (cut Before (tokens (fed ++ rest))) h.games _ given (ap (cut Before) (settled_first fed rest) ∙ h.cuts _) h.number)
+
+pub same_front : (fed a b rest rest' : List ℕ) (kept : List Placed) (given : ℕ) → IsCut (settled_tokens fed) kept given → a ≡ fed ++ rest → b ≡ fed ++ rest' → take given (games a) ≡ take given (games b)
+same_front fed a b rest rest' kept given h e f =
+    ap (λ x. take given (games x)) e ∙ fronts fed rest kept given h ∙ sym (fronts fed rest' kept given h) ∙ ap (λ x. take given (games x)) (sym f)
+
+-- each settled game was given
+pub all_settled : (fed bytes : List ℕ) (game behind : List Placed) (place : _) (given : ℕ) → IsCut (settled_tokens fed) (game ++ behind) given → IsScanned game place → behind ≡ [] → bytes ≡ fed → settled_games bytes ≤ given
+unfolding settled_games
+all_settled fed bytes game behind place given h scanned none e =
+    let kept : game ++ behind ≡ game = ap (λ xs. game ++ xs) none ∙ append-nil game in
+    let count : games_ended Before (settled_tokens fed) ≡ given + games_ended Before game =
+    ap (games_ended Before) (sym (append-nil (settled_tokens fed))) ∙ h.counts [] ∙ ap (λ xs. given + games_ended Before xs) (append-nil (game ++ behind) ∙ kept) in
+    omega (arith, ap (λ bs. games_ended Before (settled_tokens bs)) e, count, none_ended Before game (none_scanned game place scanned))
+
+nothing_settled : IsOpen [] false [] [] 0 0 0
+unfolding settled_tokens has_half_mark has_mark settled_after
+nothing_settled = record {
+  not_ended = refl;
+  told = nothing_cut;
+  sparse = omega arith;
+  used_inside = omega arith;
+  taken_is = refl;
+  few_bytes = omega arith;
+}
+
+pub opened : (fed : List ℕ) (ended : Bool) (game behind : List Placed) (piece : List ℕ) → fed ≡ [] → ended ≡ false → game ≡ [] → behind ≡ [] → piece ≡ [] → IsOpen fed ended (game ++ behind) piece 0 0 0 × IsScanned game Before
+opened fed ended game behind piece e f g h i = rw (e, f, g, h, i) (nothing_settled, nothing_scanned)
+
+drop_none : (n : ℕ) → drop {A = ℕ} n [] ≡ []
+drop_none zero = refl
+drop_none (suc n) = refl
+
+-- the end of the source
+pub ended : (fed fed' : List ℕ) (lexer_ended : Bool) (game behind behind' : List Placed) (piece : List ℕ) (used given taken : ℕ) → IsOpen fed lexer_ended (game ++ behind) piece used given taken → fed' ≡ fed → piece ≡ []
+    → Appends behind behind' (settled_tokens fed) (tokens fed) → IsLast fed' (game ++ behind') piece used given
+ended fed fed' lexer_ended game behind behind' piece used given taken h same none a = rw same (record {
+  told = told_last (settled_tokens fed) (tokens fed) (game ++ behind) (game ++ behind') a.added given h.told a.are_next (ap (λ xs. game ++ xs) a.appended ∙ sym (append_assoc game behind a.added));
+  sparse = omega (arith, h.sparse, ap length a.are_next, length-append (settled_tokens fed) a.added, a.few);
+  none_left = ap (drop used) none ∙ drop_none used;
+  few_bytes = omega (arith, h.few_bytes, h.taken_is);
+})
+
+-- more bytes are taken
+pub next_front : (fed was now rest rest' : List ℕ) (kept : List Placed) (given g : ℕ) (whole : List Game) → IsCut (settled_tokens fed) kept given → given ≡ g → fed ++ rest ≡ was → now ≡ fed ++ rest'
+    → take g (games was) ≡ whole → take g (games now) ≡ whole
+next_front fed was now rest rest' kept given g whole h same e f before =
+    let one : take given (games now) ≡ take given (games was) = same_front fed now was rest' rest kept given h f (sym e) in
+    ap (λ n. take n (games now)) (sym same) ∙ one ∙ ap (λ n. take n (games was)) same ∙ before
+
+-- nothing is left of a piece
+pub none_behind : (fed fed' piece : List ℕ) (used : ℕ) → fed' ≡ fed → piece ≡ [] → fed' ++ drop used piece ≡ fed
+none_behind fed fed' piece used e f = rw (e, f) (ap (λ xs. fed ++ xs) (drop_none used) ∙ append-nil fed)
+
+-- the game is given, and those behind it are kept
+pub gave_is_open : (fed : List ℕ) (lexer_ended : Bool) (game behind : List Placed) (piece : List ℕ) (used given taken : ℕ) (game' : List Placed) (given' : ℕ) → IsOpen fed lexer_ended (game ++ behind) piece used given taken
+    → first_end Before (game ++ behind) ≡ Some (length game) → game' ≡ [] → given' ≡ given + 1 → IsOpen fed lexer_ended (game' ++ behind) piece used given' taken
+gave_is_open fed lexer_ended game behind piece used given taken game' given' h whole none g = record {
+  not_ended = h.not_ended;
+  told = gave_open (settled_tokens fed) game behind (game' ++ behind) given given' h.told whole (ap (λ xs. xs ++ behind) none) g;
+  sparse = h.sparse;
+  used_inside = h.used_inside;
+  taken_is = h.taken_is;
+  few_bytes = h.few_bytes;
+}
+
+pub gave_is_last : (fed : List ℕ) (game behind : List Placed) (piece : List ℕ) (used given : ℕ) (game' : List Placed) (given' : ℕ) → IsLast fed (game ++ behind) piece used given
+    → (cut Before (game ++ behind) ≡ game ∷ cut Before behind) × (0 < length game) → game' ≡ [] → given' ≡ given + 1 → IsLast fed (game' ++ behind) piece used given'
+gave_is_last fed game behind piece used given game' given' h first none g = record {
+  told = gave_last (tokens fed) game behind (game' ++ behind) given given' h.told first.0 first.1 (ap (λ xs. xs ++ behind) none) g;
+  sparse = h.sparse;
+  none_left = h.none_left;
+  few_bytes = h.few_bytes;
+}
+
+pub emptied_scanned : (game' : List Placed) (place' : _) → game' ≡ [] → place' ≡ Before → IsScanned game' place'
+emptied_scanned game' place' e f = rw (e, f) nothing_scanned
+
+-- once the source has ended, the bytes that were fed are all
+pub all_fed : (fed fed' piece piece' : List ℕ) (used used' : ℕ) → fed' ≡ fed → piece' ≡ piece → used' ≡ used → drop used' piece' ≡ [] → fed ++ drop used piece ≡ fed'
+all_fed fed fed' piece piece' used used' e f g none =
+    ap (λ xs. xs ++ drop used piece) (sym e) ∙ ap (λ xs. fed' ++ drop used xs) (sym f) ∙ ap (λ n. fed' ++ drop n piece') (sym g) ∙ ap (λ xs. fed' ++ xs) none ∙ append-nil fed'
+
+pub game_found : (fed bytes : List ℕ) (game behind : List Placed) (given g : ℕ) (found : Game) → IsCutAtEnd (tokens fed) (game ++ behind) given → (cut Before (game ++ behind) ≡ game ∷ cut Before behind) × (0 < length game) → bytes ≡ fed → given ≡ g → found ≡ game_of game
+    → slice_get (games bytes) g ≡ Some found
+game_found fed bytes game behind given g found h first e f is = ap (λ n. slice_get (games bytes) n) (sym f) ∙ game_last fed bytes game behind given h first.0 e ∙ ap (λ x. Some x) (sym is)
+
+pub none_found : (fed bytes : List ℕ) (game behind : List Placed) (given g : ℕ) → IsCutAtEnd (tokens fed) (game ++ behind) given → game ≡ [] → behind ≡ [] → bytes ≡ fed → given ≡ g → length (games bytes) ≤ g
+none_found fed bytes game behind given g h none nothing e f = omega (arith, none_last fed bytes (game ++ behind) given h (rw (none, nothing) refl) e, f)
+
+pub empty_list : (xs ys : List Placed) (b : Bool) → b ≡ (length xs == 0) → b ≡ true → xs ≡ ys → ys ≡ []
+empty_list [] ys b e f g = sym g
+empty_list (x ∷ xs) ys b e f g = let h : true ≡ false = sym f ∙ e ∙ some_length (length xs) in cc
+  where
+    some_length : (n : ℕ) → (suc n == 0) ≡ false
+    some_length n = grind (arith, nat_tests)
+
+pub some_list : (xs ys : List Placed) (b : Bool) → b ≡ (length xs == 0) → b ≡ false → xs ≡ ys → 0 < length ys
+some_list [] ys b e f g = let h : true ≡ false = sym e ∙ f in cc
+some_list (x ∷ xs) ys b e f g = omega (arith, ap length g)

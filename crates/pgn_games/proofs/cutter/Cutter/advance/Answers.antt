@@ -1,0 +1,45 @@
+use Rattle.std.proofs.Common.{◌≡◌, ℕ, List, ◌++◌, drop, ap, ◌∙◌, arith, Ok, Err}
+use Rattle.pgn_lex.specs.Lexing.{LexerState}
+use Rattle.pgn_games.proofs.KeptTokens.{ended, next_front, all_settled, none_behind}
+use Rattle.cha_outside.specs.declared.gathering.ReadEnd.TheVariants.{ReadFault}
+use Rattle.cha_outside.proofs.Gathered.{gathers_more}
+use Rattle.pgn_games.proofs.cutter.Cutter.advance.Goals as goal
+
+pub loop-self-preserved : goal.loop-self-preserved
+loop-self-preserved g c =
+    let up = c.feed_piece.ensures.used_up (c.in-Ok-Open.is ∙ ap Ok c.in-Ok-Open.field-0-is) in
+    let same = c.refill.ensures.same in
+    record {
+      is_open = c.in-Ok-More.ensures.open;
+      scanned = rw (same.2, same.4) up.0;
+      bytes = gathers_more _ _ _ _ _ _ c.refill.ensures.bytes.0 c.loop-self.invariant.bytes c.refill.ensures.bytes.1 (c.refill.ensures.bytes.2 ∙ ap (λ (x : List ℕ). x ++ c.refill.ensures.bytes.0) c.feed_piece.ensures.taken);
+      given = same.0 ∙ c.feed_piece.ensures.same.0 ∙ c.loop-self.invariant.given;
+      first = next_front c.feed_piece.new.self.lexer.fed _ _ _ _ _ c.feed_piece.new.self.given _ _ c.in-Ok-Open.ensures.open.told (c.feed_piece.ensures.same.0 ∙ c.loop-self.invariant.given) c.feed_piece.ensures.taken
+          (ap (λ (l : LexerState). l.fed ++ drop c.refill.new.self.used c.refill.new.self.piece.items) same.1) c.loop-self.invariant.first;
+      later = omega (arith, c.refill.ensures.later, c.loop-self.invariant.later);
+    }
+
+pub returns-in-Ok-clause-ended : goal.returns-in-Ok-clause-ended
+returns-in-Ok-clause-ended g c = λ e.
+    let up = c.feed_piece.ensures.used_up (c.in-Ok-Open.is ∙ ap Ok c.in-Ok-Open.field-0-is) in
+    let same = c.refill.ensures.same in
+    let end = c.refill.ensures.end (c.in-Ok-End.is ∙ ap Ok c.in-Ok-End.field-0-is) in
+    (ended c.refill.new.self.lexer.fed _ _ _ _ _ _ _ _ _ c.in-Ok-End.ensures.open c.end.ensures.fed end.1 c.in-Ok.ensures.tokens, rw (same.2, same.4) up.0, end.0)
+
+pub returns-in-Err-refill-clause-bytes : goal.returns-in-Err-refill-clause-bytes
+returns-in-Err-refill-clause-bytes g c =
+    gathers_more _ _ _ _ _ _ c.refill.ensures.bytes.0 c.loop-self.invariant.bytes c.refill.ensures.bytes.1 (c.refill.ensures.bytes.2 ∙ ap (λ (x : List ℕ). x ++ c.refill.ensures.bytes.0) c.feed_piece.ensures.taken)
+
+pub returns-in-Err-refill-clause-first : goal.returns-in-Err-refill-clause-first
+returns-in-Err-refill-clause-first g c =
+    next_front c.feed_piece.new.self.lexer.fed _ _ _ _ _ c.feed_piece.new.self.given _ _ c.in-Ok-Open.ensures.open.told (c.feed_piece.ensures.same.0 ∙ c.loop-self.invariant.given) c.feed_piece.ensures.taken
+    (ap (λ (l : LexerState). l.fed ++ drop c.refill.new.self.used c.refill.new.self.piece.items) c.refill.ensures.same.1) c.loop-self.invariant.first
+
+pub returns-in-Err-refill-clause-read_fault : goal.returns-in-Err-refill-clause-read_fault
+returns-in-Err-refill-clause-read_fault g c = λ e.
+    let up = c.feed_piece.ensures.used_up (c.in-Ok-Open.is ∙ ap Ok c.in-Ok-Open.field-0-is) in
+    let is : c.in-Err-refill.end ≡ ReadFault = cc in
+    let fault = c.refill.ensures.fault (c.in-Err-refill.is ∙ ap Err is) in
+    let all = all_settled c.feed_piece.new.self.lexer.fed (c.refill.new.self.lexer.fed ++ drop c.refill.new.self.used c.refill.new.self.piece.items) _ _ _ _ c.in-Ok-Open.ensures.open.told up.0 up.1
+    (none_behind c.feed_piece.new.self.lexer.fed _ _ _ (ap (λ (l : LexerState). l.fed) c.refill.ensures.same.1) fault.1) in
+    (omega (arith, fault.0, c.loop-self.invariant.later), omega (arith, all, c.feed_piece.ensures.same.0, c.loop-self.invariant.given))

@@ -1,0 +1,35 @@
+-- What a cutter of games keeps.
+use Rattle.std.specs.Prelude.{◌≡◌, ℕ, Bool, true, false, List, ◌++◌, drop, length, Option, Some, None, Result, Ok, Err}
+use Rattle.cha_list.specs.declared.memory.NoMemory.{NoMemory}
+use Rattle.pgn_games.specs.declared.played.Game.{Game}
+use Rattle.pgn_games.specs.declared.turns.Place.TheVariants.{Before}
+use Rattle.pgn_games.specs.declared.cutter.Cutter.{Cutter}
+use Rattle.pgn_games.specs.Holding.{first_end, IsScanned, IsOpen, IsLast}
+
+-- the bytes that were taken of the source
+abbrev pub taken_by : Cutter → List ℕ
+taken_by c = c.lexer.fed ++ drop c.used c.piece.items
+
+abbrev pub IsOpenAt : Cutter → Type 0
+IsOpenAt c = IsOpen c.lexer.fed c.lexer.ended (c.game.items ++ c.behind.items) c.piece.items c.used c.given c.taken
+
+abbrev pub IsLastAt : Cutter → Type 0
+IsLastAt c = IsLast c.lexer.fed (c.game.items ++ c.behind.items) c.piece.items c.used c.given
+
+abbrev pub IsScannedAt : Cutter → Type 0
+IsScannedAt c = IsScanned c.game.items c.place
+
+-- its game is whole
+abbrev pub HasGame : Cutter → Type 0
+HasGame c = first_end Before (c.game.items ++ c.behind.items) ≡ Some (length c.game.items)
+
+-- a game was given
+abbrev pub found_one : Result (Option Game) NoMemory → Bool
+found_one (Ok (Some game)) = true
+found_one (Ok None) = false
+found_one (Err refused) = false
+
+-- what a reader keeps, as long as no call failed
+pub record IsHeld (c : Cutter) (ended failed : Bool) : Type 0 where
+  pub open_yet : ended ≡ false → failed ≡ false → IsOpenAt c × IsScannedAt c
+  pub at_last : ended ≡ true → failed ≡ false → IsLastAt c × IsScannedAt c

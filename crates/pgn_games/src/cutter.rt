@@ -1,0 +1,302 @@
+//! What a reader keeps: the tokens of one game and of one byte, and the rest of the piece that was read last.
+
+ghost use Rattle.std.specs.Prelude.{if◌then◌else◌, ◌≡◌, ◌+◌, ◌-◌, ◌^◌, ◌<◌, ◌≤◌, ◌++◌, ◌↔◌, List, ℕ, [], length, take, slice_get, OnOk, OnErr, IfOk, IfSome};
+ghost use Rattle.std.specs.declared.result.Result.TheVariants.{Ok, Err};
+ghost use Rattle.std.specs.declared.option.Option.TheVariants.{Some, None};
+ghost use Rattle.std.specs.Io.KnownBytes.{Consumes, IsAtEnd};
+ghost use Rattle.cha_outside.specs.Faults.{Rose};
+ghost use Rattle.pgn_games.specs.declared.turns.Place.TheVariants.{Before};
+ghost use Rattle.pgn_games.specs.Games.{games, game_of};
+ghost use Rattle.pgn_games.specs.Settling.{settled_games};
+ghost use Rattle.pgn_games.specs.Holding.{first_end, IsScanned};
+ghost use Rattle.pgn_games.specs.Reading.{Takes};
+
+use crate::played::Game;
+use crate::slices::game;
+use crate::turns::{Place, Turn, turned};
+use cha_list::NoMemory;
+use cha_outside::{Got, MOST_BYTES, ReadEnd, Source};
+use pgn_lex::{Lexer, Placed};
+use std::alloc::Global;
+
+/// How many bytes one read asks for.
+const PIECE: usize = 4096;
+
+/// Whether the game that is being read is whole.
+#[derive(Clone, Copy, Debug, PartialEq, Eq)]
+pub enum Standing {
+    /// It is: its last token is known.
+    Whole,
+    /// It goes on, or has not begun.
+    Open,
+}
+
+/// What one read gave.
+#[derive(Clone, Copy, Debug, PartialEq, Eq)]
+pub enum Filled {
+    /// A piece of one byte or more.
+    More,
+    /// The end of the source.
+    End,
+}
+
+/// How far a cutter came.
+#[derive(Clone, Copy, Debug, PartialEq, Eq)]
+pub enum Advanced {
+    /// Its game is whole.
+    Whole,
+    /// The source has ended, and all its tokens are there.
+    Ended,
+}
+
+/// The tokens of a game that is being read, those behind it that the last byte gave, and the rest of a piece of the source.
+#[derive(Drop)]
+pub struct Cutter {
+    pub lexer: Lexer,
+    pub game: Vec<Placed>,
+    pub behind: Vec<Placed>,
+    pub place: Place,
+    pub piece: Vec<u8>,
+    pub used: usize,
+    pub given: usize,
+    pub taken: usize,
+}
+
+/// Moves tokens to the game that is being read, up to its last one.
+fn gather(
+    game: &mut Vec<Placed>,
+    behind: &mut Vec<Placed>,
+    place: &mut Place,
+) -> Result<Standing, NoMemory>
+    requires { IsScanned game.old.items place.old }
+    ensures same { OnOk result (game.new.items ++ behind.new.items ≡ game.old.items ++ behind.old.items) }
+    ensures open { result ≡ Ok Standing.Open → IsScanned game.new.items place.new × (behind.new.items ≡ []) }
+    ensures whole { result ≡ Ok Standing.Whole → first_end Before (game.new.items ++ behind.new.items) ≡ Some (length game.new.items) }
+{
+    while !behind.as_slice().is_empty() {
+        match turned(*place, &behind[0].token) {
+            Turn::Stays(next) => {
+                let token = behind.remove(0);
+                game.push(token)?;
+                *place = next;
+            }
+            Turn::Ends => {
+                let token = behind.remove(0);
+                game.push(token)?;
+                return Ok(Standing::Whole);
+            }
+            Turn::Begins => return Ok(Standing::Whole),
+        }
+    }
+    Ok(Standing::Open)
+}
+
+/// Reads the next piece of a source, in place of the last one.
+fn fill<S: Source>(piece: &mut Vec<u8>, source: &mut S) -> Result<Filled, ReadEnd>
+    ensures bytes { Consumes (S.left source.old) (S.left source.new) piece.new.items }
+    ensures few { length piece.new.items ≤ 4096 }
+    ensures more { result ≡ Ok Filled.More → 0 < length piece.new.items }
+    ensures end { result ≡ Ok Filled.End → IsAtEnd (S.left source.new) × (piece.new.items ≡ []) }
+    ensures err { OnErr result (piece.new.items ≡ []) }
+    ensures cause { result ≡ Err ReadEnd.ReadFault → Rose (S.faults source.old) (S.faults source.new) }
+    ensures not_long { result ≡ Err ReadEnd.TooLong → ⊥ }
+    ensures later { S.faults source.old ≤ S.faults source.new }
+{
+    piece.clear();
+    let Ok(()) = piece.try_reserve(PIECE) else {
+        return Err(ReadEnd::NoMemory);
+    };
+    let mut buffer = [0u8; PIECE];
+    match source.read(&mut buffer) {
+        Got::Bytes(n) => {
+            let Ok(()) = piece.extend_from_slice(&buffer[..n]) else {
+                unreachable!()
+            };
+            Ok(Filled::More)
+        }
+        Got::End => Ok(Filled::End),
+        Got::Failed => Err(ReadEnd::ReadFault),
+    }
+}
+
+impl Cutter {
+    ghost use Rattle.pgn_games.specs.Keeping.{taken_by, IsOpenAt, IsLastAt, IsScannedAt, HasGame, found_one};
+
+    /// A cutter that has taken nothing.
+    pub fn new(alloc: Global) -> Result<Cutter, NoMemory>
+        ensures open { IfOk result (λ c. IsOpenAt c × IsScannedAt c) }
+        ensures nothing { IfOk result (λ c. (taken_by c ≡ []) × (c.given ≡ 0)) }
+    {
+        let lexer = Lexer::new(alloc)?;
+        Ok(Cutter {
+            lexer,
+            game: Vec::new(alloc),
+            behind: Vec::new(alloc),
+            place: Place::Before,
+            piece: Vec::new(alloc),
+            used: 0,
+            given: 0,
+            taken: 0,
+        })
+    }
+
+    /// Feeds the next byte of the piece.
+    fn feed_next(&mut self) -> Result<(), NoMemory>
+        requires open { IsOpenAt self.old }
+        requires more { self.old.used < length self.old.piece.items }
+        ensures taken { taken_by self.new ≡ taken_by self.old }
+        ensures same { (self.new.given ≡ self.old.given) × (self.new.taken ≡ self.old.taken) × (self.new.game ≡ self.old.game) × (self.new.place ≡ self.old.place) × (self.new.piece ≡ self.old.piece) }
+        ensures open { OnOk result (IsOpenAt self.new × (self.new.used ≡ self.old.used + 1)) }
+    {
+        let byte = self.piece[self.used];
+        self.lexer.feed(byte, &mut self.behind)?;
+        self.used += 1;
+        Ok(())
+    }
+
+    /// Feeds the piece byte by byte, until the game is whole or the piece is used up.
+    fn feed_piece(&mut self) -> Result<Standing, NoMemory>
+        requires open { IsOpenAt self.old }
+        requires scanned { IsScannedAt self.old }
+        ensures taken { taken_by self.new ≡ taken_by self.old }
+        ensures same { (self.new.given ≡ self.old.given) × (self.new.taken ≡ self.old.taken) }
+        ensures open { OnOk result (IsOpenAt self.new) }
+        ensures whole { result ≡ Ok Standing.Whole → HasGame self.new }
+        ensures used_up { result ≡ Ok Standing.Open → IsScannedAt self.new × (self.new.behind.items ≡ []) × (self.new.used ≡ length self.new.piece.items) }
+    {
+        loop {
+            match gather(&mut self.game, &mut self.behind, &mut self.place)? {
+                Standing::Whole => return Ok(Standing::Whole),
+                Standing::Open => {}
+            }
+            if self.used == self.piece.len() {
+                return Ok(Standing::Open);
+            }
+            self.feed_next()?;
+        }
+    }
+
+    /// Takes the next piece of the source, where the last one is used up.
+    fn refill<S: Source>(&mut self, source: &mut S) -> Result<Filled, ReadEnd>
+        requires open { IsOpenAt self.old }
+        requires used_up { self.old.used ≡ length self.old.piece.items }
+        ensures bytes { Takes (S.left source.old) (S.left source.new) (taken_by self.old) (taken_by self.new) }
+        ensures same { (self.new.given ≡ self.old.given) × (self.new.lexer ≡ self.old.lexer) × (self.new.game ≡ self.old.game) × (self.new.behind ≡ self.old.behind) × (self.new.place ≡ self.old.place) }
+        ensures open { OnOk result (IsOpenAt self.new) }
+        ensures more { result ≡ Ok Filled.More → length (taken_by self.old) < length (taken_by self.new) }
+        ensures end { result ≡ Ok Filled.End → IsAtEnd (S.left source.new) × (self.new.piece.items ≡ []) }
+        ensures fault { result ≡ Err ReadEnd.ReadFault → Rose (S.faults source.old) (S.faults source.new) × (self.new.piece.items ≡ []) }
+        ensures too_long { (result ≡ Err ReadEnd.TooLong) ↔ (MOST_BYTES < length (taken_by self.new)) }
+        ensures few { length (taken_by self.new) ≤ MOST_BYTES + 4096 }
+        ensures later { S.faults source.old ≤ S.faults source.new }
+    {
+        self.used = 0;
+        let filled = match fill(&mut self.piece, source) {
+            Ok(filled) => filled,
+            Err(end) => return Err(end),
+        };
+        self.taken += self.piece.len();
+        if self.taken > MOST_BYTES {
+            return Err(ReadEnd::TooLong);
+        }
+        Ok(filled)
+    }
+
+    /// Reads on until the game is whole, or to the end of the source. No piece is read before the last one is used up.
+    pub fn advance<S: Source>(&mut self, source: &mut S) -> Result<Advanced, ReadEnd>
+        requires open { IsOpenAt self.old }
+        requires scanned { IsScannedAt self.old }
+        ensures bytes { Takes (S.left source.old) (S.left source.new) (taken_by self.old) (taken_by self.new) }
+        ensures given { self.new.given ≡ self.old.given }
+        ensures first { take self.old.given (games (taken_by self.new)) ≡ take self.old.given (games (taken_by self.old)) }
+        ensures whole { result ≡ Ok Advanced.Whole → IsOpenAt self.new × HasGame self.new }
+        ensures ended { result ≡ Ok Advanced.Ended → IsLastAt self.new × IsScannedAt self.new × IsAtEnd (S.left source.new) }
+        ensures read_fault { result ≡ Err ReadEnd.ReadFault → Rose (S.faults source.old) (S.faults source.new) × (settled_games (taken_by self.new) ≤ self.old.given) }
+        ensures too_long { (result ≡ Err ReadEnd.TooLong) ↔ (MOST_BYTES < length (taken_by self.new)) }
+        ensures few { length (taken_by self.new) ≤ MOST_BYTES + 4096 }
+        ensures later { S.faults source.old ≤ S.faults source.new }
+    {
+        loop {
+            match self.feed_piece() {
+                Ok(Standing::Whole) => return Ok(Advanced::Whole),
+                Ok(Standing::Open) => {}
+                Err(_) => return Err(ReadEnd::NoMemory),
+            }
+            match self.refill(source) {
+                Ok(Filled::More) => {}
+                Ok(Filled::End) => {
+                    return match self.lexer.end(&mut self.behind) {
+                        Ok(()) => Ok(Advanced::Ended),
+                        Err(_) => Err(ReadEnd::NoMemory),
+                    };
+                }
+                Err(end) => return Err(end),
+            }
+        }
+    }
+
+    /// Finds whether a game is left, once the source has ended.
+    pub fn finish(&mut self) -> Result<Standing, NoMemory>
+        requires last { IsLastAt self.old }
+        requires scanned { IsScannedAt self.old }
+        ensures same { (self.new.given ≡ self.old.given) × (self.new.lexer ≡ self.old.lexer) × (self.new.piece ≡ self.old.piece) × (self.new.used ≡ self.old.used) }
+        ensures last { OnOk result (IsLastAt self.new) }
+        ensures whole { result ≡ Ok Standing.Whole → HasGame self.new }
+        ensures open { result ≡ Ok Standing.Open → IsScannedAt self.new × (self.new.behind.items ≡ []) }
+    {
+        gather(&mut self.game, &mut self.behind, &mut self.place)
+    }
+
+    /// The game, which makes room for the next one.
+    fn take_game(&mut self, alloc: Global) -> Result<Game, NoMemory>
+        requires { self.old.given < 2 ^ 64 - 1 }
+        ensures game { IfOk result (λ game. game ≡ game_of self.old.game.items) }
+        ensures emptied { OnOk result ((self.new.game.items ≡ []) × (self.new.place ≡ Place.Before) × (self.new.given ≡ self.old.given + 1)) }
+        ensures kept { OnErr result (self.new.given ≡ self.old.given) }
+        ensures same { (self.new.lexer ≡ self.old.lexer) × (self.new.behind ≡ self.old.behind) × (self.new.piece ≡ self.old.piece) × (self.new.used ≡ self.old.used) × (self.new.taken ≡ self.old.taken) }
+    {
+        let game = game(alloc, &self.game)?;
+        self.game.clear();
+        self.place = Place::Before;
+        self.given += 1;
+        Ok(game)
+    }
+
+    /// Gives the game that is whole.
+    pub fn give(&mut self, alloc: Global) -> Result<Game, NoMemory>
+        requires open { IsOpenAt self.old }
+        requires whole { HasGame self.old }
+        ensures taken { taken_by self.new ≡ taken_by self.old }
+        ensures open { OnOk result (IsOpenAt self.new × IsScannedAt self.new × (self.new.given ≡ self.old.given + 1)) }
+        ensures kept { OnErr result (self.new.given ≡ self.old.given) }
+        ensures game { IfOk result (λ game. slice_get (games (taken_by self.old)) self.old.given ≡ Some game) }
+    {
+        let game = self.take_game(alloc)?;
+        Ok(game)
+    }
+
+    /// Gives the next of the games that are left, once the source has ended.
+    pub fn give_last(&mut self, alloc: Global) -> Result<Option<Game>, NoMemory>
+        requires last { IsLastAt self.old }
+        requires scanned { IsScannedAt self.old }
+        ensures taken { taken_by self.new ≡ taken_by self.old }
+        ensures last { OnOk result (IsLastAt self.new × IsScannedAt self.new) }
+        ensures given { self.new.given ≡ (if found_one result then self.old.given + 1 else self.old.given) }
+        ensures game { IfOk result (λ found. IfSome found (λ game. slice_get (games (taken_by self.old)) self.old.given ≡ Some game)) }
+        ensures none { result ≡ Ok None → length (games (taken_by self.old)) ≤ self.old.given }
+    {
+        match self.finish()? {
+            Standing::Whole => {
+                let game = self.take_game(alloc)?;
+                Ok(Some(game))
+            }
+            Standing::Open => {
+                if self.game.as_slice().is_empty() {
+                    return Ok(None);
+                }
+                let game = self.take_game(alloc)?;
+                Ok(Some(game))
+            }
+        }
+    }
+}

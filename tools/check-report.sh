@@ -5,8 +5,9 @@
 #
 # PROGRAM is the built cha (by default ./cha at the top, as `make` leaves it). Each certificate is put to `cha check`, and
 # must be accepted for the position and the side that its block names: its first node has the FEN of the block, and its
-# winner is the side of the line before it. A line `unwinnable` with no certificate behind it counts as one that is not
-# accepted, and so does a certificate that breaks off.
+# winner is the side of the line before it. Behind a line `dead from` there may be two certificates, White's and then Black's, of
+# one earlier position. A line `unwinnable` with no certificate behind it counts as one that is not accepted, and so does a
+# certificate that breaks off.
 #
 # It prints how many are accepted of how many, and before that the first that is not. The status is 0 where all are
 # accepted, 1 where one is not, and 2 where PROGRAM cannot be run.
@@ -15,7 +16,7 @@ export LC_ALL=C
 program=${1:-$(dirname "$0")/../cha}
 [ -x "$(command -v "$program")" ] || { echo "no program: $program" >&2; exit 2; }
 
-count=0 accepted=0 block='' fen='' side='' text=''
+count=0 accepted=0 block='' fen='' side='' text='' early=''
 
 # count_one FAULT: counts a certificate, whose fault is empty where it is accepted
 count_one() {
@@ -38,14 +39,23 @@ fault() {
 while IFS= read -r line; do
     if [ -n "$text" ]; then
         text+=$line$'\n'
-        [ "$line" != end ] || count_one "$(fault)"
-    elif [ "$line" = 'cha-cert 1' ] || [ "$line" = 'cha-cert 2' ]; then
+        case $early$line in
+            whiteleaf\ *) [ -n "$fen" ] || { fen=${line#* } && fen=${fen#* }; } ;;
+            whiteinner\ * | whitesmall\ *) [ -n "$fen" ] || fen=${line#* } ;;
+        esac
+        if [ "$line" = end ]; then
+            count_one "$(fault)"
+            case $early in white) early=black ;; *) early='' ;; esac
+        fi
+    elif [ "$line" = 'cha-cert 2' ]; then
+        [ -n "$side" ] || side=$early
         if [ -n "$side" ]; then text=$line$'\n'; else count_one 'a certificate of no verdict'; fi
     else
         [ -z "$side" ] || count_one 'no certificate'
         case $line in
-            'game '* | 'position '*) block=$line fen='' ;;
+            'game '* | 'position '*) block=$line fen='' early='' ;;
             'fen: '*) fen=${line#fen: } ;;
+            'dead from: '*) fen='' early=white ;;
             'white: unwinnable' | 'black: unwinnable') side=${line%%:*} ;;
         esac
     fi

@@ -11,7 +11,7 @@ pub const ROWS: [Row; 22] = [
     ("", "games: 0, unreadable: 0, changed: 0, undecided: 0\n"),
     (
         "[FEN \"4k3/8/8/8/8/8/8/4K3 w - -\"]\n*",
-        "game 1\nfen: 4k3/8/8/8/8/8/8/4K3 w - -\nwhite: unwinnable\nblack: unwinnable\nstatus: dead\nresult: * -> 1/2-1/2 by 5.2.2\ngames: 1, unreadable: 0, changed: 1, undecided: 0\n",
+        "game 1\nfen: 4k3/8/8/8/8/8/8/4K3 w - -\nwhite: unwinnable\nblack: unwinnable\nstatus: dead\ndead from: ply 0\nresult: * -> 1/2-1/2 by 5.2.2\ngames: 1, unreadable: 0, changed: 1, undecided: 0\n",
     ),
     (
         "1. f3 e5 2. g4 Qh4# 0-1",
@@ -19,7 +19,7 @@ pub const ROWS: [Row; 22] = [
     ),
     (
         "[FEN \"7k/5Q2/6K1/8/8/8/8/8 b - -\"]\n1-0",
-        "game 1\nfen: 7k/5Q2/6K1/8/8/8/8/8 b - -\nwhite: unwinnable\nblack: unwinnable\nstatus: stalemate\nresult: 1-0 -> 1/2-1/2 by 5.2.1\ngames: 1, unreadable: 0, changed: 1, undecided: 0\n",
+        "game 1\nfen: 7k/5Q2/6K1/8/8/8/8/8 b - -\nwhite: unwinnable\nblack: unwinnable\nstatus: stalemate\ndead from: ply 0\nresult: 1-0 -> 1/2-1/2 by 5.2.1\ngames: 1, unreadable: 0, changed: 1, undecided: 0\n",
     ),
     (
         "[FEN \"6k1/5ppp/8/8/8/8/5PPP/3R2K1 b - -\"]\n[Termination \"time forfeit\"]\n\n1-0",
@@ -37,22 +37,22 @@ pub const ROWS: [Row; 22] = [
     // A knight alone never mates a bare king, whoever lost on time.
     (
         "[FEN \"8/8/8/4k3/8/8/8/4KN2 w - -\"]\n[Termination \"time forfeit\"]\n\n1-0",
-        "game 1\nfen: 8/8/8/4k3/8/8/8/4KN2 w - -\nwhite: unwinnable\nblack: unwinnable\nstatus: dead\nresult: 1-0 -> 1/2-1/2 by 5.2.2\ngames: 1, unreadable: 0, changed: 1, undecided: 0\n",
+        "game 1\nfen: 8/8/8/4k3/8/8/8/4KN2 w - -\nwhite: unwinnable\nblack: unwinnable\nstatus: dead\ndead from: ply 0\nresult: 1-0 -> 1/2-1/2 by 5.2.2\ngames: 1, unreadable: 0, changed: 1, undecided: 0\n",
     ),
-    // The last capture leaves two bare kings.
+    // The last capture leaves two bare kings, and no other move is legal.
     (
         "[FEN \"k7/1Q6/8/8/8/8/8/4K3 b - -\"]\n\n1... Kxb7 1/2-1/2",
-        "game 1\nfen: 8/1k6/8/8/8/8/8/4K3 w - -\nwhite: unwinnable\nblack: unwinnable\nstatus: dead\nresult: 1/2-1/2 -> 1/2-1/2 by 5.2.2\ngames: 1, unreadable: 0, changed: 0, undecided: 0\n",
+        "game 1\nfen: 8/1k6/8/8/8/8/8/4K3 w - -\nwhite: unwinnable\nblack: unwinnable\nstatus: dead\ndead from: ply 0\nresult: 1/2-1/2 -> 1/2-1/2 by 5.2.2\ngames: 1, unreadable: 0, changed: 0, undecided: 0\n",
     ),
-    // f5 closes the last gap of a wall.
+    // f5 closes the last gap of a wall; before it, f4 may take a pawn.
     (
         "[FEN \"4k3/8/5p2/p1p1p1p1/P1P1PPP1/8/8/4K3 w - -\"]\n\n1. f5 Kd7 *",
-        "game 1\nfen: 8/3k4/5p2/p1p1pPp1/P1P1P1P1/8/8/4K3 w - -\nwhite: unwinnable\nblack: unwinnable\nstatus: dead\nresult: * -> 1/2-1/2 by 5.2.2\ngames: 1, unreadable: 0, changed: 1, undecided: 0\n",
+        "game 1\nfen: 8/3k4/5p2/p1p1pPp1/P1P1P1P1/8/8/4K3 w - -\nwhite: unwinnable\nblack: unwinnable\nstatus: dead\ndead from: ply 1\nresult: * -> 1/2-1/2 by 5.2.2\ngames: 1, unreadable: 0, changed: 1, undecided: 0\n",
     ),
-    // The capture in passing is over after one move.
+    // The capture in passing is over after one move, and as long as it can be made a pawn gets free.
     (
         "[FEN \"4k3/6p1/5p2/p1p1pP2/P1P1P1P1/8/8/4K3 b - -\"]\n\n1... g5 2. Kd1 *",
-        "game 1\nfen: 4k3/8/5p2/p1p1pPp1/P1P1P1P1/8/8/3K4 b - -\nwhite: unwinnable\nblack: unwinnable\nstatus: dead\nresult: * -> 1/2-1/2 by 5.2.2\ngames: 1, unreadable: 0, changed: 1, undecided: 0\n",
+        "game 1\nfen: 4k3/8/5p2/p1p1pPp1/P1P1P1P1/8/8/3K4 b - -\nwhite: unwinnable\nblack: unwinnable\nstatus: dead\ndead from: ply 2\nresult: * -> 1/2-1/2 by 5.2.2\ngames: 1, unreadable: 0, changed: 1, undecided: 0\n",
     ),
     (
         SERVER_GAME,
@@ -60,7 +60,7 @@ pub const ROWS: [Row; 22] = [
     ),
     (
         "1. e4 e5 2. Ke3 1-0\n[FEN \"4k3/8/8/8/8/8/8/4K3 w - -\"]\n*",
-        "game 1\nunreadable: move 3 Ke3: no such move\ngame 2\nfen: 4k3/8/8/8/8/8/8/4K3 w - -\nwhite: unwinnable\nblack: unwinnable\nstatus: dead\nresult: * -> 1/2-1/2 by 5.2.2\ngames: 2, unreadable: 1, changed: 1, undecided: 0\n",
+        "game 1\nunreadable: move 3 Ke3: no such move\ngame 2\nfen: 4k3/8/8/8/8/8/8/4K3 w - -\nwhite: unwinnable\nblack: unwinnable\nstatus: dead\ndead from: ply 0\nresult: * -> 1/2-1/2 by 5.2.2\ngames: 2, unreadable: 1, changed: 1, undecided: 0\n",
     ),
     (
         "1. e4 {no end",

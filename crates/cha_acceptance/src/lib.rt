@@ -2,7 +2,7 @@
 //! that FEN says.
 //!
 //! `running` makes one run. `tables` goes through tables of whole outputs: `positions`, `games`, `printed` and `checks`.
-//! `faults` has sources and sinks that fail. `known` goes through the tables of positions with known verdicts: `walls`,
+//! `dead_from` has games that were dead from some ply on. `faults` has sources and sinks that fail. `known` goes through the tables of positions with known verdicts: `walls`,
 //! `walls_men`, `bishops`, `knights`, `pawns` and `ends`; `printed` checks what is printed of them. `closed_sets` and
 //! `mates_in_reach` put sets, which `written_sets` reads, to the checker; `least_sets` and `static_verdicts` have answers of
 //! the solver, and `certificates` those of the check of certificates.
@@ -16,6 +16,8 @@ mod certificates;
 mod checks;
 #[cfg(test)]
 mod closed_sets;
+#[cfg(test)]
+mod dead_from;
 #[cfg(test)]
 mod ends;
 #[cfg(test)]

@@ -32,7 +32,52 @@ nodes 1
 leaf 0 4k3/8/8/8/8/8/8/4K3 w - -
 end
 status: dead
+dead from: ply 0
 result: * -> 1/2-1/2 by 5.2.2
+games: 1, unreadable: 0, changed: 1, undecided: 0
+";
+
+/// The same after one move: the certificates of ply 0 follow its line.
+const DEAD_BEFORE: &str = "\
+game 1
+fen: 4k3/8/8/8/8/8/3K4/8 b - -
+white: unwinnable
+cha-cert 1
+winner w
+nodes 1
+leaf 4k3/8/8/8/8/8/3K4/8 b - -
+loose 1000000000000800
+reach d2 K ffffffffffffffff
+reach e8 K ffffffffffffffff
+end
+black: unwinnable
+cha-cert 1
+winner b
+nodes 1
+leaf 4k3/8/8/8/8/8/3K4/8 b - -
+loose 1000000000000800
+reach d2 K ffffffffffffffff
+reach e8 K ffffffffffffffff
+end
+status: dead
+dead from: ply 0
+cha-cert 1
+winner w
+nodes 1
+leaf 4k3/8/8/8/8/8/8/4K3 w - -
+loose 1000000000000010
+reach e1 K ffffffffffffffff
+reach e8 K ffffffffffffffff
+end
+cha-cert 1
+winner b
+nodes 1
+leaf 4k3/8/8/8/8/8/8/4K3 w - -
+loose 1000000000000010
+reach e1 K ffffffffffffffff
+reach e8 K ffffffffffffffff
+end
+result: 1-0 -> 1/2-1/2 by 5.2.2
 games: 1, unreadable: 0, changed: 1, undecided: 0
 ";
 
@@ -103,8 +148,12 @@ positions: 1, refused: 0, dead: 0, undecided: 0
 ";
 
 /// Games with the certificates of sides that cannot mate.
-pub const GAMES: [Row; 2] = [
+pub const GAMES: [Row; 3] = [
     ("[FEN \"4k3/8/8/8/8/8/8/4K3 w - -\"]\n*", BARE_KINGS),
+    (
+        "[FEN \"4k3/8/8/8/8/8/8/4K3 w - -\"]\n1. Kd2 1-0",
+        DEAD_BEFORE,
+    ),
     ("", "games: 0, unreadable: 0, changed: 0, undecided: 0\n"),
 ];
 

@@ -69,8 +69,8 @@ struct Long {
 }
 
 /// Lines of a position may have 4,096 bytes, games 12,000 moves, and tag values 4,096 bytes. The last input begins with a byte
-/// order mark and castles with zeros.
-const LONG: [Long; 7] = [
+/// order mark and castles with zeros. A game of bare kings that is played on for 300 plies was dead from the capture on.
+const LONG: [Long; 8] = [
     Long {
         words: "position",
         before: "4k3/8/8/8/8/8/8/4K3 w - -",
@@ -118,6 +118,14 @@ const LONG: [Long; 7] = [
         times: 4097,
         after: "\"]\n*",
         part: "game 1\nunreadable: tag value over 4096 bytes\ngames: 1, unreadable: 1, changed: 0, undecided: 0\n",
+    },
+    Long {
+        words: "adjudicate",
+        before: "[FEN \"4k3/8/8/8/8/8/3q4/4K3 w - -\"]\nKxd2 Kd7 ",
+        piece: "Kd3 Kd6 Kd2 Kd7 ",
+        times: 75,
+        after: "*",
+        part: "status: dead\ndead from: ply 1\nresult: * -> 1/2-1/2 by 5.2.2\n",
     },
     Long {
         words: "adjudicate",

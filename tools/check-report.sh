@@ -27,10 +27,11 @@ count_one() {
 
 # fault: says what is wrong with the certificate in $text, and nothing where it is accepted
 fault() {
-    local lines answer status
+    local lines first answer status
     mapfile -t lines <<< "$text"
+    first=$(sed -n '/^nodes /{n;p;q;}' <<< "$text")
     [ "${lines[1]-}" = "winner ${side:0:1}" ] || { echo "for another side: ${lines[1]-}"; return; }
-    case ${lines[3]-} in "leaf $fen" | "inner $fen") ;; *) echo "of another position: ${lines[3]-}"; return ;; esac
+    case $first in "inner $fen" | "small $fen" | leaf\ *\ "$fen") ;; *) echo "of another position: $first"; return ;; esac
     answer=$(printf %s "$text" | "$program" check)
     status=$?
     [ "$status $answer" = "0 accepted ${side:0:1}" ] || echo "${answer:-no answer}, status $status"

@@ -24,7 +24,7 @@ agree() {
 }
 
 mkdir "$work/certs"
-awk -v dir="$work/certs" '/^cha-cert [12]$/ { n += 1; open = 1 } open { print > (dir "/" n) } /^end$/ { open = 0; close(dir "/" n) }' "$work/ours"
+awk -v dir="$work/certs" '/^cha-cert 2$/ { n += 1; open = 1 } open { print > (dir "/" n) } /^end$/ { open = 0; close(dir "/" n) }' "$work/ours"
 accepted=0 damaged=0 refused=0
 for cert in "$work"/certs/*; do
     [ -e "$cert" ] || break

@@ -15,6 +15,7 @@ import sys
 
 from board import NAMES, Refused, after, is_mated, in_check, legal, move_text, other, read_fen, write_fen
 from sets import Sets, has_no_mate, is_closed, least
+from small import small_unwinnable
 
 SIDES = {"w": "white", "b": "black"}
 MOST = 4294967295
@@ -176,16 +177,25 @@ class Text:
         return found
 
 
-def read_node(text, pattern):
-    """A node line: what matches the pattern, and the position behind it."""
-    found = text.take("node", f"(?:{pattern}) (?P<fen>.*)")
+SMALL = object()
+
+
+def read_position(text, pattern):
+    found = text.take("node", pattern)
     try:
-        position = read_fen(found["fen"])
+        position = read_fen(found[found.lastindex])
     except Refused:
         position = None
-    if position is None or write_fen(position) != found["fen"]:
+    if position is None or write_fen(position) != found[found.lastindex]:
         raise Misfit(f"line {text.taken} node")
-    return found, position
+    return found[1], position
+
+
+def read_count(text, kind, label, least):
+    count = text.take(kind, label + " (0|[1-9][0-9]*)")[1]
+    if len(count) > 10 or not least <= int(count) <= MOST:
+        raise Misfit(f"line {text.taken} {kind}")
+    return int(count)
 
 
 def squares_of(digits):
@@ -204,67 +214,38 @@ def read_sets(text):
     return sets
 
 
-def read_number(text, kind, word, least):
-    """A line with a number from least on, without leading zeros."""
-    found = int(text.take(kind, f"{word} (0|[1-9][0-9]*)")[1])
-    if not least <= found <= MOST:
-        raise Misfit(f"line {text.taken} {kind}")
-    return found
-
-
-def read_first(text):
-    """The nodes of version 1, each with its own sets, or with none where it is an inner node."""
-    count, nodes = read_number(text, "count", "nodes", 1), []
-    while len(nodes) < count:
-        found, position = read_node(text, "(?P<kind>inner|leaf)")
-        nodes.append((position, read_sets(text) if found["kind"] == "leaf" else None))
-    return nodes
-
-
-def read_second(text):
-    """The nodes of version 2, whose leaves name sets that stand before them. A node of small material has the word `small`."""
-    sets, nodes = [], []
-    many = read_number(text, "sets", "sets", 0)
-    while len(sets) < many:
-        sets.append(read_sets(text))
-    count = read_number(text, "count", "nodes", 1)
-    while len(nodes) < count:
-        found, position = read_node(text, "inner|(?P<small>small)|leaf (?P<named>0|[1-9][0-9]*)")
-        if found["named"] is not None and int(found["named"]) >= many:
-            raise Misfit(f"line {text.taken} node")
-        nodes.append((position, sets[int(found["named"])] if found["named"] else found["small"]))
-    return nodes
-
-
 def read_certificate(data):
-    text = Text(data)
+    text, nodes = Text(data), []
     version = text.take("header", "cha-cert ([12])")[1]
     winner = text.take("winner", "winner ([wb])")[1]
-    nodes = read_first(text) if version == "1" else read_second(text)
+    shared = []
+    if version == "2":
+        many = read_count(text, "sets", "sets", 0)
+        while len(shared) < many:
+            shared.append(read_sets(text))
+    count = read_count(text, "count", "nodes", 1)
+    while len(nodes) < count:
+        if version == "1":
+            kind, position = read_position(text, "(inner|leaf) (.*)")
+            nodes.append((position, read_sets(text) if kind == "leaf" else None))
+            continue
+        kind, position = read_position(text, "(inner|small|leaf (?:0|[1-9][0-9]*)) (.*)")
+        if kind.startswith("leaf "):
+            number = int(kind[5:])
+            if number >= len(shared):
+                raise Misfit(f"line {text.taken} node")
+            nodes.append((position, shared[number]))
+        else:
+            nodes.append((position, SMALL if kind == "small" else None))
     text.take("end", "end")
     if text.next() is not None:
         raise Misfit(f"line {text.taken + 1} end")
     return winner, nodes
 
 
-# the men with which a lone knight or bishop never mates, whatever the squares
-HARMLESS = {"N": ("", "Q"), "B": ("", "Q", "R")}
-
-
-def is_small(position, winner):
-    """Whether no pawn is there, each side has at most one man beside its king, and the winner's never mates."""
-    beside = {"w": "", "b": ""}
-    for man in position.men:
-        if man is not None and man[1] != "K":
-            beside[man[0]] += man[1]
-    own, their = beside[winner], beside[other(winner)]
-    few = len(own) <= 1 and len(their) <= 1 and "P" not in own + their
-    return few and (not own or their in HARMLESS.get(own, ()))
-
-
 def holds(position, sets, known, winner):
-    if sets == "small":
-        return is_small(position, winner)
+    if sets is SMALL:
+        return small_unwinnable(position, winner)
     if sets is not None:
         return is_closed(position, sets) and has_no_mate(position, sets, winner)
     return not is_mated(position, other(winner)) and all(after(position, move) in known for move in legal(position))

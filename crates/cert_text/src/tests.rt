@@ -3,7 +3,7 @@
 
 use crate::{CertFault, CertKind, migrate, read, read_any, read2, write, write2};
 use cha_board::Color;
-use cha_cert::{Checked, Part, check_shared, share};
+use cha_cert::{Checked, Part, check, check_shared, expand, share};
 use cha_list::{Text, text_of};
 use std::alloc::Global;
 use std::test::Fail;
@@ -83,6 +83,27 @@ fn a_text_of_the_first_version_is_migrated_and_accepted(rt: HostRuntime) -> Resu
     let position = found.cert.nodes()[0].position;
     let checked = check_shared(alloc, &position, found.winner, &found.cert)?;
     assert!(rt; checked == Checked::Accepted);
+    Ok(())
+}
+
+#[test]
+fn five_thousand_leaves_are_accepted(rt: HostRuntime) -> Result<(), Fail> {
+    let alloc = rt.alloc();
+    let head = "cha-cert 2\nwinner w\nsets 1\nloose 0002000000000010\nreach e1 K ffffffffffffffff\n\
+                reach b7 K ffffffffffffffff\nnodes 5001\ninner k7/1Q6/8/8/8/8/8/4K3 b - -\n";
+    let mut text = text_of(alloc, head.as_bytes())?;
+    for _leaf in 0..5000 {
+        text.append(b"leaf 0 8/1k6/8/8/8/8/8/4K3 w - -\n")?;
+    }
+    text.append(b"end\n")?;
+    let found = read_any(alloc, text.items())?;
+    let position = found.cert.nodes()[0].position;
+    let shared = check_shared(alloc, &position, found.winner, &found.cert)?;
+    assert!(rt; shared == Checked::Accepted);
+    let cert = expand(alloc, &found.cert)?;
+    assert!(rt; cert.nodes().len() == 5001);
+    let plain = check(alloc, &position, found.winner, &cert)?;
+    assert!(rt; plain == Checked::Accepted);
     Ok(())
 }
 

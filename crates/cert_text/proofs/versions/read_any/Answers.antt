@@ -1,5 +1,5 @@
 -- A text is read by the version that its first line tells.
-use Rattle.std.proofs.Common.{rules, ◌≡◌, true, false, Ok, sym, ◌∙◌}
+use Rattle.std.proofs.Common.{rules, Ok, sym, ◌∙◌}
 use Rattle.cert_text.proofs.EitherVersion.{says_first, second_ok, second_err, first_err}
 use Rattle.cert_text.proofs.versions.read_any.Goals as goal
 

@@ -5,3 +5,4 @@ pub mod Scans
 pub mod Games
 pub mod Checks
 pub mod Totals
+pub mod Mates

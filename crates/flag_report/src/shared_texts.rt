@@ -41,7 +41,7 @@ pub fn put_count_line(
 
 /// Appends the texts of moves, each behind a space.
 #[tactic(auto, unfolding(crate::specs::Blocks::moves_text))]
-fn put_moves(moves: &[Move], text: &mut Text) -> Result<(), NoMemory>
+pub fn put_moves(moves: &[Move], text: &mut Text) -> Result<(), NoMemory>
     ensures { OnOk result (text.new ≡ text.old ++ moves_text moves.now) }
 {
     for m in moves {
@@ -145,7 +145,7 @@ fn put_side(
 }
 
 /// Appends the line with the FEN of a position.
-fn put_fen(alloc: Global, position: &Position, text: &mut Text) -> Result<(), NoMemory>
+pub fn put_fen(alloc: Global, position: &Position, text: &mut Text) -> Result<(), NoMemory>
     ensures { OnOk result (text.new ≡ text.old ++ line (codes "fen: " ++ fen_text position.now)) }
 {
     text.append(b"fen: ")?;

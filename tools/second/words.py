@@ -14,6 +14,7 @@ import subprocess
 import sys
 
 RANGES = {"--budget": (1, 100000), "--workers": (1, 16), "--depth": (2, 8), "--entries": (1, 65536)}
+MATES_RANGES = {"--workers": (1, 16), "--depth": (1, 6)}
 
 
 def number(word, least, most):
@@ -22,16 +23,17 @@ def number(word, least, most):
 
 def is_ordered(words):
     """Whether a list of words is in the language."""
-    if not words or words[0] not in ("adjudicate", "position", "check", "gen"):
+    if not words or words[0] not in ("adjudicate", "position", "check", "gen", "mates"):
         return False
     command, rest, seen, plain = words[0], list(words[1:]), set(), []
     if command == "check":
         return not rest
+    ranges = MATES_RANGES if command == "mates" else RANGES
     while rest:
         word = rest.pop(0)
         name, equals, value = word.partition("=")
         if word == "--certs":
-            if word in seen or command == "gen":
+            if word in seen or command in ("gen", "mates"):
                 return False
             seen.add(word)
         elif word in RANGES or (equals and name in RANGES):
@@ -39,11 +41,13 @@ def is_ordered(words):
                 if not rest:
                     return False
                 value = rest.pop(0)
-            if name in seen or not number(value, *RANGES[name]):
+            if name in seen or name not in ranges or not number(value, *ranges[name]):
                 return False
             seen.add(name)
         else:
             plain.append(word)
+    if command == "mates":
+        return plain in (["w"], ["b"])
     if command != "gen":
         return not plain
     return len(plain) == 2 and number(plain[0], 0, 2**64 - 1) and number(plain[1], 1, 1000)
@@ -52,10 +56,12 @@ def is_ordered(words):
 def random_words():
     """A list of words, of which about a half is in the language."""
     values = ["0", "1", "2", "4", "8", "9", "16", "17", "007", "100000", "100001", "65536", "65537", "", "+1", "x", "00000000000000000002"]
-    command = random.choice(["adjudicate", "position", "gen", "check", "Position", "solve", "adjudicate", "position", "gen"])
+    command = random.choice(["adjudicate", "position", "gen", "check", "Position", "solve", "adjudicate", "position", "gen", "mates", "mates"])
     words = [command]
     if command == "gen":
         words += [random.choice(["0", "7", "18446744073709551615", "18446744073709551616", "-1"]), random.choice(["1", "2", "0", "1001"])]
+    if command == "mates":
+        words += random.choice([["w"], ["b"], ["w"], ["b"], ["x"], [], ["w", "b"]])
     for _ in range(random.choice([0, 0, 1, 1, 2, 3])):
         name = random.choice(list(RANGES))
         least, most = RANGES[name]

@@ -7,3 +7,4 @@ pub mod PlayedGames
 pub mod Scanned
 pub mod GameLoop
 pub mod LineLoop
+pub mod MatesLoop

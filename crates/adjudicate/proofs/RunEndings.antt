@@ -13,7 +13,7 @@ use Rattle.cha_cert.specs.Certificates.{BeginsAt, AllValid}
 use Rattle.cha_cert.proofs.Bounded.{valid_is_unwinnable}
 use Rattle.cert_text.proofs.EitherVersion.{any_is_spelled}
 use Rattle.cha_words.specs.declared.orders.Order.{Order}
-use Rattle.cha_words.specs.declared.orders.Order.TheVariants.{AdjudicateGames, JudgePositions, CheckCert, GenGames}
+use Rattle.cha_words.specs.declared.orders.Order.TheVariants.{AdjudicateGames, JudgePositions, CheckCert, GenGames, ListMates}
 use Rattle.adjudicate.specs.declared.endings.Status.{Status}
 use Rattle.adjudicate.specs.declared.endings.Status.TheVariants.{Done, Usage, ReadFault, WriteFault, TooLong, NoMemory, NotAccepted}
 use Rattle.adjudicate.specs.Statuses.{status_of_end}
@@ -24,6 +24,7 @@ use Rattle.flag_report.specs.Totals.{game_summary_text}
 use Rattle.cha_verdict.specs.Bounds.{Bounds}
 use Rattle.random_games.specs.Made.{made}
 use Rattle.adjudicate.specs.Outcomes.{blocks, game_items, position_items}
+use Rattle.adjudicate.specs.MatesReport.{mates_items}
 use Rattle.adjudicate.specs.Runs.{Outside, outside, Ended, BeginsWhole, Reads, Takes, HasReadAll, IsRun}
 use Rattle.adjudicate.specs.Steps.{IsWritten, CountsAll}
 
@@ -37,6 +38,7 @@ pub law_holds : (order : Order) (s : Status) (before now : Outside) → Ended or
 law_holds (AdjudicateGames limits certs) s before now ended done check = cc
 law_holds (JudgePositions limits certs) s before now ended done check = cc
 law_holds (GenGames limits seed count) s before now ended done check = cc
+law_holds (ListMates side workers depth) s before now ended done check = cc
 law_holds CheckCert Usage before now ended done check = cc
 law_holds CheckCert ReadFault before now ended done check = cc
 law_holds CheckCert WriteFault before now ended done check = cc
@@ -86,23 +88,26 @@ module _ (order : Order) (before now : Outside) (reads : Reads order) (source_la
 
 -- bytes were taken, and nothing was written
 nothing_yet : (order : Order) (bytes : List ℕ) → HasWholeBlocks order bytes []
-unfolding blocks
+unfolding blocks mates_items
 nothing_yet (AdjudicateGames limits certs) bytes = ([], game_items bytes, refl, tt, refl)
 nothing_yet (JudgePositions limits certs) bytes = ([], position_items bytes, refl, tt, refl)
 nothing_yet CheckCert bytes = refl
 nothing_yet (GenGames limits seed count) bytes = refl
+nothing_yet (ListMates side workers depth) bytes = ([], position_items bytes, refl, refl)
 
 -- an order that reads takes what its source gives
 takes : (order : Order) (left left' a a' : Option (List ℕ)) (f f' g g' : ℕ) (bytes : List ℕ) → Reads order → Consumes left left' bytes → Takes order (outside left f a g) (outside left' f' a' g') bytes
 takes (AdjudicateGames limits certs) left left' a a' f f' g g' bytes reads consumed = consumed
 takes (JudgePositions limits certs) left left' a a' f f' g g' bytes reads consumed = consumed
 takes CheckCert left left' a a' f f' g g' bytes reads consumed = consumed
+takes (ListMates side workers depth) left left' a a' f f' g g' bytes reads consumed = consumed
 takes (GenGames limits seed count) left left' a a' f f' g g' bytes reads consumed = absurd reads
 
 has_read : (order : Order) (left a : Option (List ℕ)) (f g : ℕ) → IsAtEnd left → HasReadAll order (outside left f a g)
 has_read (AdjudicateGames limits certs) left a f g end = end
 has_read (JudgePositions limits certs) left a f g end = end
 has_read CheckCert left a f g end = end
+has_read (ListMates side workers depth) left a f g end = end
 has_read (GenGames limits seed count) left a f g end = tt
 
 pub nothing_begun : (order : Order) (left left' a : Option (List ℕ)) (f f' g : ℕ) (P : List ℕ → Type 0) → Reads order → Took left left' P → BeginsWhole order (outside left f a g) (outside left' f' a g)
@@ -183,6 +188,7 @@ not_begun order left a f g = record {
     begins (JudgePositions limits certs) = ([], consumes_nothing left, ([], appends_nothing a, nothing_yet (JudgePositions limits certs) []))
     begins CheckCert = ([], consumes_nothing left, ([], appends_nothing a, refl))
     begins (GenGames limits seed count) = ([], (refl, refl, refl), ([], appends_nothing a, refl))
+    begins (ListMates side workers depth) = ([], consumes_nothing left, ([], appends_nothing a, nothing_yet (ListMates side workers depth) []))
 
 -- the summary of games that were made was written, or a part of it
 pub made_run : (limits : Bounds) (seed count : ℕ) (left a a' : Option (List ℕ)) (f g g' : ℕ) (s : GameTotals) (status : Status) → CountsAll limits (game_items (made seed count)) s → g ≤ g'

@@ -11,7 +11,7 @@ use Rattle.cert_text.specs.declared.reader.Certificate.{Certificate}
 use Rattle.cert_text.specs.Versions.{any_cert_of, IsAnyText}
 use Rattle.flag_report.specs.Checks.{accepted_text, misfit_text, failing_text}
 use Rattle.cha_words.specs.declared.orders.Order.{Order}
-use Rattle.cha_words.specs.declared.orders.Order.TheVariants.{AdjudicateGames, JudgePositions, CheckCert, GenGames}
+use Rattle.cha_words.specs.declared.orders.Order.TheVariants.{AdjudicateGames, JudgePositions, CheckCert, GenGames, ListMates}
 
 -- the line on what a check of a certificate answers
 abbrev pub checked_text : Color → Checked → List ℕ
@@ -48,3 +48,4 @@ IsAccepted (AdjudicateGames limits certs) bytes = ⊤
 IsAccepted (JudgePositions limits certs) bytes = ⊤
 IsAccepted CheckCert bytes = IsReadAs IsValidAtFirst bytes
 IsAccepted (GenGames limits seed count) bytes = ⊤
+IsAccepted (ListMates side workers depth) bytes = ⊤

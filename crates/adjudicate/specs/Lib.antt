@@ -2,8 +2,10 @@
 pub mod Lines
 pub mod Outcomes
 pub mod Checks
+pub mod MatesReport
 pub mod Report
 pub mod Runs
 pub mod Statuses
 -- what only the crate's own functions say of each other
 pub mod Steps
+pub mod MatesSteps

@@ -4,10 +4,11 @@ use Rattle.flag_report.specs.Totals.{game_summary_text, position_summary_text}
 use Rattle.cha_verdict.specs.Bounds.{Bounds}
 use Rattle.cert_text.specs.Versions.{any_cert_of}
 use Rattle.cha_words.specs.declared.orders.Order.{Order}
-use Rattle.cha_words.specs.declared.orders.Order.TheVariants.{AdjudicateGames, JudgePositions, CheckCert, GenGames}
+use Rattle.cha_words.specs.declared.orders.Order.TheVariants.{AdjudicateGames, JudgePositions, CheckCert, GenGames, ListMates}
 use Rattle.adjudicate.specs.Outcomes.{Item, Outcome, item_of, IsSoundOutcome, AllSound, block, blocks, game_totals, position_totals, game_items, position_items}
 use Rattle.random_games.specs.Made.{made}
 use Rattle.adjudicate.specs.Checks.{IsAnswerTo}
+use Rattle.adjudicate.specs.MatesReport.{mates_items, mates_report}
 
 -- the summary of the outcomes of games and of positions
 abbrev pub last_of_games : List Outcome → List ℕ
@@ -26,12 +27,13 @@ abbrev pub IsSummaryOn : Bounds → (List Outcome → List ℕ) → List Item �
 IsSummaryOn limits last items out = (os : List Outcome) × (map item_of os ≡ items) × AllSound limits os × (out ≡ last os)
 
 -- what an order has written for an input: of games and positions a report, of a certificate the answer of its check, and of games
--- that are made the summary
+-- that are made the summary; of the shortest mates the blocks of all lines and their summary
 abbrev pub IsReport : Order → List ℕ → List ℕ → Type 0
 IsReport (AdjudicateGames limits certs) bytes out = IsReportOn limits certs last_of_games (game_items bytes) out
 IsReport (JudgePositions limits certs) bytes out = IsReportOn limits certs last_of_positions (position_items bytes) out
 IsReport CheckCert bytes out = IsAnswerTo (any_cert_of bytes) out
 IsReport (GenGames limits seed count) bytes out = IsSummaryOn limits last_of_games (game_items (made seed count)) out
+IsReport (ListMates side workers depth) bytes out = out ≡ mates_report side depth (position_items bytes)
 
 -- a list is the front of another
 abbrev pub IsFront : List ℕ → List ℕ → Type 0
@@ -55,6 +57,7 @@ HasBegun (AdjudicateGames limits certs) bytes out = HasBegunOn limits certs last
 HasBegun (JudgePositions limits certs) bytes out = HasBegunOn limits certs last_of_positions (position_items bytes) out
 HasBegun CheckCert bytes out = (whole : List ℕ) × IsAnswerTo (any_cert_of bytes) whole × IsFront out whole
 HasBegun (GenGames limits seed count) bytes out = (whole : List ℕ) × IsSummaryOn limits last_of_games (game_items (made seed count)) whole × IsFront out whole
+HasBegun (ListMates side workers depth) bytes out = IsFront out (mates_report side depth (position_items bytes))
 
 -- the output is the blocks of sound outcomes of the first items
 abbrev pub HasWholeBlocksOn : Bounds → Bool → List Item → List ℕ → Type 0
@@ -68,3 +71,4 @@ HasWholeBlocks (AdjudicateGames limits certs) bytes out = HasWholeBlocksOn limit
 HasWholeBlocks (JudgePositions limits certs) bytes out = HasWholeBlocksOn limits certs (position_items bytes) out
 HasWholeBlocks CheckCert bytes out = out ≡ []
 HasWholeBlocks (GenGames limits seed count) bytes out = out ≡ []
+HasWholeBlocks (ListMates side workers depth) bytes out = (first later : List Item) × (position_items bytes ≡ first ++ later) × (out ≡ mates_items side depth 1 first)

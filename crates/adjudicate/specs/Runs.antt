@@ -5,7 +5,7 @@ use Rattle.std.specs.Io.KnownBytes.{Appends, Consumes, IsAtEnd}
 use Rattle.cha_outside.specs.Faults.{Rose}
 use Rattle.cha_outside.specs.Gathering.{Took}
 use Rattle.cha_words.specs.declared.orders.Order.{Order}
-use Rattle.cha_words.specs.declared.orders.Order.TheVariants.{AdjudicateGames, JudgePositions, CheckCert, GenGames}
+use Rattle.cha_words.specs.declared.orders.Order.TheVariants.{AdjudicateGames, JudgePositions, CheckCert, GenGames, ListMates}
 use Rattle.adjudicate.specs.declared.endings.Status.{Status}
 use Rattle.adjudicate.specs.declared.endings.Status.TheVariants.{Done, Usage, ReadFault, WriteFault, TooLong, NoMemory, NotAccepted}
 use Rattle.adjudicate.specs.Checks.{IsAccepted}
@@ -33,12 +33,14 @@ Reads (AdjudicateGames limits certs) = ⊤
 Reads (JudgePositions limits certs) = ⊤
 Reads CheckCert = ⊤
 Reads (GenGames limits seed count) = ⊥
+Reads (ListMates side workers depth) = ⊤
 
 -- these bytes were taken of the source; where games are made there are none, and the source is as it was
 abbrev pub Takes : Order → Outside → Outside → List ℕ → Type 0
 Takes (AdjudicateGames limits certs) before now bytes = Consumes before.left now.left bytes
 Takes (JudgePositions limits certs) before now bytes = Consumes before.left now.left bytes
 Takes CheckCert before now bytes = Consumes before.left now.left bytes
+Takes (ListMates side workers depth) before now bytes = Consumes before.left now.left bytes
 Takes (GenGames limits seed count) before now bytes = (bytes ≡ []) × (now.left ≡ before.left) × (now.read_faults ≡ before.read_faults)
 
 -- nothing is left of what an order reads
@@ -47,6 +49,7 @@ HasReadAll (AdjudicateGames limits certs) now = IsAtEnd now.left
 HasReadAll (JudgePositions limits certs) now = IsAtEnd now.left
 HasReadAll CheckCert now = IsAtEnd now.left
 HasReadAll (GenGames limits seed count) now = ⊤
+HasReadAll (ListMates side workers depth) now = IsAtEnd now.left
 
 -- the whole input was taken, it is what its order asks for, and its report was written
 abbrev pub Reports : Order → Outside → Outside → Type 0

@@ -1,7 +1,7 @@
 //! The one call that reads an input, judges its items and writes the report.
 //!
 //! `endings` has how a run ends, `splitting` the lines of a text, `judging` and `playing` what is found about one line and one
-//! game, `writing` how its block goes out, `positions` and `games` whole inputs, `generated` games that are made of numbers,
+//! game, `writing` how its block goes out, `positions` and `games` whole inputs, `generated` games that are made of numbers, `mates` positions whose shortest mates are listed,
 //! `checking` the check of a certificate, `commands` what each order does, `top` the call `run`, and `alone` the same call
 //! without a runtime.
 #![tactic(auto)]
@@ -13,6 +13,7 @@ mod endings;
 mod games;
 mod generated;
 mod judging;
+mod mates;
 mod playing;
 mod positions;
 mod splitting;

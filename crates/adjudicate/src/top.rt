@@ -9,16 +9,16 @@ ghost use Rattle.cha_verdict.specs.Bounds.{Bounds};
 ghost use Rattle.cha_verdict.specs.Sound.{IsSound, IsComplete, verdict_on};
 ghost use Rattle.cha_verdict.specs.declared.decisions.Decision.{Decision};
 ghost use Rattle.cha_words.specs.declared.orders.Order.TheVariants.{CheckCert, GenGames};
-ghost use Rattle.cha_words.specs.Language.{order};
+ghost use Rattle.cha_words.specs.Language.{order, limits_in};
 ghost use Rattle.adjudicate.specs.Checks.{IsTextOf, IsUnwinnableAtFirst};
 ghost use Rattle.adjudicate.specs.Runs.{IsRun, outside};
 
-use crate::checking::check_cert;
-use crate::commands::carry_out;
+use crate::commands::{carry_out, carry_out_plain};
 use crate::endings::Status;
 use cha_outside::{MOST_BYTES, Sink, Source};
 use cha_verdict::{Limits, sound_is_complete};
-use cha_words::{Order, games_are_some, parse};
+use cha_words::{Order, games_are_some, mates_are_bounded, parse};
+use helpmate_list::InThreads;
 use root_workers::{Gate, Many, crew};
 use shard_table::Table;
 use std::alloc::Global;
@@ -60,10 +60,11 @@ pub fn run<R: Threads + Wait + Sync, S: Source, K: Sink>(
 {
     sound_is_complete();
     games_are_some();
+    mates_are_bounded();
     match parse(words) {
         Some(order) => match order.limits() {
             Some(limits) => by_threads(rt, alloc, &order, &limits, source, sink, gate),
-            None => check_cert(alloc, source, sink),
+            None => carry_out_plain(alloc, &order, &InThreads::new(rt), source, sink),
         },
         None => Status::Usage,
     }
@@ -79,6 +80,7 @@ fn by_threads<R: Threads + Wait + Sync, S: Source, K: Sink>(
     sink: &mut K,
     gate: &(dyn Gate + Sync),
 ) -> Status
+    requires searches { IsSome (limits_in order.now) }
     requires some { (spend : Bounds) (seed count : ℕ) → order.now ≡ GenGames spend seed count → (1 ≤ count) × (count ≤ 1000) }
     ensures { IsRun order.now result (outside (S.left source.old) (S.faults source.old) (K.written sink.old) (K.faults sink.old)) (outside (S.left source.new) (S.faults source.new) (K.written sink.new) (K.faults sink.new)) }
 {

@@ -195,10 +195,7 @@ pub const REFUSED: [Row; 37] = [
         "cha-cert 1\nwinner w\nsets 1\nloose 1000000000000010\nreach e1 K ffffffffffffffff\nreach e8 K ffffffffffffffff\nnodes 1\nleaf 0 4k3/8/8/8/8/8/8/4K3 w - -\nend\n",
         "refused: line 3 count\n",
     ),
-    (
-        "cha-cert 2\nwinner w\n",
-        "refused: line 3 sets\n",
-    ),
+    ("cha-cert 2\nwinner w\n", "refused: line 3 sets\n"),
     (
         "cha-cert 2\nwinner w\nsets 0\nnodes 1\nsmall 8/8/8/4k3/3r4/8/8/4KN2 w - -\nend\n",
         "refused: node 0\n",

@@ -2,7 +2,8 @@
 //! that FEN says.
 //!
 //! `running` makes one run. `tables` goes through tables of whole outputs: `positions`, `games`, `printed` and `checks`.
-//! `dead_from` has games that were dead from some ply on. `faults` has sources and sinks that fail. `known` goes through the tables of positions with known verdicts: `walls`,
+//! `mates` has runs that list the shortest mates. `dead_from` has games that were dead from some ply on. `faults` has sources and
+//! sinks that fail. `known` goes through the tables of positions with known verdicts: `walls`,
 //! `walls_men`, `bishops`, `knights`, `pawns` and `ends`; `printed` checks what is printed of them. `closed_sets` and
 //! `mates_in_reach` put sets, which `written_sets` reads, to the checker; `least_sets` and `static_verdicts` have answers of
 //! the solver, and `certificates` those of the check of certificates.
@@ -30,6 +31,8 @@ mod knights;
 mod known;
 #[cfg(test)]
 mod least_sets;
+#[cfg(test)]
+mod mates;
 #[cfg(test)]
 mod mates_in_reach;
 #[cfg(test)]

@@ -14,7 +14,7 @@ fn said_of(status: Status) -> Option<&'static str> {
         Status::Done => None,
         Status::NotAccepted => None,
         Status::Usage => Some(
-            "usage: cha adjudicate|position|check|gen SEED COUNT [--budget N] [--workers N] [--depth N] [--entries N] [--certs]",
+            "usage: cha adjudicate|position|check|gen SEED COUNT|mates w|mates b [--budget N] [--workers N] [--depth N] [--entries N] [--certs]",
         ),
         Status::ReadFault => Some("cannot read the input"),
         Status::WriteFault => Some("cannot write the output"),
@@ -57,6 +57,11 @@ fn say_fault(rt: &HostRuntime, fault: UsageFault) {
             eprintln!(rt; "word {place}: the number of games is from 1 to 1000")
         }
         UsageFault::TooFew => eprintln!(rt; "behind gen stand a seed and a number of games"),
+        UsageFault::NoMatesDepth(place) => {
+            eprintln!(rt; "word {place}: behind mates --depth takes a number from 1 to 6")
+        }
+        UsageFault::NoSide(place) => eprintln!(rt; "word {place}: the side is w or b"),
+        UsageFault::SideMissing => eprintln!(rt; "behind mates stands a side, w or b"),
     };
 }
 

@@ -1,7 +1,7 @@
 -- Numbers that are given already, and values that are still to come.
 use Rattle.std.proofs.Common.{◌≡◌, ℕ, List, [], ◌∷◌, filter_map, Option, Some, None, refl}
 use Rattle.cha_words.specs.declared.commands.Command.{Command}
-use Rattle.cha_words.specs.declared.commands.Command.TheVariants.{Adjudicate, Position, Check, Gen}
+use Rattle.cha_words.specs.declared.commands.Command.TheVariants.{Adjudicate, Position, Check, Gen, Mates}
 use Rattle.cha_words.specs.declared.settings.Setting.{Setting}
 use Rattle.cha_words.specs.declared.settings.Setting.TheVariants.{Budget, Workers, Depth, Entries}
 use Rattle.cha_words.specs.declared.given.Given.{Given}
@@ -54,6 +54,7 @@ value_refused s g v h Adjudicate ps = rw (no_limits s g v ps 2 h) refl
 value_refused s g v h Position ps = rw (no_limits s g v ps 2 h) refl
 value_refused s g v h Gen ps = rw (no_limits s g v ps 1 h) refl
 value_refused s g v h Check ps = refl
+value_refused s g v h Mates ps = refl
 
 more_limits : (s : Setting) (g : Given) (v : List ℕ) (n : ℕ) (ps : List Part) (workers : ℕ) → value_in s g ≡ None → number (least_of s) (most_of s) v ≡ Some n → limits_from workers g (Value s v ∷ ps) ≡ limits_from workers (put s n g) ps
 more_limits Budget g v n ps workers e r = rw (more_chosen g.budget 20000 Budget v n (filter_map (value_for Budget) ps) e r) refl
@@ -80,3 +81,4 @@ value_taken s g v n e r Adjudicate ps = rw (more_limits s g v n ps 2 e r, put_ce
 value_taken s g v n e r Position ps = rw (more_limits s g v n ps 2 e r, put_certs s n g, put_numbers s n g) refl
 value_taken s g v n e r Gen ps = rw (more_limits s g v n ps 1 e r, put_certs s n g, put_numbers s n g) refl
 value_taken s g v n e r Check ps = refl
+value_taken s g v n e r Mates ps = refl

@@ -6,10 +6,12 @@ use Rattle.std.proofs.lemmas.Bool.{and_parts}
 use Rattle.std.proofs.lemmas.Bool.Decides.{nat_tests}
 use Rattle.cha_verdict.specs.Bounds.{Bounds}
 use Rattle.cha_words.specs.declared.orders.Order.{Order}
-use Rattle.cha_words.specs.declared.orders.Order.TheVariants.{AdjudicateGames, JudgePositions, CheckCert, GenGames}
+use Rattle.cha_words.specs.declared.orders.Order.TheVariants.{AdjudicateGames, JudgePositions, CheckCert, GenGames, ListMates}
 use Rattle.cha_words.specs.declared.commands.Command.{Command}
-use Rattle.cha_words.specs.declared.commands.Command.TheVariants.{Adjudicate, Position, Check, Gen}
-use Rattle.cha_words.specs.Language.{is_number, number, Games, games_of, seed_and_count, generated, judged, order_by, order_behind, order_of, limits, asked, parts, is_certs, plain_word, command_named}
+use Rattle.cha_words.specs.declared.commands.Command.TheVariants.{Adjudicate, Position, Check, Gen, Mates}
+use Rattle.cha_words.specs.Language.{is_number, number, Games, games_of, seed_and_count, generated, judged, order_by, order_behind, order_of, limits, asked, parts, is_certs, plain_word, command_named, Part, value_for, chosen_up_to, side_in, is_barred, listed}
+use Rattle.cha_words.specs.declared.settings.Setting.TheVariants.{Workers, Depth}
+use Rattle.cha_board.specs.declared.men.Color.{Color}
 
 -- a number that is read lies in its range
 in_range : (least most n : ℕ) (word : List ℕ) → number least most word ≡ Some n → (least ≤ n) × (n ≤ most)
@@ -55,6 +57,13 @@ no_positions None certs words b s n e = cc
 no_positions (Some spend) None words b s n e = cc
 no_positions (Some spend) (Some certs) (w ∷ ws) b s n e = cc
 
+no_games_listed : (workers depth : Option ℕ) (side : Option Color) (barred : List Part) (b : Bounds) (s n : ℕ) → listed workers depth side barred ≡ Some (GenGames b s n) → (1 ≤ n) × (n ≤ 1000)
+no_games_listed None depth side [] b s n e = cc
+no_games_listed (Some k) None side [] b s n e = cc
+no_games_listed (Some k) (Some d) None [] b s n e = cc
+no_games_listed (Some k) (Some d) (Some c) [] b s n e = cc
+no_games_listed workers depth side (part ∷ barred) b s n e = cc
+
 by_command : (command : Option Command) (words : List (List ℕ)) (b : Bounds) (s n : ℕ) → order_behind command words ≡ Some (GenGames b s n) → (1 ≤ n) × (n ≤ 1000)
 unfolding order_by
 by_command None words b s n e = cc
@@ -63,9 +72,56 @@ by_command (Some Position) words b s n e = absurd (no_positions (limits 2 (parts
 by_command (Some Gen) words b s n e = by_games (limits 1 (parts words)) (asked (filter is_certs (parts words))) (seed_and_count (filter_map plain_word (parts words))) b s n e (λ g is. count_in_range (filter_map plain_word (parts words)) g is)
 by_command (Some Check) [] b s n e = cc
 by_command (Some Check) (w ∷ ws) b s n e = cc
+by_command (Some Mates) words b s n e = no_games_listed (chosen_up_to 16 2 (filter_map (value_for Workers) (parts words))) (chosen_up_to 6 4 (filter_map (value_for Depth) (parts words))) (side_in (filter_map plain_word (parts words))) (filter is_barred (parts words)) b s n e
 
 -- the games that are ordered
 pub counted : (words : List (List ℕ)) (b : Bounds) (s n : ℕ) → order_of words ≡ Some (GenGames b s n) → (1 ≤ n) × (n ≤ 1000)
 unfolding order_of
 counted [] b s n e = cc
 counted (word ∷ words) b s n e = by_command (command_named word) words b s n e
+
+-- what mates is given lies in its ranges
+chosen_in_range : (most usual n : ℕ) (words : List (List ℕ)) → 1 ≤ usual → usual ≤ most → chosen_up_to most usual words ≡ Some n → (1 ≤ n) × (n ≤ most)
+chosen_in_range most usual n [] low high e = (let same : usual ≡ n = cc in (omega (arith, same, low), omega (arith, same, high)))
+chosen_in_range most usual n (word ∷ []) low high e = in_range 1 most n word e
+chosen_in_range most usual n (word ∷ more ∷ words) low high e = cc
+
+listed_of : (workers depth : Option ℕ) (side : Option Color) (barred : List Part) (c : Color) (n d : ℕ) → listed workers depth side barred ≡ Some (ListMates c n d) → (workers ≡ Some n) × (depth ≡ Some d)
+listed_of None depth side [] c n d e = cc
+listed_of (Some k) None side [] c n d e = cc
+listed_of (Some k) (Some j) None [] c n d e = cc
+listed_of (Some k) (Some j) (Some s) [] c n d e = (let one : k ≡ n = cc in let two : j ≡ d = cc in (ap Some one, ap Some two))
+listed_of workers depth side (part ∷ barred) c n d e = cc
+
+not_mates_judged : (make : Bounds → Bool → Order) (spend : Option Bounds) (certs : Option Bool) (words : List (List ℕ)) (c : Color) (n d : ℕ) → ((l : Bounds) (k : Bool) → make l k ≡ ListMates c n d → ⊥) → judged make spend certs words ≡ Some (ListMates c n d) → ⊥
+not_mates_judged make (Some spend) (Some certs) [] c n d other e = other spend certs (let same : make spend certs ≡ ListMates c n d = cc in same)
+not_mates_judged make None certs words c n d other e = cc
+not_mates_judged make (Some spend) None words c n d other e = cc
+not_mates_judged make (Some spend) (Some certs) (w ∷ ws) c n d other e = cc
+
+not_mates_generated : (spend : Option Bounds) (certs : Option Bool) (games : Option Games) (c : Color) (n d : ℕ) → generated spend certs games ≡ Some (ListMates c n d) → ⊥
+not_mates_generated (Some spend) (Some false) (Some games) c n d e = cc
+not_mates_generated None certs games c n d e = cc
+not_mates_generated (Some spend) None games c n d e = cc
+not_mates_generated (Some spend) (Some true) games c n d e = cc
+not_mates_generated (Some spend) (Some false) None c n d e = cc
+
+mates_by_command : (command : Option Command) (words : List (List ℕ)) (c : Color) (n d : ℕ) → order_behind command words ≡ Some (ListMates c n d) → ((1 ≤ n) × (n ≤ 16)) × ((1 ≤ d) × (d ≤ 6))
+unfolding order_by
+mates_by_command None words c n d e = cc
+mates_by_command (Some Adjudicate) words c n d e = absurd (not_mates_judged AdjudicateGames (limits 2 (parts words)) (asked (filter is_certs (parts words))) (filter_map plain_word (parts words)) c n d (λ l k same. cc) e)
+mates_by_command (Some Position) words c n d e = absurd (not_mates_judged JudgePositions (limits 2 (parts words)) (asked (filter is_certs (parts words))) (filter_map plain_word (parts words)) c n d (λ l k same. cc) e)
+mates_by_command (Some Gen) words c n d e = absurd (not_mates_generated (limits 1 (parts words)) (asked (filter is_certs (parts words))) (seed_and_count (filter_map plain_word (parts words))) c n d e)
+mates_by_command (Some Check) [] c n d e = cc
+mates_by_command (Some Check) (w ∷ ws) c n d e = cc
+mates_by_command (Some Mates) words c n d e =
+    let both = listed_of (chosen_up_to 16 2 (filter_map (value_for Workers) (parts words))) (chosen_up_to 6 4 (filter_map (value_for Depth) (parts words))) (side_in (filter_map plain_word (parts words))) (filter is_barred (parts words)) c n d e in (
+      chosen_in_range 16 2 n (filter_map (value_for Workers) (parts words)) (omega arith) (omega arith) both.0,
+      chosen_in_range 6 4 d (filter_map (value_for Depth) (parts words)) (omega arith) (omega arith) both.1,
+    )
+
+-- the shortest mates that are ordered
+pub mates_counted : (words : List (List ℕ)) (c : Color) (n d : ℕ) → order_of words ≡ Some (ListMates c n d) → ((1 ≤ n) × (n ≤ 16)) × ((1 ≤ d) × (d ≤ 6))
+unfolding order_of
+mates_counted [] c n d e = cc
+mates_counted (word ∷ words) c n d e = mates_by_command (command_named word) words c n d e

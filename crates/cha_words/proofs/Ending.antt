@@ -9,7 +9,7 @@ use Rattle.cha_verdict.specs.Bounds.{Bounds}
 use Rattle.cha_words.specs.declared.orders.Order.{Order}
 use Rattle.cha_words.specs.declared.orders.Order.TheVariants.{AdjudicateGames, JudgePositions, CheckCert, GenGames}
 use Rattle.cha_words.specs.declared.commands.Command.{Command}
-use Rattle.cha_words.specs.declared.commands.Command.TheVariants.{Adjudicate, Position, Check, Gen}
+use Rattle.cha_words.specs.declared.commands.Command.TheVariants.{Adjudicate, Position, Check, Gen, Mates}
 use Rattle.cha_words.specs.declared.given.Numbers.{Numbers}
 use Rattle.cha_words.specs.declared.given.Numbers.TheVariants.{Unsaid, Seeded, Counted}
 use Rattle.cha_words.specs.Language.{judged, generated, command_named, order_by, order_behind, order_of}
@@ -71,20 +71,21 @@ pub gen_refused : (g : Given) → ((seed count : ℕ) → g.numbers ≡ Counted 
 unfolding order_from
 gen_refused g h = number_missing _ _ g.numbers h
 
-pub by_nothing : (c : Command) (words : List (List ℕ)) → (c ≡ Check → ⊥) → order_by c words ≡ order_from c nothing (parts_awaiting None words)
+pub by_nothing : (c : Command) (words : List (List ℕ)) → (c ≡ Check → ⊥) → (c ≡ Mates → ⊥) → order_by c words ≡ order_from c nothing (parts_awaiting None words)
 unfolding order_by order_from
-by_nothing Adjudicate words h = rw (cut_same words) refl
-by_nothing Position words h = rw (cut_same words) refl
-by_nothing Gen words h = rw (cut_same words) refl
-by_nothing Check words h = absurd (h refl)
+by_nothing Adjudicate words h k = rw (cut_same words) refl
+by_nothing Position words h k = rw (cut_same words) refl
+by_nothing Gen words h k = rw (cut_same words) refl
+by_nothing Check words h k = absurd (h refl)
+by_nothing Mates words h k = absurd (k refl)
 
-pub all_taken : (c : Command) (words : List (List ℕ)) (g : Given) → (c ≡ Check → ⊥) → TakesAll words (Some g) → order_by c words ≡ order_from c g []
+pub all_taken : (c : Command) (words : List (List ℕ)) (g : Given) → (c ≡ Check → ⊥) → (c ≡ Mates → ⊥) → TakesAll words (Some g) → order_by c words ≡ order_from c g []
 unfolding TakesAll
-all_taken c words g h taken = by_nothing c words h ∙ taken.1 c
+all_taken c words g h k taken = by_nothing c words h k ∙ taken.1 c
 
-pub all_refused : (c : Command) (words : List (List ℕ)) → (c ≡ Check → ⊥) → TakesAll words None → order_by c words ≡ None
+pub all_refused : (c : Command) (words : List (List ℕ)) → (c ≡ Check → ⊥) → (c ≡ Mates → ⊥) → TakesAll words None → order_by c words ≡ None
 unfolding TakesAll
-all_refused c words h taken = by_nothing c words h ∙ taken c
+all_refused c words h k taken = by_nothing c words h k ∙ taken c
 
 pub all_ranged : (words : List (List ℕ)) (g : Given) → TakesAll words (Some g) → HasRanges g
 unfolding TakesAll

@@ -6,3 +6,4 @@ pub mod Parts
 pub mod Digits
 pub mod Ranges
 pub mod Counts
+pub mod Listing

@@ -3,7 +3,7 @@ use Rattle.std.proofs.Common.{◌≡◌, ℕ, Bool, true, false, List, [], ◌�
 use Rattle.cha_verdict.specs.Bounds.{Bounds}
 use Rattle.cha_words.specs.declared.orders.Order.{Order}
 use Rattle.cha_words.specs.declared.commands.Command.{Command}
-use Rattle.cha_words.specs.declared.commands.Command.TheVariants.{Adjudicate, Position, Check, Gen}
+use Rattle.cha_words.specs.declared.commands.Command.TheVariants.{Adjudicate, Position, Check, Gen, Mates}
 use Rattle.cha_words.specs.declared.given.Given.{Given}
 use Rattle.cha_words.specs.declared.given.Numbers.{Numbers}
 use Rattle.cha_words.specs.declared.given.Numbers.TheVariants.{Unsaid, Seeded, Counted}
@@ -22,6 +22,7 @@ certs_taken g e Adjudicate ps = rw (more_asked g.certs (filter is_certs ps) e) r
 certs_taken g e Position ps = rw (more_asked g.certs (filter is_certs ps) e) refl
 certs_taken g e Gen ps = rw (more_asked g.certs (filter is_certs ps) e) refl
 certs_taken g e Check ps = refl
+certs_taken g e Mates ps = refl
 
 not_asked : (make : Bounds → Bool → Order) (l : Option Bounds) (words : List (List ℕ)) → judged make l None words ≡ None
 not_asked make None words = refl
@@ -41,6 +42,7 @@ certs_refused g e Adjudicate ps = rw (twice_asked g.certs (filter is_certs ps) e
 certs_refused g e Position ps = rw (twice_asked g.certs (filter is_certs ps) e) (not_asked _ _ _)
 certs_refused g e Gen ps = rw (twice_asked g.certs (filter is_certs ps) e) (not_generated _ _)
 certs_refused g e Check ps = refl
+certs_refused g e Mates ps = refl
 
 -- a command that takes no other word
 pub word_refused : (make : Bounds → Bool → Order) (l : Option Bounds) (certs : Option Bool) (word : List ℕ) (words : List (List ℕ)) → judged make l certs (word ∷ words) ≡ None
@@ -66,6 +68,7 @@ plain_refused g word h Adjudicate ps = plain_judged _ _ _ g.numbers word (filter
 plain_refused g word h Position ps = plain_judged _ _ _ g.numbers word (filter_map plain_word ps)
 plain_refused g word h Gen ps = rw (h (filter_map plain_word ps)) (no_games _ _)
 plain_refused g word h Check ps = refl
+plain_refused g word h Mates ps = refl
 
 pub no_seed : (word : List ℕ) (words : List (List ℕ)) → number 0 18446744073709551615 word ≡ None → games_from Unsaid (word ∷ words) ≡ None
 no_seed word [] e = refl
@@ -91,6 +94,7 @@ seed_taken g word n e r Adjudicate ps = rw (plain_judged _ _ _ g.numbers word (f
 seed_taken g word n e r Position ps = rw (plain_judged _ _ _ g.numbers word (filter_map plain_word ps), word_refused _ _ _ _ _) refl
 seed_taken g word n e r Gen ps = rw (e, more_seeded word (filter_map plain_word ps) n r) refl
 seed_taken g word n e r Check ps = refl
+seed_taken g word n e r Mates ps = refl
 
 pub count_taken : (g : Given) (word : List ℕ) (seed n : ℕ) → g.numbers ≡ Seeded seed → number 1 1000 word ≡ Some n → (c : Command) (ps : List Part) → order_from c g (Plain word ∷ ps) ≡ order_from c (record g { numbers = Counted seed n }) ps
 unfolding order_from
@@ -98,3 +102,4 @@ count_taken g word seed n e r Adjudicate ps = rw (plain_judged _ _ _ g.numbers w
 count_taken g word seed n e r Position ps = rw (plain_judged _ _ _ g.numbers word (filter_map plain_word ps), word_refused _ _ _ _ _) refl
 count_taken g word seed n e r Gen ps = rw (e, more_counted seed word (filter_map plain_word ps) n r) refl
 count_taken g word seed n e r Check ps = refl
+count_taken g word seed n e r Mates ps = refl

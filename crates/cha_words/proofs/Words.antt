@@ -26,7 +26,7 @@ pub none_taken : (words : List (String Global)) (i : ℕ) (p : Progress) (text :
 unfolding TakesWord
 none_taken words i p text c same cut taken = same ∙ (ap (λ ws. order_from c p.given (parts_awaiting p.awaited ws)) cut ∙ taken c (map string_bytes (drop (i + 1) words)))
 
-no_empty : (least most : ℕ) → number least most [] ≡ None
+pub no_empty : (least most : ℕ) → number least most [] ≡ None
 no_empty least most = no_number least most [] (λ is. let some = is.some in omega (arith, some))
 
 pub awaited_at_end : (words : List (List ℕ)) (g : Given) (o : Option Setting) (s : Setting) (c : Command) → words ≡ [] → o ≡ Some s → order_from c g (parts_awaiting o words) ≡ None

@@ -5,11 +5,13 @@ use Rattle.std.specs.Str.Parse.{digits_value}
 use Rattle.std.specs.List.{before_first, after_first}
 use Rattle.std.specs.declared.string.String.{String}
 use Rattle.std.specs.declared.alloc.Global.{Global}
+use Rattle.cha_board.specs.declared.men.Color.{Color}
+use Rattle.cha_board.specs.declared.men.Color.TheVariants.{White, Black}
 use Rattle.cha_verdict.specs.Bounds.{Bounds}
 use Rattle.cha_words.specs.declared.orders.Order.{Order}
-use Rattle.cha_words.specs.declared.orders.Order.TheVariants.{AdjudicateGames, JudgePositions, CheckCert, GenGames}
+use Rattle.cha_words.specs.declared.orders.Order.TheVariants.{AdjudicateGames, JudgePositions, CheckCert, GenGames, ListMates}
 use Rattle.cha_words.specs.declared.commands.Command.{Command}
-use Rattle.cha_words.specs.declared.commands.Command.TheVariants.{Adjudicate, Position, Check, Gen}
+use Rattle.cha_words.specs.declared.commands.Command.TheVariants.{Adjudicate, Position, Check, Gen, Mates}
 use Rattle.cha_words.specs.declared.settings.Setting.{Setting}
 use Rattle.cha_words.specs.declared.settings.Setting.TheVariants.{Budget, Workers, Depth, Entries}
 
@@ -29,7 +31,8 @@ command_named word =
     if bytes_eq word (codes "adjudicate") then Some Adjudicate
     else (if bytes_eq word (codes "position") then Some Position
     else (if bytes_eq word (codes "check") then Some Check
-    else (if bytes_eq word (codes "gen") then Some Gen else None)))
+    else (if bytes_eq word (codes "gen") then Some Gen
+    else (if bytes_eq word (codes "mates") then Some Mates else None))))
 
 -- the option with a number that a word names, letter by letter
 unfoldable pub setting_named : List ℕ → Option Setting
@@ -164,6 +167,46 @@ abbrev pub generated : Option Bounds → Option Bool → Option Games → Option
 generated (Some spend) (Some false) (Some games) = Some (GenGames spend games.seed games.count)
 generated _ _ _ = None
 
+-- the side that a word names
+unfoldable pub side_named : List ℕ → Option Color
+side_named word = if bytes_eq word (codes "w") then Some White else (if bytes_eq word (codes "b") then Some Black else None)
+
+-- the side, where it is the one word that is no option
+abbrev pub side_in : List (List ℕ) → Option Color
+side_in [] = None
+side_in (word ∷ []) = side_named word
+side_in (word ∷ more ∷ words) = None
+
+-- an option that mates takes, by its values in the words, in a range of its own
+abbrev pub chosen_up_to : ℕ → ℕ → List (List ℕ) → Option ℕ
+chosen_up_to most usual [] = Some usual
+chosen_up_to most usual (word ∷ []) = number 1 most word
+chosen_up_to most usual (word ∷ more ∷ words) = None
+
+-- the part is an option that mates does not take
+abbrev pub is_barred : Part → Bool
+is_barred (Value Budget word) = true
+is_barred (Value Entries word) = true
+is_barred Certs = true
+is_barred _ = false
+
+-- the shortest mates of a side, where each of what they need is one, and no option that mates does not take stands there
+abbrev pub mates_with : ℕ → ℕ → Option Color → Option Order
+mates_with workers depth None = None
+mates_with workers depth (Some side) = Some (ListMates side workers depth)
+
+abbrev pub mates_within : ℕ → Option ℕ → Option Color → Option Order
+mates_within workers None side = None
+mates_within workers (Some depth) side = mates_with workers depth side
+
+abbrev pub mates_by : Option ℕ → Option ℕ → Option Color → Option Order
+mates_by None depth side = None
+mates_by (Some workers) depth side = mates_within workers depth side
+
+abbrev pub listed : Option ℕ → Option ℕ → Option Color → List Part → Option Order
+listed workers depth side [] = mates_by workers depth side
+listed workers depth side (part ∷ barred) = None
+
 -- what a command orders with the words behind it
 unfoldable pub order_by : Command → List (List ℕ) → Option Order
 order_by Adjudicate words = let cut = parts words in
@@ -172,6 +215,9 @@ order_by Position words = let cut = parts words in
     judged JudgePositions (limits 2 cut) (asked (filter is_certs cut)) (filter_map plain_word cut)
 order_by Gen words = let cut = parts words in
     generated (limits 1 cut) (asked (filter is_certs cut)) (seed_and_count (filter_map plain_word cut))
+order_by Mates words = let cut = parts words in
+    listed (chosen_up_to 16 2 (filter_map (value_for Workers) cut)) (chosen_up_to 6 4 (filter_map (value_for Depth) cut))
+    (side_in (filter_map plain_word cut)) (filter is_barred cut)
 order_by Check [] = Some CheckCert
 order_by Check (word ∷ words) = None
 
@@ -189,9 +235,10 @@ order_of (word ∷ words) = order_behind (command_named word) words
 abbrev pub order : List (String Global) → Option Order
 order words = order_of (map string_bytes words)
 
--- what an order lets a search spend; a check searches nothing
+-- what an order lets a search of verdicts spend; a check and the shortest mates have none
 abbrev pub limits_in : Order → Option Bounds
 limits_in (AdjudicateGames spend certs) = Some spend
 limits_in (JudgePositions spend certs) = Some spend
 limits_in CheckCert = None
 limits_in (GenGames spend seed count) = Some spend
+limits_in (ListMates side workers depth) = None

@@ -2,3 +2,4 @@
 pub mod Language
 -- what only the crate's own functions say of each other
 pub mod Reading
+pub mod MatesReading

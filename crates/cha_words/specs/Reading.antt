@@ -4,7 +4,7 @@ use Rattle.cha_verdict.specs.Bounds.{Bounds}
 use Rattle.cha_words.specs.declared.orders.Order.{Order}
 use Rattle.cha_words.specs.declared.orders.Order.TheVariants.{AdjudicateGames, JudgePositions}
 use Rattle.cha_words.specs.declared.commands.Command.{Command}
-use Rattle.cha_words.specs.declared.commands.Command.TheVariants.{Adjudicate, Position, Check, Gen}
+use Rattle.cha_words.specs.declared.commands.Command.TheVariants.{Adjudicate, Position, Check, Gen, Mates}
 use Rattle.cha_words.specs.declared.settings.Setting.{Setting}
 use Rattle.cha_words.specs.declared.settings.Setting.TheVariants.{Budget, Workers, Depth, Entries}
 use Rattle.cha_words.specs.declared.given.Given.{Given}
@@ -101,6 +101,7 @@ order_from Adjudicate given parts = judged AdjudicateGames (limits_from 2 given 
 order_from Position given parts = judged JudgePositions (limits_from 2 given parts) (asked_from given.certs (filter is_certs parts)) (plain_from given.numbers (filter_map plain_word parts))
 order_from Gen given parts = generated (limits_from 1 given parts) (asked_from given.certs (filter is_certs parts)) (games_from given.numbers (filter_map plain_word parts))
 order_from Check given parts = None
+order_from Mates given parts = None
 
 -- one part is taken: it makes each order refused, or is what is given from then on
 unfoldable pub Takes : Given → Part → Option Given → Type 0

@@ -14,6 +14,8 @@ pub enum Command {
     Check,
     /// To make games and judge them.
     Gen,
+    /// To list the shortest mates.
+    Mates,
 }
 
 /// The command that a word names.
@@ -29,6 +31,8 @@ pub fn command_of(word: &str) -> Option<Command>
         Some(Command::Check)
     } else if word == "gen" {
         Some(Command::Gen)
+    } else if word == "mates" {
+        Some(Command::Mates)
     } else {
         None
     }

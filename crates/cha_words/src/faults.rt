@@ -4,6 +4,7 @@ ghost use Rattle.std.specs.Prelude.{◌+◌, ◌^◌, ◌≤◌, ◌↔◌, IsNo
 ghost use Rattle.cha_words.specs.Language.{order};
 
 use crate::commands::{Command, command_of};
+use crate::mates::{MOST_PLIES, side_of};
 use crate::numbers::number;
 use crate::orders::parse;
 use crate::settings::{Setting, least, most, setting_of};
@@ -29,6 +30,12 @@ pub enum UsageFault {
     NoCount(usize),
     /// Behind `gen` the seed or the number of games is missing.
     TooFew,
+    /// The word gives `--depth` no number from 1 to 6, which is its range behind `mates`.
+    NoMatesDepth(usize),
+    /// The word is no side, which is `w` or `b`.
+    NoSide(usize),
+    /// Behind `mates` the side is missing.
+    SideMissing,
 }
 
 /// The options and the numbers that stood before.
@@ -85,7 +92,10 @@ fn fault_behind(command: Command, words: &[String]) -> UsageFault {
             Err(fault) => return fault,
         }
     }
-    UsageFault::TooFew
+    match command {
+        Command::Mates => UsageFault::SideMissing,
+        _ => UsageFault::TooFew,
+    }
 }
 
 /// Takes the next word, and the one behind it where that is its value: how many words are taken.
@@ -109,13 +119,13 @@ fn take(
         let Some(value) = next else {
             return Err(UsageFault::NoValue(setting));
         };
-        take_value(before, setting, value, place, place + 1)?;
+        take_value(command, before, setting, value, place, place + 1)?;
         return Ok(2);
     }
     if let Some((name, value)) = word.split_once('=')
         && let Some(setting) = setting_of(name)
     {
-        take_value(before, setting, value, place, place)?;
+        take_value(command, before, setting, value, place, place)?;
         return Ok(1);
     }
     take_number(command, before, word, place)
@@ -125,7 +135,7 @@ fn take(
 fn take_certs(command: Command, before: &mut Before, place: usize) -> Result<usize, UsageFault>
     ensures { IfOk result (λ taken. (1 ≤ taken) × (taken ≤ 2)) }
 {
-    if command == Command::Gen {
+    if command == Command::Gen || command == Command::Mates {
         return Err(UsageFault::Unexpected(place));
     }
     if before.certs {
@@ -137,12 +147,20 @@ fn take_certs(command: Command, before: &mut Before, place: usize) -> Result<usi
 
 /// Takes an option that stands at one place, and its value at another.
 fn take_value(
+    command: Command,
     before: &mut Before,
     setting: Setting,
     value: &str,
     place: usize,
     value_place: usize,
 ) -> Result<(), UsageFault> {
+    let barred = match setting {
+        Setting::Budget | Setting::Entries => command == Command::Mates,
+        Setting::Workers | Setting::Depth => false,
+    };
+    if barred {
+        return Err(UsageFault::Unexpected(place));
+    }
     let stood = match setting {
         Setting::Budget => &mut before.budget,
         Setting::Workers => &mut before.workers,
@@ -153,13 +171,20 @@ fn take_value(
         return Err(UsageFault::Twice(place));
     }
     *stood = true;
+    if command == Command::Mates && setting == Setting::Depth {
+        return match number(value, 1, MOST_PLIES) {
+            Some(_) => Ok(()),
+            None => Err(UsageFault::NoMatesDepth(value_place)),
+        };
+    }
     match number(value, least(setting), most(setting)) {
         Some(_) => Ok(()),
         None => Err(UsageFault::OutOfRange(value_place, setting)),
     }
 }
 
-/// Takes a word that is no option: the seed, and then the number of games, where the command is `gen`.
+/// Takes a word that is no option: the seed, and then the number of games, where the command is `gen`, and the side where it is
+/// `mates`.
 fn take_number(
     command: Command,
     before: &mut Before,
@@ -168,6 +193,13 @@ fn take_number(
 ) -> Result<usize, UsageFault>
     ensures { IfOk result (λ taken. (1 ≤ taken) × (taken ≤ 2)) }
 {
+    if command == Command::Mates && before.numbers == 0 {
+        before.numbers = 1;
+        return match side_of(word) {
+            Some(_) => Ok(1),
+            None => Err(UsageFault::NoSide(place)),
+        };
+    }
     if command != Command::Gen {
         return Err(UsageFault::Unexpected(place));
     }

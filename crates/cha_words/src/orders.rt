@@ -5,12 +5,15 @@ ghost use Rattle.cha_verdict.specs.Bounds.{Bounds};
 ghost use Rattle.cha_words.specs.Language.{least_of, most_of, limits_in, order, order_by, order_of};
 ghost use Rattle.cha_words.specs.Reading.{HasRanges, limits_from, order_from, value_in};
 ghost use Rattle.cha_words.specs.declared.commands.Command.TheVariants.{Check, Gen};
-ghost use Rattle.cha_words.specs.declared.orders.Order.TheVariants.{GenGames};
+ghost use Rattle.cha_words.specs.declared.orders.Order.TheVariants.{GenGames, ListMates};
+ghost use Rattle.cha_board.specs.declared.men.Color.{Color as Side};
 
 use crate::commands::{Command, command_of};
 use crate::given::{Given, Numbers, value};
+use crate::mates::mates_by;
 use crate::reading::given_by;
 use crate::settings::Setting;
+use cha_board::Color;
 use cha_verdict::Limits;
 
 /// What the words order.
@@ -41,10 +44,19 @@ pub enum Order {
         /// How many games are made, from 1 to 1,000.
         count: u32,
     },
+    /// `mates`: list the shortest mates of each line of the input, which is a position in FEN.
+    ListMates {
+        /// The side that mates.
+        side: Color,
+        /// How many workers share the root moves, from 1 to 16.
+        workers: u32,
+        /// Within how many plies mates are looked for, from 1 to 6.
+        depth: u8,
+    },
 }
 
 impl Order {
-    /// What a search may spend on a side, where the order needs a search: a check needs none.
+    /// What a search for verdicts may spend on a side. A check and the shortest mates need none.
     pub fn limits(&self) -> Option<Limits>
         ensures { result ≡ limits_in self.now }
     {
@@ -52,7 +64,7 @@ impl Order {
             Order::AdjudicateGames { limits, .. }
             | Order::JudgePositions { limits, .. }
             | Order::GenGames { limits, .. } => Some(*limits),
-            Order::CheckCert => None,
+            Order::CheckCert | Order::ListMates { .. } => None,
         }
     }
 }
@@ -64,6 +76,7 @@ impl Order {
 /// | `adjudicate`, `position` | `--budget`, `--workers`, `--depth`, `--entries`, `--certs` | none |
 /// | `gen` | `--budget`, `--workers`, `--depth`, `--entries` | the seed, and then the number of games |
 /// | `check` | none | none |
+/// | `mates` | `--workers`, `--depth` | the side, `w` or `b` |
 ///
 /// An option with a number is `--name N` in two words or `--name=N` in one, and `--certs` takes no value. A number is 1 to 20
 /// ASCII digits, leading zeros among them.
@@ -72,7 +85,7 @@ impl Order {
 /// |---|---|---|---|
 /// | `--budget` | 1 | 100,000 | 20,000 |
 /// | `--workers` | 1 | 16 | 2, and 1 for `gen` |
-/// | `--depth` | 2 | 8 | 4 |
+/// | `--depth` | 2, and 1 for `mates` | 8, and 6 for `mates` | 4 |
 /// | `--entries` | 1 | 65,536 | 4,096 |
 /// | the seed | 0 | 18,446,744,073,709,551,615 | |
 /// | the number of games | 1 | 1,000 | |
@@ -93,12 +106,18 @@ pub fn games_are_some()
     ensures { (words : List (List ℕ)) (spend : Bounds) (seed count : ℕ) → order_of words ≡ Some (GenGames spend seed count) → (1 ≤ count) × (count ≤ 1000) }
 {}
 
+/// The law: where the shortest mates are ordered, there are 1 to 16 workers, and 1 to 6 plies.
+pub fn mates_are_bounded()
+    ensures { (words : List (List ℕ)) (side : Side) (workers depth : ℕ) → order_of words ≡ Some (ListMates side workers depth) → ((1 ≤ workers) × (workers ≤ 16)) × ((1 ≤ depth) × (depth ≤ 6)) }
+{}
+
 /// What a command orders with the words behind it.
 fn ordered(command: Command, behind: &[String]) -> Option<Order>
     ensures { result ≡ order_by command (map string_bytes behind.now) }
 {
     match command {
         Command::Check => checked(behind),
+        Command::Mates => mates_by(behind),
         _ => match given_by(behind) {
             Some(given) => order_of(command, given),
             None => None,
@@ -116,7 +135,7 @@ fn checked(behind: &[String]) -> Option<Order>
     }
 }
 
-/// What a command orders with what is given. A check is not ordered so.
+/// What a command orders with what is given. A check and the shortest mates are not ordered so.
 fn order_of(command: Command, given: Given) -> Option<Order>
     requires { HasRanges given }
     ensures { result ≡ order_from command given [] }
@@ -138,6 +157,7 @@ fn order_of(command: Command, given: Given) -> Option<Order>
         },
         Command::Gen => generated(given),
         Command::Check => None,
+        Command::Mates => None,
     }
 }
 

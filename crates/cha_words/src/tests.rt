@@ -2,6 +2,7 @@
 
 use crate::random_rows::{MORE_RANDOM_ROWS, RANDOM_ROWS};
 use crate::{Order, Setting, UsageFault, parse, usage_fault};
+use cha_board::Color;
 use cha_verdict::Limits;
 use std::alloc::Global;
 use std::test::Fail;
@@ -56,6 +57,28 @@ const ROWS: &[(&str, &str)] = &[
         "gen 20000 4 1 4096 18446744073709551615 1000",
     ),
     ("gen 00000000000000000000 1", "gen 20000 4 1 4096 0 1"),
+    ("mates w", "mates w 2 4"),
+    ("mates b", "mates b 2 4"),
+    ("mates w --workers 16", "mates w 16 4"),
+    ("mates b --depth 3", "mates b 2 3"),
+    ("mates --depth=1 w", "mates w 2 1"),
+    ("mates --depth 06 b --workers=1", "mates b 1 6"),
+    ("mates", NOTHING),
+    ("mates x", NOTHING),
+    ("mates W", NOTHING),
+    ("mates w b", NOTHING),
+    ("mates w w", NOTHING),
+    ("mates w --depth 7", NOTHING),
+    ("mates w --depth 0", NOTHING),
+    ("mates w --workers 17", NOTHING),
+    ("mates w --depth 2 --depth=2", NOTHING),
+    ("mates w --workers", NOTHING),
+    ("mates w --certs", NOTHING),
+    ("mates w --budget 5", NOTHING),
+    ("mates --entries=5 w", NOTHING),
+    ("mates --depth", NOTHING),
+    ("gen w 1", NOTHING),
+    ("position w", NOTHING),
     ("solve", NOTHING),
     ("Adjudicate", NOTHING),
     ("adjud", NOTHING),
@@ -138,6 +161,19 @@ fn said_of(alloc: Global, order: &Option<Order>) -> Result<String, Fail> {
     let text = match order {
         None => format!(in alloc; "{NOTHING}")?,
         Some(Order::CheckCert) => format!(in alloc; "check")?,
+        Some(
+            Order::ListMates {
+                side,
+                workers,
+                depth,
+            },
+        ) => {
+            let side = match side {
+                Color::White => "w",
+                Color::Black => "b",
+            };
+            format!(in alloc; "mates {side} {workers} {depth}")?
+        }
         Some(Order::AdjudicateGames { limits, certs }) => {
             format!(in alloc; "games {} {certs}", spent(alloc, limits)?)?
         }
@@ -213,6 +249,12 @@ const FAULTS: &[(&str, UsageFault)] = &[
     ("gen 1 0", UsageFault::NoCount(3)),
     ("gen 1 2 3", UsageFault::Unexpected(4)),
     ("gen 1 2 --certs", UsageFault::Unexpected(4)),
+    ("mates", UsageFault::SideMissing),
+    ("mates x", UsageFault::NoSide(2)),
+    ("mates w --depth 7", UsageFault::NoMatesDepth(4)),
+    ("mates w --certs", UsageFault::Unexpected(3)),
+    ("mates w --budget=5", UsageFault::Unexpected(3)),
+    ("mates w w", UsageFault::Unexpected(3)),
 ];
 
 #[test]

@@ -18,3 +18,7 @@ returns-in_default-numbers c = rw c.in-Position.is (sym (positions_refused c.arg
 pub returns-in-Check : goal.returns-in-Check
 unfolding order_from
 returns-in-Check c = rw c.in-Check.is refl
+
+pub returns-in-Mates : goal.returns-in-Mates
+unfolding order_from
+returns-in-Mates c = rw c.in-Mates.is refl

@@ -6,7 +6,7 @@ pub order_of-requires : goal.order_of-requires
 order_of-requires c = all_ranged (map string_bytes c.args.behind.now) c.in-Some.given c.in-Some.ensures
 
 pub returns-in-Some : goal.returns-in-Some
-returns-in-Some c = c.order_of.ensures ∙ sym (all_taken c.args.command (map string_bytes c.args.behind.now) c.in-Some.given c.in_default.not-Check c.in-Some.ensures)
+returns-in-Some c = c.order_of.ensures ∙ sym (all_taken c.args.command (map string_bytes c.args.behind.now) c.in-Some.given c.in_default.not-Check c.in_default.not-Mates c.in-Some.ensures)
 
 pub returns-in-None : goal.returns-in-None
-returns-in-None c = sym (all_refused c.args.command (map string_bytes c.args.behind.now) c.in_default.not-Check c.in-None.ensures)
+returns-in-None c = sym (all_refused c.args.command (map string_bytes c.args.behind.now) c.in_default.not-Check c.in_default.not-Mates c.in-None.ensures)

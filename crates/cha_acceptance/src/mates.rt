@@ -1,0 +1,77 @@
+//! Whole runs that list the shortest mates.
+
+use crate::running::{run_on, words_of};
+use adjudicate::{Status, run_alone};
+use cha_outside::{Bytes, Kept};
+use std::test::Fail;
+
+/// Words, an input, and the whole output.
+const ROWS: [(&str, &str, &str); 6] = [
+    (
+        "mates w",
+        "4rkr1/4p1p1/8/8/8/8/8/4K2R w K -",
+        "position 1\nfen: 4rkr1/4p1p1/8/8/8/8/8/4K2R w K -\nplies: 1, lines: 2\nline: e1g1\nline: h1f1\npositions: 1, refused: 0, found: 1\n",
+    ),
+    (
+        "mates w",
+        "6k1/5ppp/8/8/8/8/5PPP/3R2K1 b - -",
+        "position 1\nfen: 6k1/5ppp/8/8/8/8/5PPP/3R2K1 b - -\nplies: 2, lines: 1\nline: g8h8 d1d8\npositions: 1, refused: 0, found: 1\n",
+    ),
+    (
+        "mates b --depth 3",
+        "4k3/8/8/8/8/8/8/4K3 w - -",
+        "position 1\nfen: 4k3/8/8/8/8/8/8/4K3 w - -\nno mate within 3 plies\npositions: 1, refused: 0, found: 0\n",
+    ),
+    (
+        "mates w",
+        "7k/6Q1/6K1/8/8/8/8/8 b - -",
+        "position 1\nfen: 7k/6Q1/6K1/8/8/8/8/8 b - -\nplies: 0, lines: 1\npositions: 1, refused: 0, found: 1\n",
+    ),
+    (
+        "mates --depth=1 w",
+        "hello\n\n7k/4P3/6K1/8/8/8/8/8 w - -\n",
+        "position 1\nrefused: shape\nposition 2\nfen: 7k/4P3/6K1/8/8/8/8/8 w - -\nplies: 1, lines: 2\nline: e7e8q\nline: e7e8r\npositions: 2, refused: 1, found: 1\n",
+    ),
+    ("mates b", "", "positions: 0, refused: 0, found: 0\n"),
+];
+
+/// The same with other numbers of workers.
+const WORKERS: [&str; 4] = ["", " --workers 1", " --workers 2", " --workers=16"];
+
+#[test]
+fn shortest_mates_are_listed_with_any_number_of_workers(rt: HostRuntime) -> Result<(), Fail> {
+    let alloc = rt.alloc();
+    for (words, input, output) in ROWS {
+        for workers in WORKERS {
+            let line = format!(in alloc; "{words}{workers}")?;
+            let found = run_on(&rt, alloc, line.as_str(), input)?;
+            assert_eq!(rt; found.text(), output, "{line}");
+            assert_eq!(rt; found.status, Status::Done, "{line}");
+        }
+    }
+    Ok(())
+}
+
+#[test]
+fn shortest_mates_are_listed_without_a_thread(rt: HostRuntime) -> Result<(), Fail> {
+    let alloc = rt.alloc();
+    for (words, input, output) in ROWS {
+        let list = words_of(alloc, words)?;
+        let mut source = Bytes::new(input.as_bytes().to_vec(alloc)?);
+        let mut sink = Kept::new(alloc, 1_000_000, Vec::new(alloc))?;
+        let status = run_alone(alloc, list.as_slice(), &mut source, &mut sink);
+        assert!(rt; sink.bytes() == output.as_bytes(), "{words}");
+        assert_eq!(rt; status, Status::Done, "{words}");
+    }
+    Ok(())
+}
+
+#[test]
+fn other_words_behind_mates_are_refused(rt: HostRuntime) -> Result<(), Fail> {
+    for words in ["mates", "mates x", "mates w --depth 7", "mates w --certs"] {
+        let found = run_on(&rt, rt.alloc(), words, "4k3/8/8/8/8/8/8/4K3 w - -")?;
+        assert_eq!(rt; found.written.len(), 0, "{words}");
+        assert_eq!(rt; found.status, Status::Usage, "{words}");
+    }
+    Ok(())
+}

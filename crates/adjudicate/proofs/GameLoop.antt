@@ -6,6 +6,7 @@ use Rattle.std.proofs.Math.Seq.{take-append_seam}
 use Rattle.cha_outside.proofs.Taking.{consumes_more}
 use Rattle.pgn_games.specs.declared.played.Game.{Game}
 use Rattle.pgn_games.specs.Games.{games}
+use Rattle.pgn_games.specs.Settling.{settled_games}
 use Rattle.cha_outside.specs.declared.gathering.ReadEnd.{ReadEnd}
 use Rattle.pgn_games.specs.Reading.{Takes, gives_game}
 use Rattle.flag_report.specs.declared.totals.GameTotals.{GameTotals}
@@ -21,7 +22,7 @@ use Rattle.cha_words.specs.declared.orders.Order.{Order}
 use Rattle.cha_words.specs.declared.orders.Order.TheVariants.{AdjudicateGames}
 use Rattle.adjudicate.specs.Outcomes.{Item, item_of, game_item, game_items}
 use Rattle.adjudicate.specs.Report.{last_of_games, HasWholeBlocksOn}
-use Rattle.adjudicate.specs.Runs.{Outside, outside, Grew, BeginsWhole, IsRun}
+use Rattle.adjudicate.specs.Runs.{Outside, outside, Grew, BeginsWhole, BeginsDue, IsRun}
 use Rattle.adjudicate.specs.Steps.{JudgesGame, GameRoom, CountsAll}
 use Rattle.adjudicate.proofs.RunEndings.{short_run, long_run, taken_few}
 use Rattle.adjudicate.proofs.Progress.{of_games, WroteUpTo, nothing_written, one_more, cut_block, whole_blocks, finished, cut_summary, room_for_game, one_counted}
@@ -87,6 +88,15 @@ pub begun : (limits : Bounds) (certs : Bool) (left left' old now : Option (List 
 begun limits certs left left' old now f f' g g' taken given s at =
     (taken, at.consumed, whole_blocks of_games limits certs (game_items taken) (drop given (game_items taken)) old now s at.written)
 
+-- and where each settled game was given, none of these is left out
+begun_due : (limits : Bounds) (certs : Bool) (left left' old now : Option (List ℕ)) (f f' g g' : ℕ) (taken : List ℕ) (given : ℕ) (s : GameTotals) → IsAt limits certs left left' old now taken given s → settled_games taken ≤ given
+    → BeginsDue (AdjudicateGames limits certs) (outside left f old g) (outside left' f' now g')
+begun_due limits certs left left' old now f f' g g' taken given s at settled =
+    let whole = whole_blocks of_games limits certs (game_items taken) (drop given (game_items taken)) old now s at.written in
+    let os = at.written.2.0 in
+    let count : length os ≡ given = sym (ap (λ t. t.games) at.written.2.4) ∙ at.number in
+    (taken, at.consumed, (whole.0, whole.1, (os, whole.2.1, whole.2.2, whole.2.3, whole.2.4, omega (arith, settled, count))))
+
 none_left : (limits : Bounds) (certs : Bool) (left left' old now : Option (List ℕ)) (taken : List ℕ) (given : ℕ) (s : GameTotals) → IsAt limits certs left left' old now taken given s → length (games taken) ≤ given → WroteUpTo of_games limits certs (game_items taken) [] old now s
 none_left limits certs left left' old now taken given s at few =
     let none : drop given (game_items taken) ≡ [] = drop_all given (game_items taken) (omega (arith, length-map (games taken) game_item)) in
@@ -97,9 +107,9 @@ none_left limits certs left left' old now taken given s at few =
 module _ (limits : Bounds) (certs : Bool) (left left' old now : Option (List ℕ)) (f f' g g' : ℕ) (taken : List ℕ) (given : ℕ) (s : GameTotals)
     (at : IsAt limits certs left left' old now taken given s) (source_later : f ≤ f') where
   -- it could not be read to its end
-  pub not_read : (end : ReadEnd) (status : Status) → status ≡ status_of_end end → g ≤ g' → (end ≡ ends.ReadFault → Rose f f') → ((end ≡ ends.TooLong) ↔ (268435456 < length taken)) → length taken ≤ 268435456 + 4096
+  pub not_read : (end : ReadEnd) (status : Status) → status ≡ status_of_end end → g ≤ g' → (end ≡ ends.ReadFault → Rose f f') → (end ≡ ends.ReadFault → settled_games taken ≤ given) → ((end ≡ ends.TooLong) ↔ (268435456 < length taken)) → length taken ≤ 268435456 + 4096
       → IsRun (AdjudicateGames limits certs) status (outside left f old g) (outside left' f' now g')
-  not_read end status is later cause long few =
+  not_read end status is later cause settled long few =
       subst (λ x. IsRun (AdjudicateGames limits certs) x (outside left f old g) (outside left' f' now g')) (sym is) (by_end end refl)
     where
       o : Order
@@ -115,7 +125,7 @@ module _ (limits : Bounds) (certs : Bool) (left left' old now : Option (List ℕ
       whole = begun limits certs left left' old now f f' g g' taken given s at
 
       by_end : (e : ReadEnd) → end ≡ e → IsRun o (status_of_end e) b n
-      by_end ends.ReadFault e = short_run o b n tt source_later later ReadFault whole (λ _. cause e) (λ h. cc) (λ h. cc) (taken, at.consumed, not_more _ 268435456 (λ more. let t = sym e ∙ long.1 more in cc))
+      by_end ends.ReadFault e = short_run o b n tt source_later later ReadFault (begun_due limits certs left left' old now f f' g g' taken given s at (settled e)) (λ _. cause e) (λ h. cc) (λ h. cc) (taken, at.consumed, not_more _ 268435456 (λ more. let t = sym e ∙ long.1 more in cc))
       by_end ends.TooLong e =
           long_run o b n tt source_later later whole (taken, at.consumed, (long.0 e, few))
           (λ bytes told small. let had = taken_few left left' taken bytes at.consumed told in let more = long.0 e in omega (arith, had, more, small))

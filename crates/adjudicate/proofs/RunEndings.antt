@@ -25,7 +25,7 @@ use Rattle.cha_verdict.specs.Bounds.{Bounds}
 use Rattle.random_games.specs.Made.{made}
 use Rattle.adjudicate.specs.Outcomes.{blocks, game_items, position_items}
 use Rattle.adjudicate.specs.MatesReport.{mates_items}
-use Rattle.adjudicate.specs.Runs.{Outside, outside, Ended, BeginsWhole, Reads, Takes, HasReadAll, IsRun}
+use Rattle.adjudicate.specs.Runs.{Outside, outside, Ended, BeginsWhole, BeginsDue, Reads, ReadsAtOnce, Takes, HasReadAll, IsRun}
 use Rattle.adjudicate.specs.Steps.{IsWritten, CountsAll}
 
 -- the first position is valid
@@ -113,8 +113,23 @@ has_read (GenGames limits seed count) left a f g end = tt
 pub nothing_begun : (order : Order) (left left' a : Option (List ℕ)) (f f' g : ℕ) (P : List ℕ → Type 0) → Reads order → Took left left' P → BeginsWhole order (outside left f a g) (outside left' f' a g)
 nothing_begun order left left' a f f' g P reads took = (took.0, takes order left left' a a f f' g g took.0 reads took.1, ([], appends_nothing a, nothing_yet order took.0))
 
+reads_it : (order : Order) → ReadsAtOnce order → Reads order
+reads_it (AdjudicateGames limits certs) h = absurd h
+reads_it (JudgePositions limits certs) h = tt
+reads_it CheckCert h = tt
+reads_it (GenGames limits seed count) h = absurd h
+reads_it (ListMates side workers depth) h = tt
+
+-- nothing is written where the source failed at once
+none_due : (order : Order) (left left' a : Option (List ℕ)) (f f' g : ℕ) (P : List ℕ → Type 0) → ReadsAtOnce order → Took left left' P → BeginsDue order (outside left f a g) (outside left' f' a g)
+none_due (AdjudicateGames limits certs) left left' a f f' g P h took = absurd h
+none_due (JudgePositions limits certs) left left' a f f' g P h took = nothing_begun (JudgePositions limits certs) left left' a f f' g P tt took
+none_due CheckCert left left' a f f' g P h took = nothing_begun CheckCert left left' a f f' g P tt took
+none_due (GenGames limits seed count) left left' a f f' g P h took = absurd h
+none_due (ListMates side workers depth) left left' a f f' g P h took = nothing_begun (ListMates side workers depth) left left' a f f' g P tt took
+
 -- a source that could not be read to its end at once
-module _ {X : Type 0} (order : Order) (reads : Reads order) (r : Result X ReadEnd) (left left' a : Option (List ℕ)) (f f' g : ℕ)
+module _ {X : Type 0} (order : Order) (at_once : ReadsAtOnce order) (r : Result X ReadEnd) (left left' a : Option (List ℕ)) (f f' g : ℕ)
     (later : f ≤ f')
     (read_fault : r ≡ Err ends.ReadFault → Took left left' (λ taken. length taken ≤ 268435456))
     (too_long : r ≡ Err ends.TooLong → Took left left' (λ taken. (268435456 < length taken) × (length taken ≤ 268435456 + 4096)))
@@ -123,11 +138,11 @@ module _ {X : Type 0} (order : Order) (reads : Reads order) (r : Result X ReadEn
     (within : (bytes : List ℕ) → left ≡ Some bytes → length bytes ≤ 268435456 → r ≢ Err ends.TooLong) where
   unread_by : (end : ReadEnd) → r ≡ Err end → IsRun order (status_of_end end) (outside left f a g) (outside left' f' a g)
   unread_by ends.ReadFault e =
-      short_run order (outside left f a g) (outside left' f' a g) reads later (omega arith) ReadFault (nothing_begun order left left' a f f' g _ reads (read_fault e)) (λ _. cause e) (λ h. cc) (λ h. cc) (read_fault e)
+      short_run order (outside left f a g) (outside left' f' a g) (reads_it order at_once) later (omega arith) ReadFault (none_due order left left' a f f' g _ at_once (read_fault e)) (λ _. cause e) (λ h. cc) (λ h. cc) (read_fault e)
   unread_by ends.TooLong e =
-      long_run order (outside left f a g) (outside left' f' a g) reads later (omega arith) (nothing_begun order left left' a f f' g _ reads (too_long e)) (too_long e) (λ bytes told small. within bytes told small e)
+      long_run order (outside left f a g) (outside left' f' a g) (reads_it order at_once) later (omega arith) (nothing_begun order left left' a f f' g _ (reads_it order at_once) (too_long e)) (too_long e) (λ bytes told small. within bytes told small e)
   unread_by ends.NoMemory e =
-      short_run order (outside left f a g) (outside left' f' a g) reads later (omega arith) NoMemory (nothing_begun order left left' a f f' g _ reads (no_memory e)) (λ h. cc) (λ h. cc) (λ h. cc) (no_memory e)
+      short_run order (outside left f a g) (outside left' f' a g) (reads_it order at_once) later (omega arith) NoMemory (nothing_begun order left left' a f f' g _ (reads_it order at_once) (no_memory e)) (λ h. cc) (λ h. cc) (λ h. cc) (no_memory e)
 
   pub unread : (end : ReadEnd) (s : Status) → r ≡ Err end → s ≡ status_of_end end → IsRun order s (outside left f a g) (outside left' f' a g)
   unread end s e is = subst (λ status. IsRun order status (outside left f a g) (outside left' f' a g)) (sym is) (unread_by end e)

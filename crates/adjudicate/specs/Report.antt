@@ -1,11 +1,12 @@
 -- What is written for an input (this project).
-use Rattle.std.specs.Prelude.{◌≡◌, ℕ, ◌+◌, Bool, List, [], ◌∷◌, ◌++◌, length, map, Option}
+use Rattle.std.specs.Prelude.{◌≡◌, ℕ, ◌+◌, ◌≤◌, Bool, List, [], ◌∷◌, ◌++◌, length, map, Option}
 use Rattle.flag_report.specs.Totals.{game_summary_text, position_summary_text}
 use Rattle.cha_verdict.specs.Bounds.{Bounds}
 use Rattle.cert_text.specs.Versions.{any_cert_of}
 use Rattle.cha_words.specs.declared.orders.Order.{Order}
 use Rattle.cha_words.specs.declared.orders.Order.TheVariants.{AdjudicateGames, JudgePositions, CheckCert, GenGames, ListMates}
 use Rattle.adjudicate.specs.Outcomes.{Item, Outcome, item_of, IsSoundOutcome, AllSound, block, blocks, game_totals, position_totals, game_items, position_items}
+use Rattle.pgn_games.specs.Settling.{settled_games}
 use Rattle.random_games.specs.Made.{made}
 use Rattle.adjudicate.specs.Checks.{IsAnswerTo}
 use Rattle.adjudicate.specs.MatesReport.{mates_items, mates_report}
@@ -72,3 +73,17 @@ HasWholeBlocks (JudgePositions limits certs) bytes out = HasWholeBlocksOn limits
 HasWholeBlocks CheckCert bytes out = out ≡ []
 HasWholeBlocks (GenGames limits seed count) bytes out = out ≡ []
 HasWholeBlocks (ListMates side workers depth) bytes out = (first later : List Item) × (position_items bytes ≡ first ++ later) × (out ≡ mates_items side depth 1 first)
+
+-- the same, of so many items at least
+abbrev pub HasDueBlocksOn : Bounds → Bool → List Item → ℕ → List ℕ → Type 0
+HasDueBlocksOn limits certs items due out =
+    (os : List Outcome) × (later : List Item) × (items ≡ map item_of os ++ later) × AllSound limits os × (out ≡ blocks certs 1 os) × (due ≤ length os)
+
+-- The output is whole blocks of what an order has written. Of games they are those of each game at least that is settled: a byte
+-- follows the token that ends it.
+abbrev pub HasDueBlocks : Order → List ℕ → List ℕ → Type 0
+HasDueBlocks (AdjudicateGames limits certs) bytes out = HasDueBlocksOn limits certs (game_items bytes) (settled_games bytes) out
+HasDueBlocks (JudgePositions limits certs) bytes out = HasWholeBlocksOn limits certs (position_items bytes) out
+HasDueBlocks CheckCert bytes out = out ≡ []
+HasDueBlocks (GenGames limits seed count) bytes out = out ≡ []
+HasDueBlocks (ListMates side workers depth) bytes out = (first later : List Item) × (position_items bytes ≡ first ++ later) × (out ≡ mates_items side depth 1 first)

@@ -9,7 +9,7 @@ use Rattle.cha_words.specs.declared.orders.Order.TheVariants.{AdjudicateGames, J
 use Rattle.adjudicate.specs.declared.endings.Status.{Status}
 use Rattle.adjudicate.specs.declared.endings.Status.TheVariants.{Done, Usage, ReadFault, WriteFault, TooLong, NoMemory, NotAccepted}
 use Rattle.adjudicate.specs.Checks.{IsAccepted}
-use Rattle.adjudicate.specs.Report.{IsReport, HasBegun, HasWholeBlocks}
+use Rattle.adjudicate.specs.Report.{IsReport, HasBegun, HasWholeBlocks, HasDueBlocks}
 
 -- A source and a sink at one moment: the bytes that the source still gives and those that the sink took, where they tell them,
 -- and how often each has failed.
@@ -34,6 +34,14 @@ Reads (JudgePositions limits certs) = ⊤
 Reads CheckCert = ⊤
 Reads (GenGames limits seed count) = ⊥
 Reads (ListMates side workers depth) = ⊤
+
+-- an order reads the whole source before it judges any of it
+abbrev pub ReadsAtOnce : Order → Type 0
+ReadsAtOnce (AdjudicateGames limits certs) = ⊥
+ReadsAtOnce (JudgePositions limits certs) = ⊤
+ReadsAtOnce CheckCert = ⊤
+ReadsAtOnce (GenGames limits seed count) = ⊥
+ReadsAtOnce (ListMates side workers depth) = ⊤
 
 -- these bytes were taken of the source; where games are made there are none, and the source is as it was
 abbrev pub Takes : Order → Outside → Outside → List ℕ → Type 0
@@ -70,13 +78,18 @@ Begins order before now = (bytes : List ℕ) × Takes order before now bytes × 
 abbrev pub BeginsWhole : Order → Outside → Outside → Type 0
 BeginsWhole order before now = (bytes : List ℕ) × Takes order before now bytes × Grew before.written now.written (HasWholeBlocks order bytes)
 
+-- the same, and each game that is settled in the bytes has its block
+abbrev pub BeginsDue : Order → Outside → Outside → Type 0
+BeginsDue order before now = (bytes : List ℕ) × Takes order before now bytes × Grew before.written now.written (HasDueBlocks order bytes)
+
 -- What was read and written for an order, by the status of the run: its whole report on Done and NotAccepted, a front of it where
--- the sink failed, and whole blocks of it where anything else failed. Words that order something never end in Usage.
+-- the sink failed, and whole blocks of it where anything else failed. Where the source failed, no game that is settled is left out.
+-- Words that order something never end in Usage.
 abbrev pub Ended : Order → Status → Outside → Outside → Type 0
 Ended order Done before now = Reports order before now
 Ended order NotAccepted before now = Refuses order before now
 Ended order WriteFault before now = Begins order before now
-Ended order ReadFault before now = BeginsWhole order before now
+Ended order ReadFault before now = BeginsDue order before now
 Ended order TooLong before now = BeginsWhole order before now
 Ended order NoMemory before now = BeginsWhole order before now
 Ended order Usage before now = ⊥

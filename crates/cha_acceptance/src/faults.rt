@@ -41,12 +41,33 @@ fn pieces_of_any_size_are_read_alike(rt: HostRuntime) -> Result<(), Fail> {
     Ok(())
 }
 
+/// A text that the bytes EF BB BF and a skipped line begin, and a line of its block.
+const MARKED: &str = "\u{feff}%x\r\n1. e4 ; note [\r\ne5 2. Nf3 Nc6 3. Bc4 Bc5 4. 0-0!? Nf6 *";
+
+const REACHED: &str = "\nfen: r1bqk2r/pppp1ppp/2n2n2/2b1p3/2B1P3/5N2/PPPP1PPP/RNBQ1RK1 w kq -\n";
+
+#[test]
+fn a_marked_text_is_read_alike_in_pieces(rt: HostRuntime) -> Result<(), Fail> {
+    for size in [1, 2, 3, 7] {
+        let alloc = rt.alloc();
+        let sizes = [size].to_vec(alloc)?;
+        let mut source = Pieces::new(MARKED.as_bytes().to_vec(alloc)?, sizes, Vec::new(alloc));
+        let words = "adjudicate --budget 1 --depth 2";
+        let found = run_over(&rt, alloc, words, &mut source, 4096, Vec::new(alloc))?;
+        assert_eq!(rt; found.status, Status::Done);
+        assert!(rt; found.text().contains(REACHED), "pieces of {size}");
+    }
+    Ok(())
+}
+
 /// Words and input, of which pieces of 64 bytes are read, the numbers of the read and of the write that fail, the room of the
 /// sink, and what is left: a status, and what was written. No call has the number 0.
-const FAULTS: [(&str, &str, u32, u32, u32, Status, &str); 5] = [
+const FAULTS: [(&str, &str, u32, u32, u32, Status, &str); 6] = [
     ("check", FORCED, 3, 0, 4096, Status::ReadFault, ""),
     ("check", FORCED, 0, 0, 8, Status::WriteFault, "accepted"),
-    ("adjudicate", GAME, 2, 0, 4096, Status::ReadFault, ""),
+    // The game is settled in the first piece.
+    ("adjudicate", GAME, 1, 0, 4096, Status::ReadFault, ""),
+    ("adjudicate", GAME, 2, 0, 4096, Status::ReadFault, BLOCK),
     // The block and the summary go out in one write each.
     ("adjudicate", GAME, 0, 1, 4096, Status::WriteFault, ""),
     ("adjudicate", GAME, 0, 2, 4096, Status::WriteFault, BLOCK),

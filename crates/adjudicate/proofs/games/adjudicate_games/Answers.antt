@@ -32,6 +32,7 @@ returns-in-Err-clause-run g c =
     let later = c.next.ensures.later in
     not_read _ _ _ _ _ _ _ _ _ _ _ _ _ at (omega (arith, later, c.loop-found.invariant.source_later)) c.in-Err.end _ c.from.ensures c.loop-found.invariant.sink_later
     (λ e. rose_in _ _ _ c.loop-found.invariant.source_later (c.next.ensures.read_fault (c.in-Err.is ∙ ap Err e)))
+    (λ e. c.next.ensures.settled (c.in-Err.is ∙ ap Err e))
     ((λ e. c.next.ensures.too_long.0 (c.in-Err.is ∙ ap Err e)), (λ more. let f = sym c.in-Err.is ∙ c.next.ensures.too_long.1 more in cc))
     c.next.ensures.few
 

@@ -15,6 +15,7 @@ ghost use Rattle.adjudicate.specs.Runs.{IsRun, outside};
 
 use crate::commands::{carry_out, carry_out_plain};
 use crate::endings::Status;
+use cert_par::OneThread;
 use cha_outside::{MOST_BYTES, Sink, Source};
 use cha_verdict::{Limits, sound_is_complete};
 use cha_words::{Order, games_are_some, mates_are_bounded, parse};
@@ -57,7 +58,7 @@ pub fn run_alone<S: Source, K: Sink>(
     match parse(words) {
         Some(order) => match order.limits() {
             Some(limits) => by_itself(alloc, &order, &limits, source, sink),
-            None => carry_out_plain(alloc, &order, &InTurn, source, sink),
+            None => carry_out_plain(alloc, &order, &InTurn, &OneThread, source, sink),
         },
         None => Status::Usage,
     }

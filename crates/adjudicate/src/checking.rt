@@ -10,8 +10,9 @@ ghost use Rattle.adjudicate.specs.Steps.{IsWritten, ended_by};
 
 use crate::endings::Status;
 use crate::writing::put;
+use cert_par::Checker;
 use cert_text::{CertKind, SharedCertificate, read_any};
-use cha_cert::{Checked, check_shared};
+use cha_cert::Checked;
 use cha_list::{NoMemory, Text};
 use cha_outside::{MOST_BYTES, Sink, Source, Wrote, read_all};
 use flag_report::{accepted_line, failing_line, misfit_line};
@@ -19,20 +20,32 @@ use std::alloc::Global;
 
 /// Checks the certificate whose text a source gives, in either version, and writes the answer. It reads the whole source
 /// first.
-pub fn check_cert<S: Source, K: Sink>(alloc: Global, source: &mut S, sink: &mut K) -> Status
+pub fn check_cert<C: Checker, S: Source, K: Sink>(
+    alloc: Global,
+    checker: &C,
+    source: &mut S,
+    sink: &mut K,
+) -> Status
+    requires ready { C.ready checker.now }
     ensures { IsRun CheckCert result (outside (S.left source.old) (S.faults source.old) (K.written sink.old) (K.faults sink.old)) (outside (S.left source.new) (S.faults source.new) (K.written sink.new) (K.faults sink.new)) }
 {
     match read_all(alloc, source, MOST_BYTES) {
-        Ok(bytes) => write_answer(alloc, bytes.as_slice(), sink),
+        Ok(bytes) => write_answer(alloc, checker, bytes.as_slice(), sink),
         Err(end) => Status::from(end),
     }
 }
 
 /// Checks the certificate of a text, and writes the answer.
-fn write_answer<K: Sink>(alloc: Global, bytes: &[u8], sink: &mut K) -> Status
+fn write_answer<C: Checker, K: Sink>(
+    alloc: Global,
+    checker: &C,
+    bytes: &[u8],
+    sink: &mut K,
+) -> Status
+    requires ready { C.ready checker.now }
     ensures { IsWritten CheckCert bytes.now result (K.written sink.old) (K.faults sink.old) (K.written sink.new) (K.faults sink.new) }
 {
-    let Ok(answer) = answer_to(alloc, bytes) else {
+    let Ok(answer) = answer_to(alloc, checker, bytes) else {
         return Status::NoMemory;
     };
     match put(sink, answer.line.items()) {
@@ -60,12 +73,13 @@ struct Answer {
 }
 
 /// What is answered on a text.
-fn answer_to(alloc: Global, bytes: &[u8]) -> Result<Answer, NoMemory>
+fn answer_to<C: Checker>(alloc: Global, checker: &C, bytes: &[u8]) -> Result<Answer, NoMemory>
+    requires ready { C.ready checker.now }
     ensures line { IfOk result (λ answer. IsAnswerTo (any_cert_of bytes.now) answer.line) }
     ensures accepted { IfOk result (λ answer. IsTrue answer.accepted ↔ IsReadAs IsValidAtFirst bytes.now) }
 {
     match read_any(alloc, bytes) {
-        Ok(certificate) => answer_on(alloc, &certificate),
+        Ok(certificate) => answer_on(alloc, checker, &certificate),
         Err(fault) => {
             if fault.kind == CertKind::NoMemory {
                 return Err(NoMemory);
@@ -79,7 +93,12 @@ fn answer_to(alloc: Global, bytes: &[u8]) -> Result<Answer, NoMemory>
 }
 
 /// What is answered on a certificate: what its check answers, asked for the position of its first node.
-fn answer_on(alloc: Global, certificate: &SharedCertificate) -> Result<Answer, NoMemory>
+fn answer_on<C: Checker>(
+    alloc: Global,
+    checker: &C,
+    certificate: &SharedCertificate,
+) -> Result<Answer, NoMemory>
+    requires ready { C.ready checker.now }
     requires some { 0 < length certificate.now.cert.nodes }
     requires few { length certificate.now.cert.nodes < 2 ^ 32 }
     ensures line { IfOk result (λ answer. IsAnswerTo (Ok (record { winner = certificate.now.winner; cert = expansion certificate.now.cert })) answer.line) }
@@ -87,7 +106,7 @@ fn answer_on(alloc: Global, certificate: &SharedCertificate) -> Result<Answer, N
 {
     let nodes = certificate.cert.nodes();
     let winner = certificate.winner;
-    match check_shared(alloc, &nodes[0].position, winner, &certificate.cert)? {
+    match checker.check(alloc, &nodes[0].position, winner, &certificate.cert)? {
         Checked::Accepted => Ok(Answer {
             accepted: true,
             line: accepted_line(alloc, winner)?,

@@ -13,6 +13,7 @@ use crate::games::adjudicate_games;
 use crate::generated::adjudicate_generated;
 use crate::mates::list_mates;
 use crate::positions::judge_positions;
+use cert_par::Checker;
 use cha_outside::{Sink, Source};
 use cha_words::Order;
 use helpmate_list::Spread;
@@ -52,20 +53,22 @@ pub fn carry_out<C: Crew, S: Source, K: Sink>(
 
 /// Reads a source to its end, and writes what an order asks for that needs no search for verdicts: the answer on a certificate,
 /// or the shortest mates of each line.
-pub fn carry_out_plain<P: Spread, S: Source, K: Sink>(
+pub fn carry_out_plain<P: Spread, C: Checker, S: Source, K: Sink>(
     alloc: Global,
     order: &Order,
     spread: &P,
+    checker: &C,
     source: &mut S,
     sink: &mut K,
 ) -> Status
     requires ready { P.ready spread.now }
+    requires checks { C.ready checker.now }
     requires no_search { limits_in order.now ≡ None }
     requires bounded { (side : Side) (workers depth : ℕ) → order.now ≡ ListMates side workers depth → ((1 ≤ workers) × (workers ≤ 16)) × ((1 ≤ depth) × (depth ≤ 6)) }
     ensures { IsRun order.now result (outside (S.left source.old) (S.faults source.old) (K.written sink.old) (K.faults sink.old)) (outside (S.left source.new) (S.faults source.new) (K.written sink.new) (K.faults sink.new)) }
 {
     match order {
-        Order::CheckCert => check_cert(alloc, source, sink),
+        Order::CheckCert => check_cert(alloc, checker, source, sink),
         Order::ListMates {
             side,
             workers,

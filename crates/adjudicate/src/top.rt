@@ -15,6 +15,7 @@ ghost use Rattle.adjudicate.specs.Runs.{IsRun, outside};
 
 use crate::commands::{carry_out, carry_out_plain};
 use crate::endings::Status;
+use cert_par::SeveralThreads;
 use cha_outside::{MOST_BYTES, Sink, Source};
 use cha_verdict::{Limits, sound_is_complete};
 use cha_words::{Order, games_are_some, mates_are_bounded, parse};
@@ -64,7 +65,14 @@ pub fn run<R: Threads + Wait + Sync, S: Source, K: Sink>(
     match parse(words) {
         Some(order) => match order.limits() {
             Some(limits) => by_threads(rt, alloc, &order, &limits, source, sink, gate),
-            None => carry_out_plain(alloc, &order, &InThreads::new(rt), source, sink),
+            None => carry_out_plain(
+                alloc,
+                &order,
+                &InThreads::new(rt),
+                &SeveralThreads::new(rt),
+                source,
+                sink,
+            ),
         },
         None => Status::Usage,
     }

@@ -1,6 +1,6 @@
 //! Bishops without pawns.
 
-use crate::known::Known::{Dead, Unshown, White, Wins};
+use crate::known::Known::{BlackWins, Dead, White, Wins};
 use crate::known::Row;
 
 /// All bishops on squares of one colour: beside a king that is checked, the squares of the other colour are left to the
@@ -29,8 +29,9 @@ pub const MORE: [Row; 9] = [
     ("8/8/3p4/4k3/8/8/8/4KB2 w - -", Wins),
     // Two light bishops and a knight against them: both mates above.
     ("8/8/3n4/4k3/8/3B4/8/4KB2 w - -", Wins),
-    // A rook beside its king can always step between, so the bishop never mates. The sets do not see that.
-    ("8/8/3r4/4k3/8/8/8/4KB2 w - -", Unshown),
+    // A rook beside its king can always step between, so the bishop never mates. The sets do not see that,
+    // but small material does.
+    ("8/8/3r4/4k3/8/8/8/4KB2 w - -", BlackWins),
     // A queen too.
-    ("8/8/3q4/4k3/8/8/8/4KB2 w - -", Unshown),
+    ("8/8/3q4/4k3/8/8/8/4KB2 w - -", BlackWins),
 ];

@@ -30,6 +30,14 @@ unfolding HasProbe
 probe_right xs ys q w h = (h.0, Contains-append_right xs ys _ h.1)
 
 module _ {S : Type 0} (made : S → List Entry → S → Type 0) (joined : (a b c : S) (xs ys : List Entry) → made a xs b → made b ys c → made a (xs ++ ys) c) where
+  -- nothing was asked where memory is refused before a search
+  pub asked_nothing : (s : S) (q : Board) (w : Color) (result : Result Verdict NoMemory) → made s [] s → IsErr result → AskedFor made s s q w result
+  asked_nothing s q w result none refused = record {
+    entries = [];
+    entered = none;
+    asked = λ v is. (let P : Result Verdict NoMemory → Type 0 = λ x. IsErr x in let h = subst P is refused in cc);
+  }
+
   -- the rounds, and then the exploration
   pub rounds_then : (made_by : _) (a b c : S) (count : _) (q : Board) (w : Color) (limits : Bounds) (r : Result RoundsDone NoMemory) → RoundsCalls made made_by count a b q w limits r → MadeSome made b c → MadeSome made a c
   rounds_then made_by a b c count q w limits r calls more = (_, joined a b c _ more.0 calls.entered more.1)

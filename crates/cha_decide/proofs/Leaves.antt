@@ -1,4 +1,4 @@
--- A certificate of one leaf.
+-- Certificates of one node.
 use Rattle.std.proofs.Common.{◌≡◌, zero, suc, List, [], ◌∷◌, sym, subst, refl, arith}
 use Rattle.std.specs.List.{All}
 use Rattle.cha_board.specs.declared.men.Color.{Color}
@@ -7,23 +7,33 @@ use Rattle.mob_law.specs.Closed.{IsClosed}
 use Rattle.mob_law.specs.Threats.{HasNoMate}
 use Rattle.mob_sets.specs.Rows.{SetRows, sets_of}
 use Rattle.cha_cert.specs.declared.nodes.Node.{Node}
-use Rattle.cha_cert.specs.declared.nodes.Part.TheVariants.{Leaf}
-use Rattle.cha_cert.specs.Certificates.{AllValid, NodeHolds, IsValidCert}
+use Rattle.cha_cert.specs.declared.nodes.Part.{Part}
+use Rattle.cha_cert.specs.declared.nodes.Part.TheVariants.{Leaf, Small}
+use Rattle.cha_cert.specs.Certificates.{AllValid, PartHolds, NodeHolds, IsValidCert}
+use Rattle.mob_small.specs.Small.{IsSmallUnwinnable}
 
-module _ (q : Board) (w : Color) (sets : SetRows) (valid : IsValid q) (closed : IsClosed q (sets_of sets)) (no_mate : HasNoMate q (sets_of sets) w) where
-  abbrev pub leaf : Node
-  leaf = record { position = q; part = Leaf sets }
+module _ (q : Board) (w : Color) (part : Part) (valid : IsValid q) where
+  abbrev pub node : Node
+  node = record { position = q; part = part }
 
-  holds : All (NodeHolds w (leaf ∷ [])) (leaf ∷ [])
-  holds zero d small = record { closed = closed; no_mate = no_mate }
-  holds (suc k) d small = absurd (omega arith)
+  all_hold : PartHolds w (node ∷ []) q part → All (NodeHolds w (node ∷ [])) (node ∷ [])
+  all_hold holds zero d small = holds
+  all_hold holds (suc k) d small = absurd (omega arith)
 
-  valid_leaf : AllValid (leaf ∷ [])
-  valid_leaf zero d small = valid
-  valid_leaf (suc k) d small = absurd (omega arith)
+  all_valid : AllValid (node ∷ [])
+  all_valid zero d small = valid
+  all_valid (suc k) d small = absurd (omega arith)
 
-  -- closed mobility sets without a mate make it valid
-  pub leaf_is_valid : (cert : List Node) → cert ≡ leaf ∷ [] → IsValidCert q w cert
-  leaf_is_valid cert is =
-      let one : IsValidCert q w (leaf ∷ []) = record { begins = refl; positions = valid_leaf; holds = holds } in
+  -- what holds of its node makes it valid
+  pub node_is_valid : PartHolds w (node ∷ []) q part → (cert : List Node) → cert ≡ node ∷ [] → IsValidCert q w cert
+  node_is_valid holds cert is =
+      let one : IsValidCert q w (node ∷ []) = record { begins = refl; positions = all_valid; holds = all_hold holds } in
       subst (λ nodes. IsValidCert q w nodes) (sym is) one
+
+-- closed mobility sets without a mate
+pub leaf_is_valid : (q : Board) (w : Color) (sets : SetRows) → IsValid q → IsClosed q (sets_of sets) → HasNoMate q (sets_of sets) w → (cert : List Node) → cert ≡ record { position = q; part = Leaf sets } ∷ [] → IsValidCert q w cert
+leaf_is_valid q w sets valid closed no_mate cert is = node_is_valid q w (Leaf sets) valid (record { closed = closed; no_mate = no_mate }) cert is
+
+-- small material with which the side cannot mate
+pub small_is_valid : (q : Board) (w : Color) → IsValid q → IsSmallUnwinnable q w → (cert : List Node) → cert ≡ record { position = q; part = Small } ∷ [] → IsValidCert q w cert
+small_is_valid q w valid small cert is = node_is_valid q w Small valid small cert is

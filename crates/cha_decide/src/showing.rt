@@ -1,12 +1,12 @@
 //! The certificates that a side cannot mate.
 
 ghost use Rattle.std.specs.Prelude.{◌≡◌, ◌≤◌, [], ◌∷◌, length, MatchOption, IfOk};
-ghost use Rattle.cha_cert.specs.declared.nodes.Part.TheVariants.{Leaf};
 ghost use Rattle.cha_cert.specs.Certificates.{IsValidCert};
 ghost use Rattle.mob_law.specs.Closed.{IsClosed};
 ghost use Rattle.mob_law.specs.Static.{IsStaticallyUnwinnable};
 ghost use Rattle.mob_law.specs.Threats.{HasNoMate};
 ghost use Rattle.mob_sets.specs.Rows.{sets_of};
+ghost use Rattle.mob_small.specs.Small.{IsSmallUnwinnable};
 ghost use Rattle.cha_decide.specs.Shown.{IsShownUnwinnable};
 
 use cha_board::{Color, Position};
@@ -16,14 +16,14 @@ use mob_sets::Sets;
 use mob_solve::static_verdict;
 use std::alloc::Global;
 
-/// The certificate of one leaf: a position and its mobility sets.
-fn leaf(alloc: Global, position: &Position, sets: Sets) -> Result<Cert, NoMemory>
-    ensures { IfOk result (λ cert. cert ≡ record { position = position.now; part = Leaf sets } ∷ []) }
+/// The certificate of one node.
+fn single(alloc: Global, position: &Position, part: Part) -> Result<Cert, NoMemory>
+    ensures { IfOk result (λ cert. cert ≡ record { position = position.now; part = part } ∷ []) }
 {
     let mut cert = Cert::new(alloc);
     let node = Node {
         position: *position,
-        part: Part::Leaf(sets),
+        part,
     };
     match cert.push(node) {
         Ok(()) => Ok(cert),
@@ -43,7 +43,18 @@ fn certified(
     ensures { IfOk result (λ cert. IsShownUnwinnable position.now winner cert) }
 {
     position.known();
-    let cert = leaf(alloc, position, sets)?;
+    let cert = single(alloc, position, Part::Leaf(sets))?;
+    checked(alloc, position, winner, cert)
+}
+
+/// The certificate that a side cannot mate, of the position alone, which has small material. The check of certificates has
+/// accepted it.
+pub fn certified_small(alloc: Global, position: &Position, winner: Color) -> Result<Cert, NoMemory>
+    requires { IsSmallUnwinnable position.now winner }
+    ensures { IfOk result (λ cert. IsShownUnwinnable position.now winner cert) }
+{
+    position.known();
+    let cert = single(alloc, position, Part::Small)?;
     checked(alloc, position, winner, cert)
 }
 

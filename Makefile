@@ -27,6 +27,10 @@ test: kit
 install: cha
 	install -d $(DESTDIR)$(PREFIX)/bin
 	install -m 755 cha $(DESTDIR)$(PREFIX)/bin/cha
+	install -d $(DESTDIR)$(PREFIX)/share/man/man1 $(DESTDIR)$(PREFIX)/share/bash-completion/completions $(DESTDIR)$(PREFIX)/share/zsh/site-functions
+	install -m 644 docs/cha.1 $(DESTDIR)$(PREFIX)/share/man/man1/cha.1
+	install -m 644 completions/cha.bash $(DESTDIR)$(PREFIX)/share/bash-completion/completions/cha
+	install -m 644 completions/_cha $(DESTDIR)$(PREFIX)/share/zsh/site-functions/_cha
 
 # The library's own code and the few lines of C by which it takes memory.
 LIBRARY = crates/cha_c/out/libcha_c.a

@@ -20,7 +20,7 @@ use Rattle.cha_outside.specs.Faults.{Rose}
 use Rattle.cha_outside.specs.declared.gathering.ReadEnd.TheVariants as ends
 use Rattle.cha_words.specs.declared.orders.Order.{Order}
 use Rattle.cha_words.specs.declared.orders.Order.TheVariants.{AdjudicateGames}
-use Rattle.adjudicate.specs.Outcomes.{Item, item_of, game_item, game_items}
+use Rattle.adjudicate.specs.Outcomes.{Item, item_of, game_item, game_items, blocks}
 use Rattle.adjudicate.specs.Report.{last_of_games, HasWholeBlocksOn}
 use Rattle.adjudicate.specs.Runs.{Outside, outside, Grew, BeginsWhole, BeginsDue, IsRun}
 use Rattle.adjudicate.specs.Steps.{JudgesGame, GameRoom, CountsAll}
@@ -92,10 +92,11 @@ begun limits certs left left' old now f f' g g' taken given s at =
 begun_due : (limits : Bounds) (certs : Bool) (left left' old now : Option (List ℕ)) (f f' g g' : ℕ) (taken : List ℕ) (given : ℕ) (s : GameTotals) → IsAt limits certs left left' old now taken given s → settled_games taken ≤ given
     → BeginsDue (AdjudicateGames limits certs) (outside left f old g) (outside left' f' now g')
 begun_due limits certs left left' old now f f' g g' taken given s at settled =
-    let whole = whole_blocks of_games limits certs (game_items taken) (drop given (game_items taken)) old now s at.written in
-    let os = at.written.2.0 in
-    let count : length os ≡ given = sym (ap (λ t. t.games) at.written.2.4) ∙ at.number in
-    (taken, at.consumed, (whole.0, whole.1, (os, whole.2.1, whole.2.2, whole.2.3, whole.2.4, omega (arith, settled, count))))
+    let w = at.written in
+    let os = w.2.0 in
+    let later = drop given (game_items taken) in
+    let count : length os ≡ given = sym (ap (λ t. t.games) w.2.4) ∙ at.number in
+    (taken, at.consumed, (blocks certs 1 os, w.2.3, (os, later, w.1 ∙ ap (λ x. x ++ later) (sym w.2.1), w.2.2, refl, omega (arith, settled, count))))
 
 none_left : (limits : Bounds) (certs : Bool) (left left' old now : Option (List ℕ)) (taken : List ℕ) (given : ℕ) (s : GameTotals) → IsAt limits certs left left' old now taken given s → length (games taken) ≤ given → WroteUpTo of_games limits certs (game_items taken) [] old now s
 none_left limits certs left left' old now taken given s at few =

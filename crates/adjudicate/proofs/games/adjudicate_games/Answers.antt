@@ -51,6 +51,13 @@ judge_game-requires-clause-few g c =
     let found = rw c.in-Some.is at c.in-Ok-next.ensures.game in
     few_words c.next.new.self.taken c.loop-found.reader.given c.in-Some.game found
 
+pub judge_game-requires-clause-room : goal.judge_game-requires-clause-room
+judge_game-requires-clause-room g c =
+    let few = not_more _ 268435456 (λ long. let e = sym c.in-Ok-next.is ∙ c.next.ensures.too_long.1 long in cc) in
+    let found = rw c.in-Some.is at c.in-Ok-next.ensures.game in
+    let there : c.loop-found.reader.given < 2 * length c.next.new.self.taken + 1 = given_few c.next.new.self.taken c.loop-found.reader.given c.in-Some.game found in
+    room_at _ _ _ _ _ _ _ _ _ c.loop-found.invariant.at (omega (arith, there, few))
+
 pub returns-in_default-judge_game-clause-run : goal.returns-in_default-judge_game-clause-run
 returns-in_default-judge_game-clause-run g c =
     let at = retook _ _ _ _ _ _ _ _ _ _ _ c.loop-found.invariant.at c.next.ensures.bytes c.next.ensures.first in

@@ -1,6 +1,8 @@
-use Rattle.std.proofs.Common.{ℕ, ◌<◌, ◌≤◌, ◌+◌, ◌*◌, List, [], length, None, Some, Err, Ok, refl, sym, ap, ◌∙◌, arith}
+use Rattle.std.proofs.Common.{◌≡◌, ℕ, ◌<◌, ◌≤◌, ◌+◌, ◌*◌, List, [], length, None, Some, Err, Ok, refl, sym, ap, ◌∙◌, subst, arith}
+use Rattle.cha_outside.proofs.Taking.{consumes_nothing}
+use Rattle.random_games.specs.Made.{made}
 use Rattle.adjudicate.proofs.PlayedGames.{few_words, given_few}
-use Rattle.adjudicate.proofs.GameLoop.{retook, gave, at_end, not_more, given_more, all_counted}
+use Rattle.adjudicate.proofs.GameLoop.{IsAt, at_first, room_at, retook, gave, at_end, not_more, given_more, all_counted}
 use Rattle.adjudicate.proofs.generated.judge_made.Goals as goal
 
 pub returns-in_default : goal.returns-in_default
@@ -9,6 +11,26 @@ returns-in_default g c =
     let none = c.next.ensures.none (c.in-Ok.is ∙ ap Ok c.in_default.is) in
     let end = at_end c.loop-found.reader.ended c.next.new.self.ended _ _ c.loop-found.invariant.end (λ h. ap Some (c.next.ensures.no_more_reads h).0) c.next.ensures.end none.0 in
     record { counted = all_counted _ _ _ _ _ _ at none.1 end }
+
+pub loop-found-init : goal.loop-found-init
+loop-found-init g c =
+    let text = made c.args.seed c.args.count in
+    let same : c.new-source.result ≡ text = c.new-source.ensures ∙ c.into_vec.ensures ∙ c.in_ok-text.ensures in
+    let first = at_first c.args.limits.now false (Some text) None c.new-totals.result c.new-totals.ensures (consumes_nothing (Some text)) in
+    rw c.in_ok-reader.ensures (record {
+      at = subst (λ x. IsAt c.args.limits.now false (Some text) (Some x) None None [] 0 c.new-totals.result) (sym same) first;
+      end = λ h. cc;
+      few = omega arith;
+      fine = refl;
+      ready = c.requires.ready;
+    })
+
+pub judge_game-requires-clause-room : goal.judge_game-requires-clause-room
+judge_game-requires-clause-room g c =
+    let few = not_more _ 268435456 (λ long. let e = sym c.in-Ok.is ∙ c.next.ensures.too_long.1 long in cc) in
+    let found = rw c.in-Some.is at c.in-Ok.ensures.game in
+    let there : c.loop-found.reader.given < 2 * length c.next.new.self.taken + 1 = given_few c.next.new.self.taken c.loop-found.reader.given c.in-Some.game found in
+    room_at _ _ _ _ _ _ _ _ _ c.loop-found.invariant.at (omega (arith, there, few))
 
 pub judge_game-requires-clause-few : goal.judge_game-requires-clause-few
 judge_game-requires-clause-few g c =

@@ -11,4 +11,6 @@ mod SharedParts
 mod Plain
 mod LinesAgain
 mod Rereading
+mod SharedAgain
+mod SharedRereading
 pub mod EitherVersion

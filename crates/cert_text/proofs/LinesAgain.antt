@@ -28,7 +28,7 @@ use Rattle.cert_text.specs.Texts.{is_text, kept, fixed_of, winner_of, small_coun
 use Rattle.cert_text.proofs.Numbers.{decimal_read, hex_read}
 use Rattle.cert_text.proofs.Plain.{plain, ArePlain}
 
-if_none : {A : Type 0} (t : Bool) (o : Option A) → o ≡ None → (if t then None else o) ≡ None
+pub if_none : {A : Type 0} (t : Bool) (o : Option A) → o ≡ None → (if t then None else o) ≡ None
 if_none true o e = refl
 if_none false o e = e
 
@@ -67,10 +67,10 @@ no_tail [] p = refl
 no_tail (line ∷ lines) p = tail_again line (lines_text lines) p.0 ∙ no_tail lines p.1
 
 -- each line is read again
-text_same : (a : List ℕ) → is_text a a ≡ true
+pub text_same : (a : List ℕ) → is_text a a ≡ true
 text_same a = (slice_eq-Decides Decides-eqb a a (is_text a a) refl).1 refl
 
-kept_again : {A : Type 0} (text : A → List ℕ) (o : Option A) (x : A) → o ≡ Some x → kept text (text x) o ≡ Some x
+pub kept_again : {A : Type 0} (text : A → List ℕ) (o : Option A) (x : A) → o ≡ Some x → kept text (text x) o ≡ Some x
 kept_again text None x e = cc
 kept_again text (Some a) x e = (let same : a ≡ x = cc in rw same (rw (text_same (text x)) refl))
 

@@ -16,7 +16,7 @@ use Rattle.cha_board.specs.SquareSets.{bits_of_set}
 use Rattle.cha_board.specs.Letters.{kind_letter, square_text}
 use Rattle.cha_fen.specs.Written.{row_text_after, rank_men, ranks_text, side_text, rights_text, target_text, fen_text}
 use Rattle.cha_fen.proofs.RoundTrip.{above, row_above}
-use Rattle.mob_sets.specs.Rows.{Row}
+use Rattle.mob_sets.specs.Rows.{Row, SetRows}
 use Rattle.cha_cert.specs.declared.nodes.Node.{Node}
 use Rattle.cha_cert.specs.declared.nodes.Part.{Part}
 use Rattle.cha_cert.specs.declared.nodes.Part.TheVariants.{Inner, Leaf, Small}
@@ -30,10 +30,10 @@ plain b = nat_lt 10 b
 over : (b : ℕ) → 11 ≤ b → plain b ≡ true
 over b big = grind (arith, nat_tests)
 
-both_plain : (a b : List ℕ) → list_all plain a ≡ true → list_all plain b ≡ true → list_all plain (a ++ b) ≡ true
+pub both_plain : (a b : List ℕ) → list_all plain a ≡ true → list_all plain b ≡ true → list_all plain (a ++ b) ≡ true
 both_plain a b p q = list_all-append plain a b ∙ and_from (list_all plain a) (list_all plain b) p q
 
-one_plain : (b : ℕ) (bs : List ℕ) → 11 ≤ b → list_all plain bs ≡ true → list_all plain (b ∷ bs) ≡ true
+pub one_plain : (b : ℕ) (bs : List ℕ) → 11 ≤ b → list_all plain bs ≡ true → list_all plain (b ∷ bs) ≡ true
 one_plain b bs big rest = and_from (plain b) (list_all plain bs) (over b big) rest
 
 lower : (b : ℕ) → nat_lt 47 b ≡ true → 11 ≤ b
@@ -82,7 +82,7 @@ unfolding target_text square_text
 target_plain None = refl
 target_plain (Some s) = one_plain (s % 8 + 97) ((s / 8 + 49) ∷ []) (omega arith) (one_plain (s / 8 + 49) [] (omega arith) refl)
 
-fen_plain : (q : Board) → list_all plain (fen_text q) ≡ true
+pub fen_plain : (q : Board) → list_all plain (fen_text q) ≡ true
 unfolding fen_text
 fen_plain q =
     let a = ranks_text 8 q.men in
@@ -106,7 +106,7 @@ unfolding hex_digits
 hex_plain zero n = refl
 hex_plain (suc k) n = both_plain (hex_digits k (n / 16)) (hex_digit (n % 16) ∷ []) (hex_plain k (n / 16)) (one_plain (hex_digit (n % 16)) [] (hex_big (n % 16)) refl)
 
-decimal_plain : (n : ℕ) → n < 2 ^ 64 → list_all plain (decimal n) ≡ true
+pub decimal_plain : (n : ℕ) → n < 2 ^ 64 → list_all plain (decimal n) ≡ true
 decimal_plain n small =
     decimal_by_steps (λ m ds. list_all plain ds ≡ true) (λ m few. one_plain (48 + m) [] (omega arith) refl)
     (λ m ds big rest. both_plain ds ((48 + m % 10) ∷ []) rest (one_plain (48 + m % 10) [] (omega arith) refl)) n small
@@ -143,23 +143,26 @@ rows_plain : (rows : List Row) → ArePlain (map row_line rows)
 rows_plain [] = tt
 rows_plain (row ∷ rows) = (row_line_plain row, rows_plain rows)
 
+pub sets_plain : (sets : SetRows) → ArePlain (loose_line sets.loose ∷ map row_line sets.rows)
+unfolding loose_line
+sets_plain sets = (both_plain (codes "loose ") (set_text sets.loose) refl (hex_plain 16 (bits_of_set sets.loose)), rows_plain sets.rows)
+
 part_plain : (q : Board) (part : Part) → ArePlain (part_lines q part)
-unfolding inner_line leaf_line small_line loose_line
+unfolding inner_line leaf_line small_line
 part_plain q Small = (both_plain (codes "small ") (fen_text q) refl (fen_plain q), tt)
 part_plain q Inner = (both_plain (codes "inner ") (fen_text q) refl (fen_plain q), tt)
-part_plain q (Leaf sets) =
-    (both_plain (codes "leaf ") (fen_text q) refl (fen_plain q), (both_plain (codes "loose ") (set_text sets.loose) refl (hex_plain 16 (bits_of_set sets.loose)), rows_plain sets.rows))
+part_plain q (Leaf sets) = (both_plain (codes "leaf ") (fen_text q) refl (fen_plain q), sets_plain sets)
 
 nodes_plain : (nodes : List Node) → ArePlain (flat_map node_lines nodes)
 nodes_plain [] = tt
 nodes_plain (node ∷ nodes) = plain_append (node_lines node) (flat_map node_lines nodes) (part_plain node.position node.part) (nodes_plain nodes)
 
-winner_plain : (w : Color) → list_all plain (winner_line w) ≡ true
+pub winner_plain : (w : Color) → list_all plain (winner_line w) ≡ true
 unfolding winner_line
 winner_plain White = refl
 winner_plain Black = refl
 
-count_plain : (n : ℕ) → n < 2 ^ 64 → list_all plain (count_line n) ≡ true
+pub count_plain : (n : ℕ) → n < 2 ^ 64 → list_all plain (count_line n) ≡ true
 unfolding count_line
 count_plain n small = both_plain (codes "nodes ") (decimal n) refl (decimal_plain n small)
 

@@ -25,7 +25,7 @@ use Rattle.cert_text.proofs.Plain.{cert_plain}
 use Rattle.cert_text.proofs.LinesAgain.{not_zero, less_test, lines_again, no_tail, fixed_again, winner_again, count_again, set_again, loose_again, row_again, inner_again, leaf_again, leaf_no_inner}
 
 -- lines of which the first does not begin as a row
-NotRow : List (List ℕ) → Type 0
+unfoldable pub NotRow : List (List ℕ) → Type 0
 NotRow [] = Unit {0}
 NotRow (line ∷ lines) = begins_reach line ≡ false
 
@@ -76,7 +76,7 @@ unfolding rows_after NotRow
 rows_end tail rows n [] t none = rw t refl
 rows_end tail rows n (line ∷ lines) t none = rw none refl
 
-rows_again : (rows more : List Row) (n : ℕ) (rest : List (List ℕ)) → AreTidy (rows ++ more) → All (λ row. row.origin < 64) more → NotRow rest
+pub rows_again : (rows more : List Row) (n : ℕ) (rest : List (List ℕ)) → AreTidy (rows ++ more) → All (λ row. row.origin < 64) more → NotRow rest
     → (m : ℕ) × (rows_after [] rows n (map row_line more ++ rest) ≡ found (rows ++ more) m rest)
 unfolding rows_after
 rows_again rows [] n rest tidy known none = (n, rows_end [] rows n rest refl none ∙ ap (λ rs. found rs n rest) (sym (append-nil rows)))
@@ -136,7 +136,7 @@ text_again w nodes text e some few ok =
     (ap (λ t. ended (body.0 + 1) [] t (record { winner = w; cert = nodes })) tail)
 
 -- what is said is not two things
-one_saying : {X : Type 0} (x : X) (said : Result X CertFault) (fault : CertFault) → said ≡ Ok x → said ≡ Err fault → ⊥
+pub one_saying : {X : Type 0} (x : X) (said : Result X CertFault) (fault : CertFault) → said ≡ Ok x → said ≡ Err fault → ⊥
 one_saying x said fault ok err = cc
 
 -- a text of which a fault is said is that of no certificate

@@ -8,7 +8,6 @@ use Rattle.cha_board.specs.declared.men.Color.{Color}
 use Rattle.mob_sets.specs.Rows.{Row}
 use Rattle.cha_cert.specs.declared.nodes.Node.{Node}
 use Rattle.cert_text.specs.Spelled.{header_line, end_line, winner_line, count_line, row_line, node_lines, cert_lines, lines_text, cert_text}
-use Rattle.cert_text.specs.Agreeing.{IsWritable}
 
 pub lines_append : (a b : List (List ℕ)) → lines_text (a ++ b) ≡ lines_text a ++ lines_text b
 unfolding lines_text
@@ -40,14 +39,15 @@ row_more old text mid new rows k row inside is e f g =
     lines_more old text new (map row_line (take k rows)) (row_line row ∷ []) e (g ∙ ap (λ t. t ++ 10 ∷ []) f ∙ one_line text (row_line row))
     ∙ ap (λ lines. old ++ lines_text lines) (rows_next rows k row inside is)
 
-pub known_more : (rows : List Row) (k : ℕ) (row : Row) → k < length rows → row ≡ get_or rows k row → row.origin < 64
-    → ((j : ℕ) (d : Row) → j < k → (get_or rows j d).origin < 64) → (j : ℕ) (d : Row) → j < k + 1 → (get_or rows j d).origin < 64
-known_more rows k row inside is here before j d less =
+-- what holds of each item so far holds of one more
+pub kept_more : {X : Type 0} (P : X → Type 0) (xs : List X) (k : ℕ) (x : X) → k < length xs → x ≡ get_or xs k x → P x
+    → ((j : ℕ) (d : X) → j < k → P (get_or xs j d)) → (j : ℕ) (d : X) → j < k + 1 → P (get_or xs j d)
+kept_more P xs k x inside is here before j d less =
     elim (cases_lt j k) [
       | inl low ↦ before j d low
       | inr high ↦ (
           let same : k ≡ j = omega arith in
-          subst (λ i. (get_or rows i d).origin < 64) same (subst (λ (r : Row). r.origin < 64) (get_or_read rows k row inside is d) here))
+          subst (λ i. P (get_or xs i d)) same (subst P (get_or_read xs k x inside is d) here))
     ]
 
 nodes_next : (nodes : List Node) (k : ℕ) (node : Node) → k < length nodes → node ≡ get_or nodes k node → flat_map node_lines (take k nodes) ++ node_lines node ≡ flat_map node_lines (take (k + 1) nodes)
@@ -61,16 +61,6 @@ pub node_more : (old text new : List ℕ) (nodes : List Node) (k : ℕ) (node : 
     → text ≡ old ++ lines_text (flat_map node_lines (take k nodes)) → new ≡ text ++ lines_text (node_lines node) → new ≡ old ++ lines_text (flat_map node_lines (take (k + 1) nodes))
 node_more old text new nodes k node inside is e f =
     lines_more old text new (flat_map node_lines (take k nodes)) (node_lines node) e f ∙ ap (λ lines. old ++ lines_text lines) (nodes_next nodes k node inside is)
-
-pub writable_more : (nodes : List Node) (k : ℕ) (node : Node) → k < length nodes → node ≡ get_or nodes k node → IsWritable node
-    → ((j : ℕ) (d : Node) → j < k → IsWritable (get_or nodes j d)) → (j : ℕ) (d : Node) → j < k + 1 → IsWritable (get_or nodes j d)
-writable_more nodes k node inside is here before j d less =
-    elim (cases_lt j k) [
-      | inl low ↦ before j d low
-      | inr high ↦ (
-          let same : k ≡ j = omega arith in
-          subst (λ i. IsWritable (get_or nodes i d)) same (subst IsWritable (get_or_read nodes k node inside is d) here))
-    ]
 
 -- the whole
 pub whole_text : (winner : Color) (nodes : List Node) (head body text : List ℕ) → head ≡ [] ++ lines_text (header_line ∷ winner_line winner ∷ count_line (length nodes) ∷ [])

@@ -4,6 +4,9 @@ ghost use Rattle.std.specs.Prelude.{◌≤◌, drop, length, ◌≡◌, ◌≢�
 ghost use Rattle.cert_text.specs.declared.faults.CertKind.TheVariants.{NoMemory};
 ghost use Rattle.cert_text.specs.SharedSpelled.{shared_text};
 ghost use Rattle.cert_text.specs.SharedTexts.{shared_cert_of};
+ghost use Rattle.cert_text.specs.Agreeing.{IsSharedText};
+ghost use Rattle.cha_board.specs.declared.men.Color.{Color as Side};
+ghost use Rattle.cha_cert.specs.Shared.{Shared};
 
 use crate::faults::{CertFault, CertKind};
 use crate::heads::{count_line, winner_line};
@@ -22,11 +25,13 @@ pub struct SharedCertificate {
 }
 
 /// The shared certificate of a text of version 2, or the first line that does not fit its place. Whether the certificate is
-/// valid is not asked, nor whether equal sets stand there twice.
+/// valid is not asked, nor whether equal sets stand there twice. A text that is refused, but for want of memory, is that of no
+/// shared certificate.
 #[tactic(auto, unfolding(crate::specs::SharedTexts::shared_cert_of))]
 pub fn read2(alloc: Global, bytes: &[u8]) -> Result<SharedCertificate, CertFault>
     ensures value { IfOk result (λ read. shared_cert_of bytes.now ≡ Ok read) }
     ensures fault { IfErr result (λ fault. fault.kind ≢ NoMemory → shared_cert_of bytes.now ≡ Err fault) }
+    ensures refused { IfErr result (λ fault. fault.kind ≢ NoMemory → (w : Side) (shared : Shared) → IsSharedText w shared bytes.now → ⊥) }
     ensures spelled { IfOk result (λ read. shared_text read.winner read.cert ≡ bytes.now) }
     ensures some { IfOk result (λ read. 0 < length read.cert.nodes) }
     ensures few { IfOk result (λ read. length read.cert.nodes < 2 ^ 32) }

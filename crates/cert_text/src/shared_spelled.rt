@@ -1,9 +1,11 @@
 //! The text of a shared certificate, written.
 
-ghost use Rattle.std.specs.Prelude.{◌≡◌, ◌<◌, ◌^◌, ◌++◌, [], ◌∷◌, length, OnOk, IfOk};
-ghost use Rattle.std.specs.List.{flat_map};
+ghost use Rattle.std.specs.Prelude.{◌≡◌, ◌<◌, ◌^◌, ◌++◌, [], ◌∷◌, Ok, length, OnOk, IfOk};
+ghost use Rattle.std.specs.List.{All, flat_map};
 ghost use Rattle.cert_text.specs.Spelled.{winner_line, count_line, lines_text};
 ghost use Rattle.cert_text.specs.SharedSpelled.{sets_line, shared_leaf_line, set_lines, shared_node_lines, shared_header_line, shared_text};
+ghost use Rattle.cert_text.specs.SharedTexts.{shared_cert_of};
+ghost use Rattle.cert_text.specs.Agreeing.{IsWritableSets, HasValidPosition};
 
 use crate::spelled::{put_count, put_inner, put_sets, put_small};
 use cha_board::{Color, Position};
@@ -41,8 +43,10 @@ pub fn put_shared_leaf(
 /// Writes the line of a node.
 #[tactic(auto, unfolding(crate::specs::Spelled::lines_text))]
 fn put_shared_node(alloc: Global, node: &SharedNode, text: &mut Text) -> Result<(), NoMemory>
-    ensures { OnOk result (text.new ≡ text.old ++ lines_text (shared_node_lines node.now)) }
+    ensures text { OnOk result (text.new ≡ text.old ++ lines_text (shared_node_lines node.now)) }
+    ensures valid { OnOk result (HasValidPosition node.now) }
 {
+    node.position.known();
     match node.part {
         SharedPart::Inner => put_inner(alloc, &node.position, text)?,
         SharedPart::Leaf(number) => put_shared_leaf(alloc, number, &node.position, text)?,
@@ -54,7 +58,8 @@ fn put_shared_node(alloc: Global, node: &SharedNode, text: &mut Text) -> Result<
 
 /// Writes the lines of nodes.
 fn put_shared_nodes(alloc: Global, nodes: &[SharedNode], text: &mut Text) -> Result<(), NoMemory>
-    ensures { OnOk result (text.new ≡ text.old ++ lines_text (flat_map shared_node_lines nodes.now)) }
+    ensures text { OnOk result (text.new ≡ text.old ++ lines_text (flat_map shared_node_lines nodes.now)) }
+    ensures valid { OnOk result (All HasValidPosition nodes.now) }
 {
     for node in nodes {
         put_shared_node(alloc, node, text)?;
@@ -64,7 +69,8 @@ fn put_shared_nodes(alloc: Global, nodes: &[SharedNode], text: &mut Text) -> Res
 
 /// Writes the lines of sets.
 fn put_all_sets(all: &[Sets], text: &mut Text) -> Result<(), NoMemory>
-    ensures { OnOk result (text.new ≡ text.old ++ lines_text (flat_map set_lines all.now)) }
+    ensures text { OnOk result (text.new ≡ text.old ++ lines_text (flat_map set_lines all.now)) }
+    ensures writable { OnOk result (All IsWritableSets all.now) }
 {
     for sets in all {
         put_sets(sets, text)?;
@@ -113,12 +119,13 @@ fn put_node_count(alloc: Global, count: u64, text: &mut Text) -> Result<(), NoMe
 /// ```
 ///
 /// Each line ends with a line feed. The sets come first, each once, and a leaf names its sets by their number, from 0. A
-/// node of small material has the line `small FEN`.
+/// node of small material has the line `small FEN`. The text is read as the same shared certificate again.
 pub fn write2(alloc: Global, winner: Color, cert: &SharedCert) -> Result<Text, NoMemory>
     requires some { 0 < length cert.now.nodes }
     requires few { length cert.now.nodes < 2 ^ 32 }
     requires few_sets { length cert.now.sets < 2 ^ 32 }
-    ensures { IfOk result (λ text. text ≡ shared_text winner cert.now) }
+    ensures text { IfOk result (λ text. text ≡ shared_text winner cert.now) }
+    ensures read_again { IfOk result (λ text. shared_cert_of text ≡ Ok (record { winner = winner; cert = cert.now })) }
 {
     let mut text = Text::new(alloc);
     let sets = cert.sets();

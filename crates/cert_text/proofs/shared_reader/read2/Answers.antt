@@ -1,8 +1,10 @@
-use Rattle.std.proofs.Common.{◌∙◌, sym, ap, drop, Err, arith, length-drop}
+use Rattle.std.proofs.Common.{rules, ◌∙◌, sym, ap, drop, Err, arith, length-drop}
 use Rattle.std.proofs.lemmas.List.{drop_all}
 use Rattle.cert_text.proofs.Going.{ended_here, not_ended}
 use Rattle.cert_text.proofs.SharedParts.{shared_parts_read}
 use Rattle.cert_text.proofs.SharedSpelling.{shared_is_spelled, some_shared, few_shared, few_sets_shared}
+use Rattle.cert_text.specs.SharedTexts.{shared_cert_of}
+use Rattle.cert_text.proofs.SharedRereading.{no_shared_text, none_shared_refused}
 use Rattle.cert_text.proofs.shared_reader.read2.Goals as goal
 
 pub returns-then-left-bytes-clause-value : goal.returns-then-left-bytes-clause-value
@@ -26,3 +28,55 @@ returns-then-left-bytes-clause-few c = few_shared c.args.bytes.now _ (returns-th
 
 pub returns-then-left-bytes-clause-few_sets : goal.returns-then-left-bytes-clause-few_sets
 returns-then-left-bytes-clause-few_sets c = few_sets_shared c.args.bytes.now _ (returns-then-left-bytes-clause-value c)
+
+pub returns-in_err-left-clause-fault : goal.returns-in_err-left-clause-fault
+unfolding shared_cert_of
+returns-in_err-left-clause-fault c = search rules
+
+pub returns-in_err-left-clause-refused : goal.returns-in_err-left-clause-refused
+returns-in_err-left-clause-refused c = none_shared_refused c.args.bytes.now c.from_residual.result (returns-in_err-left-clause-fault c)
+
+pub returns-in_err-winner-clause-fault : goal.returns-in_err-winner-clause-fault
+unfolding shared_cert_of
+returns-in_err-winner-clause-fault c = search rules
+
+pub returns-in_err-winner-clause-refused : goal.returns-in_err-winner-clause-refused
+returns-in_err-winner-clause-refused c = none_shared_refused c.args.bytes.now c.from_residual-in_err-winner.result (returns-in_err-winner-clause-fault c)
+
+pub returns-in_err-sets-clause-fault : goal.returns-in_err-sets-clause-fault
+unfolding shared_cert_of
+returns-in_err-sets-clause-fault c = search rules
+
+pub returns-in_err-sets-clause-refused : goal.returns-in_err-sets-clause-refused
+returns-in_err-sets-clause-refused c = none_shared_refused c.args.bytes.now c.from_residual-in_err-sets.result (returns-in_err-sets-clause-fault c)
+
+pub returns-in_err-shared-clause-fault : goal.returns-in_err-shared-clause-fault
+unfolding shared_cert_of
+returns-in_err-shared-clause-fault c = search rules
+
+pub returns-in_err-shared-clause-refused : goal.returns-in_err-shared-clause-refused
+returns-in_err-shared-clause-refused c = none_shared_refused c.args.bytes.now c.from_residual-in_err-shared.result (returns-in_err-shared-clause-fault c)
+
+pub returns-in_err-count-clause-fault : goal.returns-in_err-count-clause-fault
+unfolding shared_cert_of
+returns-in_err-count-clause-fault c = search rules
+
+pub returns-in_err-count-clause-refused : goal.returns-in_err-count-clause-refused
+returns-in_err-count-clause-refused c = none_shared_refused c.args.bytes.now c.from_residual-in_err-count.result (returns-in_err-count-clause-fault c)
+
+pub returns-in_err-cert-clause-fault : goal.returns-in_err-cert-clause-fault
+unfolding shared_cert_of
+returns-in_err-cert-clause-fault c = search rules
+
+pub returns-in_err-cert-clause-refused : goal.returns-in_err-cert-clause-refused
+returns-in_err-cert-clause-refused c = none_shared_refused c.args.bytes.now c.from_residual-in_err-cert.result (returns-in_err-cert-clause-fault c)
+
+pub returns-in_err-left-2-clause-fault : goal.returns-in_err-left-2-clause-fault
+unfolding shared_cert_of
+returns-in_err-left-2-clause-fault c = search rules
+
+pub returns-in_err-left-2-clause-refused : goal.returns-in_err-left-2-clause-refused
+returns-in_err-left-2-clause-refused c = none_shared_refused c.args.bytes.now c.from_residual-in_err-left-2.result (returns-in_err-left-2-clause-fault c)
+
+pub returns-else-left-bytes-clause-refused : goal.returns-else-left-bytes-clause-refused
+returns-else-left-bytes-clause-refused c = λ kind w shared text. no_shared_text c.args.bytes.now c.misfit.result (returns-else-left-bytes-clause-fault c kind) w shared text

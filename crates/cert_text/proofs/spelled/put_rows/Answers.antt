@@ -1,5 +1,5 @@
-use Rattle.std.proofs.Common.{arith}
-use Rattle.cert_text.proofs.Writing.{no_lines, row_more, known_more}
+use Rattle.std.proofs.Common.{◌<◌, arith}
+use Rattle.cert_text.proofs.Writing.{no_lines, row_more, kept_more}
 use Rattle.cert_text.proofs.spelled.put_rows.Goals as goal
 
 pub loop-row-init : goal.loop-row-init
@@ -10,5 +10,5 @@ loop-row-preserved c = record {
   text =
       row_more c.args.text.now c.loop-row.text c.put_row.new.text c.push.new.self c.args.rows.now c.loop-row.row-index c.row-item.result c.loop-row-test.true c.row-item.is
       c.loop-row.invariant.text c.in_ok-put_row.ensures.text c.in_ok-push.ensures.ok;
-  known = known_more c.args.rows.now c.loop-row.row-index c.row-item.result c.loop-row-test.true c.row-item.is c.in_ok-put_row.ensures.known c.loop-row.invariant.known;
+  known = kept_more (λ row. row.origin < 64) c.args.rows.now c.loop-row.row-index c.row-item.result c.loop-row-test.true c.row-item.is c.in_ok-put_row.ensures.known c.loop-row.invariant.known;
 }

@@ -68,7 +68,7 @@ def contract(crate, function, clauses):
     for path in glob.glob(f"{TOP}/crates/{crate}/src/*.rt"):
         lines = open(path).read().split("\n")
         for i, line in enumerate(lines):
-            if re.search(rf"\bpub fn {function}\b", line):
+            if re.search(rf"\bpub (?:extern \"C\" )?fn {function}\b", line):
                 text, keep = "", False
                 for after in lines[i:]:
                     if after.strip() in ("{", "{}"):

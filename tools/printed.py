@@ -1,0 +1,67 @@
+#!/usr/bin/env python3
+"""Runs each command line that README.md and docs/ print behind `$`, and compares what comes out with what is printed below it.
+
+    tools/printed.py [PROGRAM]
+
+PROGRAM is the built cha (./cha, as `make` leaves it). A command that names a program of the reader's own is passed over. The status is 0
+where all is as printed.
+"""
+import glob
+import os
+import re
+import shutil
+import subprocess
+import sys
+import tempfile
+
+TOP = os.path.dirname(os.path.dirname(os.path.abspath(__file__)))
+OWN = ("games-as-they-end",)
+# what the examples read: positions with three certificates, and the sample of the README
+POSITIONS = "4k3/7B/8/p1p1p1p1/P1P1P1P1/8/8/4K3 w - -\n8/8/8/4k3/3q4/8/8/4KN2 w - -\n"
+
+
+def examples(text):
+    """The command lines of a text, each with the lines printed below it."""
+    found = []
+    for block in re.findall(r"(?:^    .*\n)+", text, re.M):
+        lines = [line[4:] for line in block.splitlines()]
+        while lines:
+            line = lines.pop(0)
+            if not line.startswith("$ "):
+                continue
+            command = [line[2:]]
+            while command[-1].endswith(("|", "\\")) and lines:
+                command.append(lines.pop(0))
+            printed = []
+            while lines and not lines[0].startswith("$ "):
+                printed.append(lines.pop(0))
+            found.append(("\n".join(command), printed))
+    return found
+
+
+def main():
+    program = os.path.abspath(sys.argv[1] if len(sys.argv) > 1 else os.path.join(TOP, "cha"))
+    wrong = run = 0
+    for path in [f"{TOP}/README.md", *sorted(glob.glob(f"{TOP}/docs/*.md"))]:
+        with tempfile.TemporaryDirectory() as room:
+            os.symlink(program, f"{room}/cha")
+            os.symlink(f"{TOP}/docs", f"{room}/docs")
+            shutil.copytree(f"{TOP}/tools", f"{room}/tools")
+            shutil.copy(f"{TOP}/docs/sample.pgn", f"{room}/games.pgn")
+            with open(f"{room}/POSITIONS.fen", "w") as file:
+                file.write(POSITIONS)
+            for command, printed in examples(open(path, encoding="utf-8").read()):
+                if any(word in command for word in OWN):
+                    continue
+                run += 1
+                where = {**os.environ, "PATH": room + os.pathsep + os.environ["PATH"]}
+                done = subprocess.run(["bash", "-c", command], cwd=room, env=where, stdout=subprocess.PIPE, stderr=subprocess.STDOUT, text=True)
+                if done.stdout.splitlines() != printed:
+                    wrong += 1
+                    print(f"{os.path.relpath(path, TOP)}: {command}\n--- printed\n" + "\n".join(printed) + f"\n--- comes out\n{done.stdout}")
+    print(f"{run} command lines, {wrong} otherwise than printed")
+    return 1 if wrong else 0
+
+
+if __name__ == "__main__":
+    sys.exit(main())

@@ -1,7 +1,9 @@
 #!/usr/bin/env python3
-"""Changes, cuts, doubles and joins bytes of real texts, and holds each answer of the library against what it must be.
+"""Changes, cuts, doubles and joins bytes of real texts, and holds each answer against what it must be.
 
-    CHA_LIBRARY=./libcha.so tools/fuzz.py COUNT [SEED] [FILE ..]
+    tools/fuzz.py COUNT [SEED] [FILE ..]
+
+It runs ./cha, or the program that CHA_PROGRAM names; with CHA_LIBRARY=./libcha.so it calls the library, which is faster.
 
 Texts are games in PGN, positions in FEN and certificates: those built in, and those of the files (`.pgn`, and lines of `.fen`). Answers
 on FEN and on certificates are compared with `tools/second`; a report on games is held against the rules of a whole report: numbers,
@@ -13,6 +15,7 @@ import os
 import random
 import re
 import signal
+import subprocess
 import sys
 
 HERE = os.path.dirname(os.path.abspath(__file__))
@@ -20,7 +23,23 @@ sys.path[:0] = [os.path.join(HERE, "..", "python"), os.path.join(HERE, "second")
 
 import board  # noqa: E402
 import second  # noqa: E402
-from cha import ChaError, report  # noqa: E402
+
+if "CHA_LIBRARY" in os.environ:
+    from cha import ChaError, report  # noqa: E402
+else:
+
+    class ChaError(Exception):
+        """The program ended otherwise than by a report."""
+
+    def report(words, data):
+        """What the program prints for these words and this input."""
+        done = subprocess.run([PROGRAM, *words], input=data, stdout=subprocess.PIPE, stderr=subprocess.PIPE)
+        if done.returncode not in (0, 6):
+            raise ChaError(f"status {done.returncode}: {done.stderr[:200]!r}")
+        return done.stdout
+
+
+PROGRAM = os.environ.get("CHA_PROGRAM", os.path.join(HERE, "..", "cha"))
 
 FENS = [
     "rnbqkbnr/pppppppp/8/8/8/8/PPPPPPPP/RNBQKBNR w KQkq - 0 1",

@@ -42,40 +42,44 @@ const DEAD_BEFORE: &str = "\
 game 1
 fen: 4k3/8/8/8/8/8/3K4/8 b - -
 white: unwinnable
-cha-cert 1
+cha-cert 2
 winner w
-nodes 1
-leaf 4k3/8/8/8/8/8/3K4/8 b - -
+sets 1
 loose 1000000000000800
 reach d2 K ffffffffffffffff
 reach e8 K ffffffffffffffff
+nodes 1
+leaf 0 4k3/8/8/8/8/8/3K4/8 b - -
 end
 black: unwinnable
-cha-cert 1
+cha-cert 2
 winner b
-nodes 1
-leaf 4k3/8/8/8/8/8/3K4/8 b - -
+sets 1
 loose 1000000000000800
 reach d2 K ffffffffffffffff
 reach e8 K ffffffffffffffff
+nodes 1
+leaf 0 4k3/8/8/8/8/8/3K4/8 b - -
 end
 status: dead
 dead from: ply 0
-cha-cert 1
+cha-cert 2
 winner w
-nodes 1
-leaf 4k3/8/8/8/8/8/8/4K3 w - -
+sets 1
 loose 1000000000000010
 reach e1 K ffffffffffffffff
 reach e8 K ffffffffffffffff
+nodes 1
+leaf 0 4k3/8/8/8/8/8/8/4K3 w - -
 end
-cha-cert 1
+cha-cert 2
 winner b
-nodes 1
-leaf 4k3/8/8/8/8/8/8/4K3 w - -
+sets 1
 loose 1000000000000010
 reach e1 K ffffffffffffffff
 reach e8 K ffffffffffffffff
+nodes 1
+leaf 0 4k3/8/8/8/8/8/8/4K3 w - -
 end
 result: 1-0 -> 1/2-1/2 by 5.2.2
 games: 1, unreadable: 0, changed: 1, undecided: 0

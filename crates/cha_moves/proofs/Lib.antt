@@ -27,3 +27,4 @@ pub mod MateMoves
 pub mod Checking
 pub mod Apart
 pub mod LegalApart
+pub mod Counted

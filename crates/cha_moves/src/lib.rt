@@ -3,12 +3,13 @@
 //! `step` has the move, `sides` the ranks of a side's pawns, `passing` what a pawn passes over or captures in passing,
 //! `goes` how men go, `ways` where they may go, `makes` what a move changes, `afterwards` the position after one, `safety` which
 //! moves leave the king unattacked, `shields` what checks it and which men shield it, `legally` which ways are legal,
-//! `list` the legal moves, `some` whether there is one, `ends` how a position stands, `checks` where a man may give check, `mating` which move mates, `lines` the lines that end in mate,
+//! `list` the legal moves, `count` how many there are, `some` whether there is one, `ends` how a position stands, `checks` where a man may give check, `mating` which move mates, `lines` the lines that end in mate,
 //! `dead` what stays so once a side cannot mate, and `text` the move's text.
 #![tactic(auto)]
 
 mod afterwards;
 mod checks;
+mod count;
 mod dead;
 mod ends;
 mod goes;
@@ -29,6 +30,7 @@ mod text;
 mod ways;
 
 pub use afterwards::after;
+pub use count::count_legal;
 pub use dead::unwinnable_stays;
 pub use ends::{Standing, is_mate, state};
 pub use lines::{mate_lines_mate, replays};

@@ -49,7 +49,7 @@ fn add_promotions(moves: &mut Vec<Move>, from: Square, to: Square) -> Result<(),
 }
 
 /// The squares on which a man of a side and this kind is promoted.
-fn promoting(side: Color, kind: Kind) -> SquareSet
+pub fn promoting(side: Color, kind: Kind) -> SquareSet
     ensures { result ≡ set_of (is_promoted side kind) }
 {
     if !kind.is(Kind::Pawn) {

@@ -21,9 +21,9 @@ counted [] = refl
 counted (m ∷ ms) = omega (arith, counted ms, sum_by-cons (λ (x : Move). 1) m ms)
 
 -- the lines of one move are the legal moves
-pub last_lines : (d : ℕ) (q : Board) (ms : List Move) → d ≡ 1 → ms ≡ legal q → length ms ≡ lines_from d q
+pub last_lines : (d : ℕ) (q : Board) (n : ℕ) → d ≡ 1 → n ≡ length (legal q) → n ≡ lines_from d q
 unfolding lines_from
-last_lines d q ms one listed = rw (one, listed) (counted (legal q))
+last_lines d q n one all = all ∙ rw one (counted (legal q))
 
 pub lines_by_move : (d e : ℕ) (q : Board) → d ≡ e + 1 → lines_from d q ≡ lines_with e q (legal q)
 unfolding lines_from lines_with

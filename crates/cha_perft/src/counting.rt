@@ -1,10 +1,10 @@
-//! Counts of lines of legal moves, from the lists of the last moves.
+//! Counts of lines of legal moves, of which the last are counted and not made.
 
 ghost use Rattle.std.specs.Prelude.{◌≡◌, ◌≤◌, ◌^◌, Err, IfOk};
 ghost use Rattle.cha_perft.specs.Counts.{lines_from};
 
 use cha_board::Position;
-use cha_moves::{after, legal};
+use cha_moves::{after, count_legal, legal};
 use std::alloc::Global;
 
 /// Why lines were not counted.
@@ -16,7 +16,7 @@ pub enum CountFault {
     TooMany,
 }
 
-/// How many lines of `depth` legal moves begin in a position. The last moves are counted in their list and not made.
+/// How many lines of `depth` legal moves begin in a position. The last moves are counted and not made.
 #[tactic(auto, using(crate::proofs::Sums::one_line, crate::proofs::Sums::last_lines, crate::proofs::Sums::no_lines, crate::proofs::Sums::all_lines))]
 pub fn count_lines(alloc: Global, position: &Position, depth: u8) -> Result<u64, CountFault>
     ensures count { IfOk result (λ count. count ≡ lines_from depth position.now) }
@@ -25,12 +25,12 @@ pub fn count_lines(alloc: Global, position: &Position, depth: u8) -> Result<u64,
     if depth == 0 {
         return Ok(1);
     }
+    if depth == 1 {
+        return Ok(count_legal(position));
+    }
     let Ok(moves) = legal(alloc, position) else {
         return Err(CountFault::NoMemory);
     };
-    if depth == 1 {
-        return Ok(moves.len() as u64);
-    }
     let mut total: u64 = 0;
     for m in &moves {
         let next = after(position, *m);

@@ -1,4 +1,4 @@
-//! The plain count of lines of legal moves, which makes every move of every line: the yardstick of the count from lists.
+//! The plain count of lines of legal moves, which makes every move of every line: the yardstick of the other count.
 
 ghost use Rattle.std.specs.Prelude.{◌≡◌, ◌≤◌, ◌^◌, Err, IfOk};
 ghost use Rattle.cha_perft.specs.Counts.{lines_from};

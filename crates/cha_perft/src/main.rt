@@ -4,7 +4,7 @@
 //! the program prints how many lines of 1, 2, .. moves up to that depth begin in the position. The depth is 0 to 255. A
 //! depth of 0 asks for the lines of no move: there is one in each position, so that `1` is printed.
 //!
-//! With no word it counts the last moves of lines in their lists; with the word `made` it makes every move of every line.
+//! With no word it counts the last moves of lines and does not make them; with the word `made` it makes every move of every line.
 //!
 //! It ends at the first line that it cannot answer. The status is 0 where all are answered, 1 where the words, the bytes
 //! or a line are not of this form or a count was not made or printed, and 2 where the input could not be read. For 1 and 2

@@ -9,7 +9,7 @@ use std::alloc::Global;
 /// How lines are counted.
 #[derive(Clone, Copy, Debug, PartialEq, Eq)]
 pub enum Manner {
-    /// The last moves are counted in their lists.
+    /// The last moves are counted and not made.
     Listed,
     /// Every move of every line is made.
     Made,

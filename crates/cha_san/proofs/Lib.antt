@@ -1,6 +1,8 @@
 pub mod PartsInOrder
 pub mod ReadInOrder
-pub mod Choosing
+pub mod Sifting
+pub mod Sourced
+pub mod Seeing
 pub mod Resolved
 pub mod Replayed
 pub mod Played

@@ -1,6 +1,7 @@
 -- The positions of a game, while they are listed.
-use Rattle.std.proofs.Common.{◌≡◌, ℕ, ◌+◌, ◌<◌, ◌≤◌, List, [], ◌∷◌, ◌++◌, length, get_or, drop, Result, Ok, Err, refl, sym, ◌∙◌, ap, append_assoc}
+use Rattle.std.proofs.Common.{◌≡◌, ℕ, suc, ◌+◌, ◌<◌, ◌≤◌, List, [], ◌∷◌, ◌++◌, length, get_or, drop, Result, Ok, Err, refl, sym, ◌∙◌, ap, append_assoc, arith}
 use Rattle.std.proofs.lemmas.List.{drop_all}
+use Rattle.std.proofs.Math.Seq.{drop-cons}
 use Rattle.cha_board.specs.Board.{Board}
 use Rattle.cha_moves.specs.Step.{Move}
 use Rattle.cha_moves.specs.Moves.{after}
@@ -8,7 +9,11 @@ use Rattle.cha_san.specs.declared.faults.SanFault.{SanFault}
 use Rattle.cha_san.specs.declared.faults.PlayFault.{PlayFault}
 use Rattle.cha_san.specs.Resolving.{resolved}
 use Rattle.cha_san.specs.Playing.{onto, onward, positions_from, FollowsBy}
-use Rattle.cha_san.proofs.Choosing.{next}
+
+next : {X : Type 0} (xs : List X) (i : ℕ) (x : X) → i < length xs → x ≡ get_or xs i x → drop i xs ≡ x ∷ drop (i + 1) xs
+next xs i x inside is =
+    let e : i + 1 ≡ suc i = omega arith in
+    drop-cons xs i x inside ∙ ap (λ y. y ∷ drop (suc i) xs) (sym is) ∙ ap (λ n. x ∷ drop n xs) (sym e)
 
 -- positions in front of those that follow, if these can be told
 abbrev pub behind : List Board → Result (List Board) PlayFault → Result (List Board) PlayFault

@@ -3,14 +3,20 @@ use Rattle.std.proofs.Common.{◌≡◌, ℕ, ◌≤◌, List, [], ◌∷◌, le
 use Rattle.std.specs.List.{filter, Contains}
 use Rattle.cha_board.specs.Board.{Board}
 use Rattle.cha_moves.specs.Step.{Move}
-use Rattle.cha_moves.specs.Moves.{legal}
+use Rattle.cha_moves.specs.Moves.{all_moves, legal}
 use Rattle.cha_moves.proofs.Contained.{Contains-filter_parts, Contains-cons_here}
 use Rattle.cha_san.specs.declared.faults.SanFault.{SanFault}
 use Rattle.cha_san.specs.declared.faults.SanFault.TheVariants.{NotSan, NoSuchMove, Ambiguous}
 use Rattle.cha_san.specs.declared.forms.Form.{Form}
+use Rattle.cha_san.specs.declared.found.Found.{Found}
+use Rattle.cha_san.specs.declared.found.Found.TheVariants.{Nothing}
 use Rattle.cha_san.specs.Forms.{form_of}
 use Rattle.cha_san.specs.Fitting.{fits}
 use Rattle.cha_san.specs.Resolving.{fitting_form, fitting, only, resolved}
+use Rattle.cha_san.specs.Seen.{seen, answered}
+use Rattle.cha_san.specs.Sources.{names}
+use Rattle.cha_san.proofs.Sifting.{answered_only}
+use Rattle.cha_san.proofs.Sourced.{named_are}
 
 -- a word that says nothing
 pub says_nothing : (q : Board) (word : List ℕ) (o : Option Form) → o ≡ form_of word → o ≡ None → Err NotSan ≡ resolved q word
@@ -71,8 +77,8 @@ answers_legal q word form r h =
     let P : Result Move SanFault → Type 0 = λ o. IfOk o (λ m. Contains (legal q) m) in
     subst P (sym h.chosen) (only_legal q form (filter (fits q form) (legal q)) refl)
 
--- an answer that was found in a list that is the legal moves
-pub answers_from : (q : Board) (word : List ℕ) (form : Form) (r : Result Move SanFault) (o : Option Form) (moves kept : List Move)
-    → o ≡ form_of word → o ≡ Some form → moves ≡ kept → kept ≡ legal q → r ≡ only (filter (fits q form) moves) → Answers q word form r
-answers_from q word form r o moves kept is some same all chosen =
-    record { said = sym is ∙ some; chosen = chosen ∙ ap (λ ms. only (filter (fits q form) ms)) (same ∙ all) }
+-- an answer that was found among all moves
+pub answers_from : (q : Board) (word : List ℕ) (form : Form) (r : Result Move SanFault) (o : Option Form) (found : Found)
+    → o ≡ form_of word → o ≡ Some form → found ≡ seen Nothing (filter (names q form) all_moves) → r ≡ answered found → Answers q word form r
+answers_from q word form r o found is some all chosen =
+    record { said = sym is ∙ some; chosen = chosen ∙ ap answered all ∙ answered_only (filter (names q form) all_moves) ∙ ap only (named_are q form) }

@@ -5,3 +5,6 @@ pub mod InOrder
 pub mod Fitting
 pub mod Resolving
 pub mod Playing
+-- what only loops and lemmas use
+pub mod Seen
+pub mod Sources

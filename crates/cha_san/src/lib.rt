@@ -1,19 +1,22 @@
 //! SAN, the text of a move, and the positions of a game (PGN standard, 8.2.3).
 //!
 //! `faults` says why a word names no move. A word is read from its end: `backwards` has its last byte and what is in front,
-//! `letters` what bytes mean, `reading` what a word says, kept as `forms` has it, and `order` the law of the parts of a word. `fitting` has the moves that fit, `resolving`
-//! the one that a word names, and `playing` the positions of a game.
+//! `letters` what bytes mean, `reading` what a word says, kept as `forms` has it, and `order` the law of the parts of a word. `fitting` has the moves that fit,
+//! `sources` the squares between which they go, `found` how many there are, `resolving` the one that a word names, and `playing`
+//! the positions of a game.
 #![tactic(auto)]
 
 mod backwards;
 mod faults;
 mod fitting;
 mod forms;
+mod found;
 mod letters;
 mod order;
 mod playing;
 mod reading;
 mod resolving;
+mod sources;
 #[cfg(test)]
 mod tests;
 

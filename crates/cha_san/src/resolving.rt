@@ -1,37 +1,76 @@
 //! The move that a word names.
 
-ghost use Rattle.std.specs.Prelude.{◌≡◌, ◌≤◌, ◌⊎◌, ◌↔◌, [], ◌∷◌, Ok, Err, None, filter, length, IfOk, Contains};
+ghost use Rattle.std.specs.Prelude.{◌≡◌, ◌≤◌, ◌⊎◌, ◌↔◌, [], ◌∷◌, Ok, Err, None, Some, filter, length, IfOk, Contains};
+ghost use Rattle.cha_moves.specs.Moves.{moves_between, all_moves};
 ghost use Rattle.cha_moves.specs.Moves.{legal as legal_moves};
 ghost use Rattle.cha_san.specs.declared.faults.SanFault.TheVariants.{NotSan, NoSuchMove, Ambiguous, NoMemory};
 ghost use Rattle.cha_san.specs.Forms.{form_of};
-ghost use Rattle.cha_san.specs.Fitting.{fits as fits_form};
-ghost use Rattle.cha_san.specs.Resolving.{only, fitting, resolved};
+ghost use Rattle.cha_san.specs.Resolving.{fitting, resolved};
+ghost use Rattle.cha_san.specs.Seen.{seen};
+ghost use Rattle.cha_san.specs.Sources.{names};
 
 use crate::faults::SanFault;
 use crate::fitting::fits;
 use crate::forms::Form;
+use crate::found::Found;
 use crate::reading::form;
-use cha_board::Position;
-use cha_moves::{Move, legal};
+use crate::sources::{sources, target};
+use cha_board::{Kind, Position, Square};
+use cha_moves::{Move, is_legal, promotion_rank};
 use std::alloc::Global;
 
-/// The one move of a list that fits what a word says.
-fn only_fitting(position: &Position, form: &Form, moves: &[Move]) -> Result<Move, SanFault>
-    ensures { result ≡ only (filter (fits_form position.now form.now) moves.now) }
+/// What is found once a move was looked at.
+fn with_move(
+    position: &Position,
+    form: &Form,
+    found: Found,
+    from: Square,
+    to: Square,
+    promotion: Option<Kind>,
+) -> Found
+    ensures { result ≡ seen found (filter (names position.now form.now) (record { from = from; to = to; promotion = promotion } ∷ [])) }
 {
-    let mut found = None;
-    for m in moves {
-        if fits(position, form, m) {
-            match found {
-                None => found = Some(*m),
-                Some(_) => return Err(SanFault::Ambiguous),
-            }
-        }
+    let m = Move {
+        from,
+        to,
+        promotion,
+    };
+    let m = &m;
+    m.known();
+    if fits(position, form, m) && is_legal(position, *m) {
+        found.and(m)
+    } else {
+        found
     }
-    match found {
-        Some(m) => Ok(m),
-        None => Err(SanFault::NoSuchMove),
+}
+
+/// What is found once the moves from one square to another were looked at.
+fn with_moves(position: &Position, form: &Form, found: Found, from: Square, to: Square) -> Found
+    ensures { result ≡ seen found (filter (names position.now form.now) (moves_between from to)) }
+{
+    let plain = with_move(position, form, found, from, to, None);
+    if to.rank() != promotion_rank(position.side()) {
+        return plain;
     }
+    let queen = with_move(position, form, plain, from, to, Some(Kind::Queen));
+    let rook = with_move(position, form, queen, from, to, Some(Kind::Rook));
+    let bishop = with_move(position, form, rook, from, to, Some(Kind::Bishop));
+    with_move(position, form, bishop, from, to, Some(Kind::Knight))
+}
+
+/// What is found of the legal moves that fit what a word says. Only men that may come to the target of the word are looked at.
+fn found_for(position: &Position, form: &Form) -> Found
+    ensures { result ≡ seen Found.Nothing (filter (names position.now form.now) all_moves) }
+{
+    let to = target(position, form);
+    let _to = to.index();
+    let mut found = Found::Nothing;
+    let mut left = sources(position, form);
+    while let Some(from) = left.first() {
+        found = with_moves(position, form, found, from, to);
+        left = left.without(from);
+    }
+    found
 }
 
 /// The one legal move that fits a word of SAN (PGN standard, 8.2.3).
@@ -44,7 +83,7 @@ fn only_fitting(position: &Position, form: &Form, moves: &[Move]) -> Result<Move
 /// fit. `NoMemory` is want of memory, of which nothing more is known.
 ///
 /// At the opening position `Nf3` and `Ng1f3+!` are the move from g1 to f3, `Nd2` is no such move, and `knight` is not SAN.
-pub fn resolve(alloc: Global, position: &Position, word: &[u8]) -> Result<Move, SanFault>
+pub fn resolve(_alloc: Global, position: &Position, word: &[u8]) -> Result<Move, SanFault>
     ensures value { (result ≡ Err NoMemory) ⊎ (result ≡ resolved position.now word.now) }
     ensures not_san { (result ≡ Err NotSan) ↔ (form_of word.now ≡ None) }
     ensures no_such_move { result ≡ Err NoSuchMove → fitting position.now word.now ≡ [] }
@@ -55,8 +94,5 @@ pub fn resolve(alloc: Global, position: &Position, word: &[u8]) -> Result<Move, 
     let Some(form) = form(word) else {
         return Err(SanFault::NotSan);
     };
-    match legal(alloc, position) {
-        Ok(moves) => only_fitting(position, &form, moves.as_slice()),
-        Err(_) => Err(SanFault::NoMemory),
-    }
+    found_for(position, &form).only()
 }

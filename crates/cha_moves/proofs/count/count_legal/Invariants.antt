@@ -1,0 +1,13 @@
+-- cha_moves/proofs/count/count_legal/Invariants.antt
+use Rattle.std.proofs.Common.{◌≡◌, ◌+◌, length}
+use Rattle.std.specs.List.{filter, flat_map}
+use Rattle.cha_board.specs.SquareSets.{squares_in}
+use Rattle.cha_moves.specs.Moves.{is_legal_in, moves_from, legal}
+use Rattle.cha_moves.proofs.count.count_legal.Given as goal
+
+abbrev pub decreases-loop-from : goal.decreases-loop-from
+decreases-loop-from l = length (squares_in l.left)
+
+-- the moves that are counted and those from the squares that are left are the legal moves
+abbrev pub invariant-loop-from : goal.invariant-loop-from
+invariant-loop-from l = l.count + length (filter (is_legal_in l.position) (flat_map moves_from (squares_in l.left))) ≡ length (legal l.position)

@@ -150,10 +150,10 @@ class Threats:
         self.fixed = {at for at, man in enumerate(self.men) if man is not None and at not in sets.loose}
         entries = [(o, k, s) for (o, k), found in sets.reach.items() for s in found if self.men[o] is not None]
         self.hunters = [(o, k, s) for o, k, s in entries if self.men[o][0] == winner and self.men[o][1] != "K"]
-        self.shelters = {s for o, k, s in entries if self.men[o][0] != winner and self.men[o][1] != "K"}
+        self.shelters = [(o, k, s) for o, k, s in entries if self.men[o][0] != winner and self.men[o][1] != "K"]
         self.kings = {color: [s for o, k, s in entries if self.men[o] == (color, "K") and k == "K"] for color in "wb"}
         self.hunting = sum(man is not None and man[0] == winner and man[1] != "K" for man in self.men)
-        self.memory = {}
+        self.memory, self.staying = {}, {}
 
     def aims(self, kind, square, unseen):
         """The squares at which a man aims past all but fixed men; a fixed man on `unseen` is not looked at."""
@@ -171,21 +171,46 @@ class Threats:
     def attacks(self, hunter, at, king):
         return hunter[2] != at and hunter[2] != king and at in self.aims(hunter[1], hunter[2], king)
 
-    def is_threat(self, king, near):
-        """Whether the loser may be mated on `king`, with these squares next to it left to the men of the winner."""
+    def ends(self, kind, square, checker, way):
+        """Whether a man of the loser could at once take the checker, or step between by one step or a jump."""
+        if kind == "P":
+            return checker in captures(other(self.winner), square)
+        steps = {line[0] for line in lines(kind, square)}
+        return checker in steps or bool(steps & way)
+
+    def stay(self, king, checker):
+        """Where men of the loser may stand that could not at once end a check from a square."""
+        if (king, checker) not in self.staying:
+            way = set()
+            for line in lines("Q", checker):
+                if king in line:
+                    way = set(line[:line.index(king)])
+            self.staying[king, checker] = {s for o, k, s in self.shelters if not self.ends(k, s, checker, way)}
+        return self.staying[king, checker]
+
+    def is_threat(self, king, near, count):
+        """Whether the loser may be mated on `king`, with these squares next to it left to the men, and `count` men of the loser
+        that may stand next to it."""
+        def may_fill(open_squares, where):
+            return len(open_squares) <= count and open_squares <= where
+
         checkers = [h for h in self.hunters if h[2] != king and king in self.aims(h[1], h[2], None)]
         if self.hunting == 1:
-            return any(all(self.attacks(h, at, king) for at in near) for h in checkers)
-        return bool(checkers) and all(any(self.attacks(h, at, king) for h in self.hunters) for at in near)
+            return any(
+                may_fill({at for at in near if not self.attacks(h, at, king)}, self.stay(king, h[2])) for h in checkers
+            )
+        where = {s for o, k, s in self.shelters}
+        return bool(checkers) and may_fill({at for at in near if not any(self.attacks(h, at, king) for h in self.hunters)}, where)
 
     def may_mate(self):
         for king in self.kings[other(self.winner)]:
             beside_king = {line[0] for line in lines("K", king)}
+            count = len({o for o, k, s in self.shelters if s in beside_king})
             for winner_king in self.kings[self.winner]:
                 if winner_king == king or winner_king in beside_king:
                     continue
                 beside_winner = {line[0] for line in lines("K", winner_king)}
-                if self.is_threat(king, beside_king - self.shelters - beside_winner):
+                if self.is_threat(king, beside_king - beside_winner, count):
                     return True
         return False
 

@@ -1,11 +1,14 @@
 pub mod Choices
+pub mod Counting
+pub mod Enders
 pub mod Loops
 pub mod Reaching
 pub mod Seeing
 pub mod AtMostOne
+pub mod NextTo
 pub mod StruckSets
 pub mod MenInReach
 pub mod Unreached
-pub mod NextTo
+pub mod Rings
 pub mod ThreatsSeen
 pub mod RulesHold

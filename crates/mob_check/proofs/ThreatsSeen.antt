@@ -1,7 +1,7 @@
 -- A threat is found by the tests, and what they find is one.
-use Rattle.std.proofs.Common.{◌≡◌, ◌≢◌, ℕ, ◌<◌, Bool, true, false, not, ◌&&◌, ◌||◌, ◌==◌, if◌then◌else◌, List, length, refl, ap, sym, subst, ◌∙◌, inl, inr}
+use Rattle.std.proofs.Common.{◌≡◌, ◌≢◌, ℕ, ◌<◌, Bool, true, false, not, ◌&&◌, ◌||◌, ◌==◌, if◌then◌else◌, List, length, leb, Option, Some, refl, ap, sym, subst, ◌∙◌, inl, inr}
 use Rattle.std.specs.List.{list_any}
-use Rattle.std.proofs.lemmas.Bool.{and_parts, and_from, or_cases, or_left, or_right, both_ways, cases_Bool, not-true, eq-eqb, eqb-true, ne_eqb, eqb-false, false_from_ne_true}
+use Rattle.std.proofs.lemmas.Bool.{and_parts, and_from, or_cases, or_left, or_right, both_ways, cases_Bool, not-true, eq-eqb, eqb-true, ne_eqb, eqb-false, le-leb, leb-true, false_from_ne_true}
 use Rattle.cha_board.specs.declared.men.Color.{Color}
 use Rattle.cha_board.specs.declared.men.Kind.{Kind}
 use Rattle.cha_board.specs.Men.{other_color}
@@ -10,30 +10,25 @@ use Rattle.cha_board.specs.Aims.{aims_over, is_open as is_seen}
 use Rattle.cha_board.specs.Board.{Board}
 use Rattle.mob_law.proofs.Geometry.{aims_at_self}
 use Rattle.mob_steps.specs.Grounds.{has_own}
-use Rattle.cha_board.specs.SquareSets.{set_of, has_square, set_joined}
+use Rattle.cha_board.specs.SquareSets.{set_of, has_square, squares_in, is_subset}
 use Rattle.cha_board.proofs.SetLaws.{has-set_of}
-use Rattle.cha_board.proofs.Scans.{any_square_at, all_squares_at, each_square}
+use Rattle.cha_board.proofs.Scans.{any_square_at}
 use Rattle.mob_sets.specs.Mobility.{Sets}
-use Rattle.mob_law.specs.Threats.{KingOn, NonKingOn, HasAtMostOneMan, Checks, Attacks, Covered, Blocked, NextToKing, Attacked, Threat, HasNoMate}
-use Rattle.cha_board.proofs.Contents.{some_square}
+use Rattle.mob_law.specs.Threats.{KingOn, NonKingOn, HasAtMostOneMan, Checks, Attacks, ends_check, MayStandNear, Covered, Blocked, NextToKing, Attacked, Threat, HasNoMate}
+use Rattle.cha_board.proofs.Contents.{some_square, subset_at, subset_from}
 use Rattle.mob_sets.specs.Rows.{SetRows, kinds, sets_of}
 use Rattle.mob_sets.proofs.KindTests.{any_kind_at, some_kind}
 use Rattle.mob_check.specs.declared.scene.Scene.{Scene}
+use Rattle.mob_check.specs.declared.ring.Ring.{Ring}
+use Rattle.mob_check.specs.Nearness.{next_to}
+use Rattle.mob_check.specs.Reaches.{origins_of}
 use Rattle.mob_check.specs.Scenes.{squares_as, has_at_most_one, scene_of}
-use Rattle.mob_check.specs.Mates.{checks_as, checks_from, has_check, seen_through, strikes, struck_by, strikes_as, strikes_from, struck, keeps_from, is_shut, shuts_from, may_shut, mates_with_all, mates_as, mates_from, mates_with_one, may_mate_on, may_mate}
-use Rattle.mob_check.proofs.Choices.{if_at, if_from, chosen, chosen_first, chosen_second}
+use Rattle.mob_check.specs.Mates.{checks_as, checks_from, has_check, seen_through, strikes, struck_by, strikes_as, strikes_from, struck, is_left, left_squares, is_filled, shuts_from, may_shut, stays_as, stays_on, ring_of_one, mates_with_all, mates_as, mates_from, mates_with_one, men_near, mates_among, may_mate_on, may_mate}
+use Rattle.mob_check.proofs.Choices.{chosen, chosen_first, chosen_second}
+use Rattle.mob_check.proofs.Counting.{squares_apart, listed_in, in_listed, counts, given}
 use Rattle.mob_check.proofs.Seeing.{open_is, through_is}
-use Rattle.mob_check.proofs.MenInReach.{squares_as_is, king_gives, king_from, man_gives, man_from, any_gives, any_from, one_from, several_not_one}
-
-joined_has : (a b : List Bool) (n : ℕ) → n < 64 → has_square (set_joined a b) n ≡ (has_square a n || has_square b n)
-unfolding set_joined
-joined_has a b n small = has-set_of (λ s. has_square a s || has_square b s) n small
-
-apart_from : (a b : ℕ) → a ≢ b → not (a == b) ≡ true
-apart_from a b ne = ap not (ne_eqb a b ne)
-
-apart_tells : (a b : ℕ) → not (a == b) ≡ true → a ≢ b
-apart_tells a b h = eqb-false a b (not-true (a == b) h)
+use Rattle.mob_check.proofs.Rings.{apart_from, apart_tells, Filled, Fills, filled_test, filled_gives, shut_test, shut_gives, stays_test, stays_give}
+use Rattle.mob_check.proofs.MenInReach.{squares_as_is, king_gives, king_from, man_gives, man_from, any_gives, any_from, near_gives, near_from, small_of, one_from, several_not_one}
 
 -- For a position, rows and a winner:
 module _ (p : Board) (r : SetRows) (w : Color) (size : length p.men ≡ 64) where
@@ -110,70 +105,48 @@ module _ (p : Board) (r : SetRows) (w : Color) (size : length p.men ≡ 64) wher
       let man = man_gives p r w j.0 v.0 v.1 (sym (ap (λ q. has_square q v.0) (squares_as_is p r.rows w j.0)) ∙ as_kind.0) in
       (j.0, v.0, attacks_give ks n v.0 j.0 small man (apart_tells v.0 ks both.0) as_kind.1)
 
-  -- the winner's king shuts in the loser's
-  shut_test : (ks wk : ℕ) (covered : List Bool) → KingOn p s w wk → wk ≢ ks → steps_apart ks wk ≢ 1
-      → ((n : ℕ) → n < 64 → (steps_apart ks n == 1) ≡ true → (has_square covered n || (steps_apart wk n == 1)) ≡ true) → may_shut scene covered ks ≡ true
-  unfolding may_shut shuts_from is_shut keeps_from scene_of
-  shut_test ks wk covered king distinct far each =
-      let here = king_from p r w wk king in
-      let all = each_square (keeps_from covered ks wk) (λ n small. if_from (steps_apart ks n == 1) (has_square covered n || (steps_apart wk n == 1)) (each n small)) in
-      let a = and_from (has_square scene.winner_king wk) (not (wk == ks)) here (apart_from wk ks distinct) in
-      let b = and_from (has_square scene.winner_king wk && not (wk == ks)) (not (steps_apart ks wk == 1)) a (apart_from (steps_apart ks wk) 1 far) in
-      any_square_at (shuts_from scene covered ks) wk king.small (and_from (has_square scene.winner_king wk && not (wk == ks) && not (steps_apart ks wk == 1)) (is_shut covered ks wk) b all)
+  -- how many men of the loser may stand next to ks
+  abbrev men : ℕ → ℕ
+  men ks = men_near p r.rows w ks
 
-  record ShutBy (ks : ℕ) (covered : List Bool) : Type 0 where
-    wk : ℕ
-    king : KingOn p s w wk
-    distinct : wk ≢ ks
-    far : steps_apart ks wk ≢ 1
-    each : (n : ℕ) → n < 64 → (steps_apart ks n == 1) ≡ true → (has_square covered n || (steps_apart wk n == 1)) ≡ true
+  -- a square that is covered is struck, next to the winner's king, or filled: with all men
+  abbrev struck_by_all : ℕ → List Bool
+  struck_by_all ks = struck scene (seen_through scene ks) ks
 
-  shut_gives : (ks : ℕ) (covered : List Bool) → may_shut scene covered ks ≡ true → ShutBy ks covered
-  unfolding may_shut shuts_from is_shut keeps_from scene_of
-  shut_gives ks covered h =
-      let wk = some_square (shuts_from scene covered ks) h in
-      let a = and_parts (has_square scene.winner_king wk.0 && not (wk.0 == ks) && not (steps_apart ks wk.0 == 1)) (is_shut covered ks wk.0) wk.2 in
-      let b = and_parts (has_square scene.winner_king wk.0 && not (wk.0 == ks)) (not (steps_apart ks wk.0 == 1)) a.0 in
-      let d = and_parts (has_square scene.winner_king wk.0) (not (wk.0 == ks)) b.0 in
-      record {
-        wk = wk.0;
-        king = king_gives p r w wk.0 wk.1 d.0;
-        distinct = apart_tells wk.0 ks d.1;
-        far = apart_tells (steps_apart ks wk.0) 1 b.1;
-        each = λ n small near_by. if_at (steps_apart ks n == 1) (has_square covered n || (steps_apart wk.0 n == 1)) (all_squares_at (keeps_from covered ks wk.0) n a.1 small) near_by;
-      }
-
-  -- what a covered square shows: with all men
-  cover_all : (ks wk n u : ℕ) (k : Kind) → ks < 64 → n < 64 → (steps_apart ks n == 1) ≡ true → Covered p s w ks wk n k u
-      → (has_square (set_joined scene.loser_men (struck scene (seen_through scene ks) ks)) n || (steps_apart wk n == 1)) ≡ true
+  fill_all : (ks wk n u : ℕ) (k : Kind) (counted : Option ℕ) → ks < 64 → n < 64 → (steps_apart ks n == 1) ≡ true → Covered p s w ks wk n k u counted
+      → (has_square (struck_by_all ks) n || (steps_apart wk n == 1)) ≡ false → Filled scene.loser_men n counted
   unfolding scene_of
-  cover_all ks wk n u k small small' near_by (Blocked j man) =
-      let t = struck scene (seen_through scene ks) ks in
-      or_left (has_square (set_joined scene.loser_men t) n) (steps_apart wk n == 1) (joined_has scene.loser_men t n small' ∙ or_left (has_square scene.loser_men n) (has_square t n) (any_from p r (other_color w) j n man))
-  cover_all ks wk n u k small small' near_by (NextToKing h) =
-      or_right (has_square (set_joined scene.loser_men (struck scene (seen_through scene ks) ks)) n) (steps_apart wk n == 1) (eq-eqb (steps_apart wk n) 1 h)
-  cover_all ks wk n u k small small' near_by (Attacked j v a lone) =
-      let t = struck scene (seen_through scene ks) ks in
-      or_left (has_square (set_joined scene.loser_men t) n) (steps_apart wk n == 1) (joined_has scene.loser_men t n small' ∙ or_right (has_square scene.loser_men n) (has_square t n) (struck_test ks n v j small small' near_by a))
+  fill_all ks wk n u k counted small small' near_by (Blocked j man stuck o is) free = record { here = any_from p r (other_color w) j n man; man = o; is = is }
+  fill_all ks wk n u k counted small small' near_by (NextToKing h) free =
+      absurd (both_ways (has_square (struck_by_all ks) n || (steps_apart wk n == 1)) free (or_right (has_square (struck_by_all ks) n) (steps_apart wk n == 1) (eq-eqb (steps_apart wk n) 1 h)))
+  fill_all ks wk n u k counted small small' near_by (Attacked j v a lone) free =
+      absurd (both_ways (has_square (struck_by_all ks) n || (steps_apart wk n == 1)) free (or_left (has_square (struck_by_all ks) n) (steps_apart wk n == 1) (struck_test ks n v j small small' near_by a)))
 
   -- and with one
-  cover_one : (ks wk n u : ℕ) (k : Kind) → HasAtMostOneMan p w → ks < 64 → n < 64 → (steps_apart ks n == 1) ≡ true → Covered p s w ks wk n k u
-      → (has_square (set_joined scene.loser_men (struck_by w (seen_through scene ks) ks u k)) n || (steps_apart wk n == 1)) ≡ true
-  unfolding struck_by scene_of
-  cover_one ks wk n u k one small small' near_by (Blocked j man) =
-      let t = struck_by w (seen_through scene ks) ks u k in
-      or_left (has_square (set_joined scene.loser_men t) n) (steps_apart wk n == 1) (joined_has scene.loser_men t n small' ∙ or_left (has_square scene.loser_men n) (has_square t n) (any_from p r (other_color w) j n man))
-  cover_one ks wk n u k one small small' near_by (NextToKing h) =
-      or_right (has_square (set_joined scene.loser_men (struck_by w (seen_through scene ks) ks u k)) n) (steps_apart wk n == 1) (eq-eqb (steps_apart wk n) 1 h)
-  cover_one ks wk n u k one small small' near_by (Attacked j v a lone) =
-      let t = struck_by w (seen_through scene ks) ks u k in
+  abbrev struck_by_one : ℕ → ℕ → Kind → List Bool
+  struck_by_one ks u k = struck_by w (seen_through scene ks) ks u k
+
+  fill_one : (ks wk n u : ℕ) (k : Kind) (counted : Option ℕ) → HasAtMostOneMan p w → ks < 64 → n < 64 → (steps_apart ks n == 1) ≡ true → Covered p s w ks wk n k u counted
+      → (has_square (struck_by_one ks u k) n || (steps_apart wk n == 1)) ≡ false → Filled (stays_on scene ks u) n counted
+  unfolding struck_by
+  fill_one ks wk n u k counted one small small' near_by (Blocked j man stuck o is) free = record { here = stays_test p r w size ks u n j man (stuck one); man = o; is = is }
+  fill_one ks wk n u k counted one small small' near_by (NextToKing h) free =
+      absurd (both_ways (has_square (struck_by_one ks u k) n || (steps_apart wk n == 1)) free (or_right (has_square (struck_by_one ks u k) n) (steps_apart wk n == 1) (eq-eqb (steps_apart wk n) 1 h)))
+  fill_one ks wk n u k counted one small small' near_by (Attacked j v a lone) free =
       let same = lone one in
       let a' : Attacks p s w ks n k u = (let P : Kind → Type 0 = λ x. Attacks p s w ks n x u in let Q : ℕ → Type 0 = λ x. Attacks p s w ks n j x in subst P same.0 (subst Q same.1 a)) in
-      or_left (has_square (set_joined scene.loser_men t) n) (steps_apart wk n == 1) (joined_has scene.loser_men t n small' ∙ or_right (has_square scene.loser_men n) (has_square t n)
-      (has-set_of (strikes w (seen_through scene ks) ks u k) n small' ∙ strikes_test ks n u k small near_by a'))
+      absurd (both_ways (has_square (struck_by_one ks u k) n || (steps_apart wk n == 1)) free (or_left (has_square (struck_by_one ks u k) n) (steps_apart wk n == 1)
+      (has-set_of (strikes w (seen_through scene ks) ks u k) n small' ∙ strikes_test ks n u k small near_by a')))
 
-  threat_seen : (ks wk : ℕ) → Threat p s w ks wk → may_mate_on scene ks ≡ true
-  unfolding may_mate_on mates_with_one mates_from mates_as mates_with_all has_check checks_from scene_of
+  -- what keeps the king in, with all men and with one
+  abbrev ring_all : ℕ → Ring
+  ring_all ks = record { struck = struck_by_all ks; blockers = scene.loser_men; men = men ks }
+
+  abbrev ring_one : ℕ → ℕ → Kind → Ring
+  ring_one ks u k = record { struck = struck_by_one ks u k; blockers = stays_on scene ks u; men = men ks }
+
+  threat_seen : (ks wk : ℕ) → Threat p s w ks wk → may_mate_on p r.rows scene ks ≡ true
+  unfolding may_mate_on mates_among mates_with_one mates_from mates_as ring_of_one mates_with_all has_check checks_from scene_of
   threat_seen ks wk t =
       let seen = seen_through scene ks in
       let small = t.loser.small in
@@ -183,51 +156,58 @@ module _ (p : Board) (r : SetRows) (w : Color) (size : length p.men ≡ 64) wher
       let u_small = t.checks.checker.small in
       let one = λ (h : few ≡ true). (
       let lone = one_from p w size h in
-      let shut = shut_test ks wk (set_joined scene.loser_men (struck_by w seen ks u k)) t.winner t.distinct t.far (λ n small' near_by. cover_one ks wk n u k lone small small' near_by (t.covered n small' (eqb-true (steps_apart ks n) 1 near_by))) in
-      any_square_at (mates_from scene seen ks) u u_small (any_kind_at (mates_as scene seen ks u) k (and_from (checks_as scene ks u k) (may_shut scene (set_joined scene.loser_men (struck_by w seen ks u k)) ks) check shut))) in
+      let filled = filled_test p r w size ks wk (struck_by_one ks u k) (stays_on scene ks u) t (λ n small' near_by free. fill_one ks wk n u k (t.counted n) lone small small' near_by (t.covered n small' (eqb-true (steps_apart ks n) 1 near_by)) free) in
+      let shut = shut_test p r w size ks wk (ring_one ks u k) t.winner t.distinct t.far filled in
+      any_square_at (mates_from scene seen (men ks) ks) u u_small (any_kind_at (mates_as scene seen (men ks) ks u) k (and_from (checks_as scene ks u k) (may_shut scene (ring_one ks u k) ks) check shut))) in
       let many = λ (h : few ≡ false). (
-      let shut = shut_test ks wk (set_joined scene.loser_men (struck scene seen ks)) t.winner t.distinct t.far (λ n small' near_by. cover_all ks wk n u k small small' near_by (t.covered n small' (eqb-true (steps_apart ks n) 1 near_by))) in
+      let filled = filled_test p r w size ks wk (struck_by_all ks) scene.loser_men t (λ n small' near_by free. fill_all ks wk n u k (t.counted n) small small' near_by (t.covered n small' (eqb-true (steps_apart ks n) 1 near_by)) free) in
+      let shut = shut_test p r w size ks wk (ring_all ks) t.winner t.distinct t.far filled in
       let some = any_square_at (checks_from scene ks) u u_small (any_kind_at (checks_as scene ks u) k check) in
-      and_from (has_check scene ks) (may_shut scene (set_joined scene.loser_men (struck scene seen ks)) ks) some shut) in
-      and_from (has_square scene.loser_king ks) (if few then mates_with_one scene seen ks else mates_with_all scene seen ks)
-      (king_from p r (other_color w) ks t.loser) (chosen few (mates_with_one scene seen ks) (mates_with_all scene seen ks) one many)
+      and_from (has_check scene ks) (may_shut scene (ring_all ks) ks) some shut) in
+      and_from (has_square scene.loser_king ks) (if few then mates_with_one scene seen (men ks) ks else mates_with_all scene seen (men ks) ks)
+      (king_from p r (other_color w) ks t.loser) (chosen few (mates_with_one scene seen (men ks) ks) (mates_with_all scene seen (men ks) ks) one many)
 
   -- a square that is not left to the king is covered: with one man
-  covered_one : (ks wk n u : ℕ) (k : Kind) → ks < 64 → n < 64 → NonKingOn p s w k u → u ≢ ks
-      → (has_square (set_joined scene.loser_men (struck_by w (seen_through scene ks) ks u k)) n || (steps_apart wk n == 1)) ≡ true → Covered p s w ks wk n k u
-  unfolding struck_by scene_of
-  covered_one ks wk n u k small small' man other h =
-      let t = struck_by w (seen_through scene ks) ks u k in
-      elim (or_cases (has_square (set_joined scene.loser_men t) n) (steps_apart wk n == 1) h) [
-        | inr near_by ↦ NextToKing (eqb-true (steps_apart wk n) 1 near_by)
-        | inl on ↦ elim (or_cases (has_square scene.loser_men n) (has_square t n) (sym (joined_has scene.loser_men t n small') ∙ on)) [
-          | inl there ↦ (let blocker = any_gives p r (other_color w) n small' there in Blocked blocker.0 blocker.1)
-          | inr hit ↦ Attacked k u (attacks_give ks n u k small man other (sym (has-set_of (strikes w (seen_through scene ks) ks u k) n small') ∙ hit)) (λ lone. (refl, refl))
+  covered_one : (ks wk n u : ℕ) (k : Kind) (f : Fills p s (other_color w) ks wk (struck_by_one ks u k) (stays_on scene ks u)) → ks < 64 → n < 64 → (steps_apart ks n == 1) ≡ true → NonKingOn p s w k u → u ≢ ks
+      → Covered p s w ks wk n k u (f.counted n)
+  unfolding struck_by
+  covered_one ks wk n u k f small small' near_by man other =
+      elim (cases_Bool (has_square (struck_by_one ks u k) n || (steps_apart wk n == 1))) [
+        | inl kept ↦ elim (or_cases (has_square (struck_by_one ks u k) n) (steps_apart wk n == 1) kept) [
+          | inl hit ↦ Attacked k u (attacks_give ks n u k small man other (sym (has-set_of (strikes w (seen_through scene ks) ks u k) n small') ∙ hit)) (λ lone. (refl, refl))
+          | inr by_king ↦ NextToKing (eqb-true (steps_apart wk n) 1 by_king)
         ]
+        | inr free ↦ (
+            let fill = f.each n small' near_by free in
+            let blocker = stays_give p r w size ks u n small' fill.here in
+            Blocked blocker.0 blocker.1 (λ lone. blocker.2) fill.man fill.is)
       ]
 
-  covered_all : (ks wk n u : ℕ) (k : Kind) → few ≡ false → ks < 64 → n < 64
-      → (has_square (set_joined scene.loser_men (struck scene (seen_through scene ks) ks)) n || (steps_apart wk n == 1)) ≡ true → Covered p s w ks wk n k u
+  covered_all : (ks wk n u : ℕ) (k : Kind) (f : Fills p s (other_color w) ks wk (struck_by_all ks) scene.loser_men) → few ≡ false → ks < 64 → n < 64 → (steps_apart ks n == 1) ≡ true
+      → Covered p s w ks wk n k u (f.counted n)
   unfolding scene_of
-  covered_all ks wk n u k two small small' h =
-      let t = struck scene (seen_through scene ks) ks in
-      elim (or_cases (has_square (set_joined scene.loser_men t) n) (steps_apart wk n == 1) h) [
-        | inr near_by ↦ NextToKing (eqb-true (steps_apart wk n) 1 near_by)
-        | inl on ↦ elim (or_cases (has_square scene.loser_men n) (has_square t n) (sym (joined_has scene.loser_men t n small') ∙ on)) [
-          | inl there ↦ (let blocker = any_gives p r (other_color w) n small' there in Blocked blocker.0 blocker.1)
-          | inr hit ↦ (let a = struck_gives ks n small small' hit in Attacked a.0 a.1 a.2 (λ lone. absurd (several_not_one p w two lone)))
+  covered_all ks wk n u k f two small small' near_by =
+      elim (cases_Bool (has_square (struck_by_all ks) n || (steps_apart wk n == 1))) [
+        | inl kept ↦ elim (or_cases (has_square (struck_by_all ks) n) (steps_apart wk n == 1) kept) [
+          | inl hit ↦ (let a = struck_gives ks n small small' hit in Attacked a.0 a.1 a.2 (λ lone. absurd (several_not_one p w two lone)))
+          | inr by_king ↦ NextToKing (eqb-true (steps_apart wk n) 1 by_king)
         ]
+        | inr free ↦ (
+            let fill = f.each n small' near_by free in
+            let blocker = any_gives p r (other_color w) n small' fill.here in
+            Blocked blocker.0 blocker.1 (λ lone. absurd (several_not_one p w two lone)) fill.man fill.is)
       ]
 
-  found_with_one : (ks : ℕ) → ks < 64 → KingOn p s (other_color w) ks → mates_with_one scene (seen_through scene ks) ks ≡ true → (wk : ℕ) × Threat p s w ks wk
-  unfolding mates_with_one mates_from mates_as scene_of
+  found_with_one : (ks : ℕ) → ks < 64 → KingOn p s (other_color w) ks → mates_with_one scene (seen_through scene ks) (men ks) ks ≡ true → (wk : ℕ) × Threat p s w ks wk
+  unfolding mates_with_one mates_from mates_as ring_of_one scene_of
   found_with_one ks small loser h =
       let seen = seen_through scene ks in
-      let u = some_square (mates_from scene seen ks) h in
-      let k = some_kind (mates_as scene seen ks u.0) u.2 in
-      let both = and_parts (checks_as scene ks u.0 k.0) (may_shut scene (set_joined scene.loser_men (struck_by w seen ks u.0 k.0)) ks) k.1 in
+      let u = some_square (mates_from scene seen (men ks) ks) h in
+      let k = some_kind (mates_as scene seen (men ks) ks u.0) u.2 in
+      let both = and_parts (checks_as scene ks u.0 k.0) (may_shut scene (ring_one ks u.0 k.0) ks) k.1 in
       let check = checks_give ks u.0 k.0 u.1 both.0 in
-      let shut = shut_gives ks (set_joined scene.loser_men (struck_by w seen ks u.0 k.0)) both.1 in (
+      let shut = shut_gives p r w size ks (ring_one ks u.0 k.0) both.1 in
+      let f = filled_gives p r w size ks shut.wk (struck_by_one ks u.0 k.0) (stays_on scene ks u.0) shut.filled in (
         shut.wk,
         record {
           loser = loser;
@@ -237,19 +217,22 @@ module _ (p : Board) (r : SetRows) (w : Color) (size : length p.men ≡ 64) wher
           kind = k.0;
           square = u.0;
           checks = check;
-          covered = λ n small' near_by. covered_one ks shut.wk n u.0 k.0 small small' check.checker check.other (shut.each n small' (eq-eqb (steps_apart ks n) 1 near_by));
+          counted = f.counted;
+          covered = λ n small' near_by. covered_one ks shut.wk n u.0 k.0 f small small' (eq-eqb (steps_apart ks n) 1 near_by) check.checker check.other;
+          near = f.near;
+          once = f.once;
         },
       )
 
-  found_with_all : (ks : ℕ) → ks < 64 → KingOn p s (other_color w) ks → few ≡ false → mates_with_all scene (seen_through scene ks) ks ≡ true → (wk : ℕ) × Threat p s w ks wk
+  found_with_all : (ks : ℕ) → ks < 64 → KingOn p s (other_color w) ks → few ≡ false → mates_with_all scene (seen_through scene ks) (men ks) ks ≡ true → (wk : ℕ) × Threat p s w ks wk
   unfolding mates_with_all has_check checks_from scene_of
   found_with_all ks small loser two h =
-      let seen = seen_through scene ks in
-      let both = and_parts (has_check scene ks) (may_shut scene (set_joined scene.loser_men (struck scene seen ks)) ks) h in
+      let both = and_parts (has_check scene ks) (may_shut scene (ring_all ks) ks) h in
       let u = some_square (checks_from scene ks) both.0 in
       let k = some_kind (checks_as scene ks u.0) u.2 in
       let check = checks_give ks u.0 k.0 u.1 k.1 in
-      let shut = shut_gives ks (set_joined scene.loser_men (struck scene seen ks)) both.1 in (
+      let shut = shut_gives p r w size ks (ring_all ks) both.1 in
+      let f = filled_gives p r w size ks shut.wk (struck_by_all ks) scene.loser_men shut.filled in (
         shut.wk,
         record {
           loser = loser;
@@ -259,29 +242,32 @@ module _ (p : Board) (r : SetRows) (w : Color) (size : length p.men ≡ 64) wher
           kind = k.0;
           square = u.0;
           checks = check;
-          covered = λ n small' near_by. covered_all ks shut.wk n u.0 k.0 two small small' (shut.each n small' (eq-eqb (steps_apart ks n) 1 near_by));
+          counted = f.counted;
+          covered = λ n small' near_by. covered_all ks shut.wk n u.0 k.0 f two small small' (eq-eqb (steps_apart ks n) 1 near_by);
+          near = f.near;
+          once = f.once;
         },
       )
 
-  threat_found : (ks : ℕ) → ks < 64 → may_mate_on scene ks ≡ true → (wk : ℕ) × Threat p s w ks wk
-  unfolding may_mate_on scene_of
+  threat_found : (ks : ℕ) → ks < 64 → may_mate_on p r.rows scene ks ≡ true → (wk : ℕ) × Threat p s w ks wk
+  unfolding may_mate_on mates_among scene_of
   threat_found ks small h =
       let seen = seen_through scene ks in
-      let both = and_parts (has_square scene.loser_king ks) (if few then mates_with_one scene seen ks else mates_with_all scene seen ks) h in
+      let both = and_parts (has_square scene.loser_king ks) (if few then mates_with_one scene seen (men ks) ks else mates_with_all scene seen (men ks) ks) h in
       let loser = king_gives p r (other_color w) ks small both.0 in
       elim (cases_Bool few) [
-        | inl one ↦ found_with_one ks small loser (chosen_first few (mates_with_one scene seen ks) (mates_with_all scene seen ks) both.1 one)
-        | inr two ↦ found_with_all ks small loser two (chosen_second few (mates_with_one scene seen ks) (mates_with_all scene seen ks) both.1 two)
+        | inl one ↦ found_with_one ks small loser (chosen_first few (mates_with_one scene seen (men ks) ks) (mates_with_all scene seen (men ks) ks) both.1 one)
+        | inr two ↦ found_with_all ks small loser two (chosen_second few (mates_with_one scene seen (men ks) ks) (mates_with_all scene seen (men ks) ks) both.1 two)
       ]
 
-  pub none_from : not (may_mate scene) ≡ true → HasNoMate p s w
+  pub none_from : not (may_mate p r.rows scene) ≡ true → HasNoMate p s w
   unfolding may_mate
-  none_from h ks wk t = both_ways (may_mate scene) (not-true (may_mate scene) h) (any_square_at (may_mate_on scene) ks t.loser.small (threat_seen ks wk t))
+  none_from h ks wk t = both_ways (may_mate p r.rows scene) (not-true (may_mate p r.rows scene) h) (any_square_at (may_mate_on p r.rows scene) ks t.loser.small (threat_seen ks wk t))
 
-  pub none_test : HasNoMate p s w → not (may_mate scene) ≡ true
+  pub none_test : HasNoMate p s w → not (may_mate p r.rows scene) ≡ true
   unfolding may_mate
   none_test none =
-      ap not (false_from_ne_true (may_mate scene) (λ h.
-      let ks = some_square (may_mate_on scene) h in
+      ap not (false_from_ne_true (may_mate p r.rows scene) (λ h.
+      let ks = some_square (may_mate_on p r.rows scene) h in
       let t = threat_found ks.0 ks.1 ks.2 in
       none ks.0 t.0 t.1))

@@ -1,19 +1,21 @@
 -- Squares on which no man of the winner is in reach: from there none gives check, attacks a square or mates.
-use Rattle.std.proofs.Common.{◌≡◌, ℕ, ◌<◌, Bool, true, false, ◌&&◌, ◌||◌, ◌==◌, if◌then◌else◌, List, refl, ap, sym, ◌∙◌}
+use Rattle.std.proofs.Common.{◌≡◌, ℕ, ◌<◌, Bool, true, false, ◌||◌, ◌==◌, if◌then◌else◌, List, refl, ap, sym, ◌∙◌}
 use Rattle.std.specs.List.{list_any}
 use Rattle.std.specs.Int.{bit_at}
+use Rattle.std.proofs.lemmas.Bool.{and_right}
 use Rattle.std.proofs.lemmas.Nat.Bits.{bit_at-zero}
 use Rattle.cha_board.specs.declared.men.Kind.{Kind}
 use Rattle.cha_board.specs.declared.men.Kind.TheVariants.{Pawn, Knight, Bishop, Rook, Queen, King}
 use Rattle.cha_board.specs.SquareSets.{set_of_bits, has_square, set_joined}
 use Rattle.cha_board.proofs.SetLaws.{has-set_of}
 use Rattle.cha_board.proofs.Scans.{no_square}
-use Rattle.mob_sets.specs.Rows.{kinds}
+use Rattle.cha_board.specs.Board.{Board}
+use Rattle.mob_sets.specs.Rows.{Row, kinds}
 use Rattle.mob_sets.proofs.KindTests.{no_kind}
 use Rattle.mob_check.specs.declared.scene.Reach.{Reach}
 use Rattle.mob_check.specs.declared.scene.Scene.{Scene}
 use Rattle.mob_check.specs.Scenes.{squares_as, all_in_reach}
-use Rattle.mob_check.specs.Mates.{checks_as, checks_from, has_check, seen_through, strikes_as, mates_as, mates_from, mates_with_one, mates_with_all, may_mate_on, may_mate}
+use Rattle.mob_check.specs.Mates.{checks_as, checks_from, has_check, seen_through, strikes_as, mates_as, mates_from, mates_with_one, mates_with_all, mates_among, men_near, may_mate_on, may_mate}
 
 neither : (a b : Bool) → (a || b) ≡ false → (a ≡ false) × (b ≡ false)
 neither true b h = cc
@@ -55,25 +57,26 @@ pub no_strike_as : (scene : Scene) (seen : List Bool) (ks n u : ℕ) → u < 64 
 unfolding strikes_as
 no_strike_as scene seen ks n u small none = no_kind (strikes_as scene seen ks n u) (λ k. rw (not_as scene.men u k small none) refl)
 
-pub no_mate_from : (scene : Scene) (seen : List Bool) (ks u : ℕ) → u < 64 → has_square (all_in_reach scene.men) u ≡ false → mates_from scene seen ks u ≡ false
+pub no_mate_from : (scene : Scene) (seen : List Bool) (men ks u : ℕ) → u < 64 → has_square (all_in_reach scene.men) u ≡ false → mates_from scene seen men ks u ≡ false
 unfolding mates_from mates_as checks_as
-no_mate_from scene seen ks u small none = no_kind (mates_as scene seen ks u) (λ k. rw (not_as scene.men u k small none) refl)
+no_mate_from scene seen men ks u small none = no_kind (mates_as scene seen men ks u) (λ k. rw (not_as scene.men u k small none) refl)
 
-no_mate_on : (scene : Scene) (ks : ℕ) → ((u : ℕ) → u < 64 → has_square (all_in_reach scene.men) u ≡ false) → may_mate_on scene ks ≡ false
-unfolding may_mate_on mates_with_one mates_with_all has_check
-no_mate_on scene ks none =
-    let one = no_square (mates_from scene (seen_through scene ks) ks) (λ u small. no_mate_from scene (seen_through scene ks) ks u small (none u small)) in
+no_mate_among : (scene : Scene) (seen : List Bool) (men ks : ℕ) → ((u : ℕ) → u < 64 → has_square (all_in_reach scene.men) u ≡ false) → mates_among scene seen men ks ≡ false
+unfolding mates_among mates_with_one mates_with_all has_check
+no_mate_among scene seen men ks none =
+    let one = no_square (mates_from scene seen men ks) (λ u small. no_mate_from scene seen men ks u small (none u small)) in
     let check = no_square (checks_from scene ks) (λ u small. no_check_from scene ks u small (none u small)) in
-    rw (one, check) (neither_way (has_square scene.loser_king ks) scene.one_man)
+    rw (one, check) (neither_way scene.one_man)
   where
-    neither_way : (a b : Bool) → (a && (if b then false else false)) ≡ false
-    neither_way true true = refl
-    neither_way true false = refl
-    neither_way false b = refl
+    neither_way : (b : Bool) → (if b then false else false) ≡ false
+    neither_way true = refl
+    neither_way false = refl
 
 -- without any man in reach no mate is
-pub no_mate_without : (scene : Scene) → all_in_reach scene.men ≡ set_of_bits 0 → may_mate scene ≡ false
-unfolding may_mate
-no_mate_without scene none =
-    no_square (may_mate_on scene) (λ ks small. no_mate_on scene ks (λ u inside.
-    ap (λ set. has_square set u) none ∙ has-set_of (λ s. bit_at 0 s == 1) u inside ∙ ap (λ n. n == 1) (bit_at-zero u)))
+pub no_mate_without : (p : Board) (rows : List Row) (scene : Scene) → all_in_reach scene.men ≡ set_of_bits 0 → may_mate p rows scene ≡ false
+unfolding may_mate may_mate_on
+no_mate_without p rows scene none =
+    no_square (may_mate_on p rows scene) (λ ks small.
+    and_right (has_square scene.loser_king ks) (mates_among scene (seen_through scene ks) (men_near p rows scene.winner ks) ks)
+    (no_mate_among scene (seen_through scene ks) (men_near p rows scene.winner ks) ks (λ u inside.
+    ap (λ set. has_square set u) none ∙ has-set_of (λ s. bit_at 0 s == 1) u inside ∙ ap (λ n. n == 1) (bit_at-zero u))))

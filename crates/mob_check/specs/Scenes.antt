@@ -50,4 +50,5 @@ scene_of p r w = record {
   winner_king = reach_of p r.rows (KingOf w);
   loser_king = reach_of p r.rows (KingOf (other_color w));
   loser_men = reach_of p r.rows (MenOf (other_color w));
+  losers = reach_by_kind p r.rows (other_color w);
 }

@@ -1,7 +1,7 @@
 //! The squares on which some man of a group is in reach.
 
 ghost use Rattle.std.specs.Prelude.{◌≡◌};
-ghost use Rattle.mob_check.specs.Reaches.{is_row_of, reach_of};
+ghost use Rattle.mob_check.specs.Reaches.{is_row_of, is_row_on, reach_of, origins_of};
 
 use cha_board::{Color, Kind, Position, SquareSet, is_man_of, is_man_other_than_king};
 use mob_sets::SetRow;
@@ -28,6 +28,27 @@ pub fn squares_of(position: &Position, rows: &[SetRow], group: Group) -> SquareS
         }
     }
     squares
+}
+
+/// The men of a side, other than its king, that rows have on one of these squares, by their origins.
+pub fn origins_on(position: &Position, rows: &[SetRow], side: Color, on: SquareSet) -> SquareSet
+    ensures { result ≡ origins_of position.now rows.now side on }
+{
+    let mut origins = SquareSet::empty();
+    for row in rows {
+        if is_on(position, side, on, *row) {
+            origins = origins.with(row.origin);
+        }
+    }
+    origins
+}
+
+/// Whether a row of a side's man other than the king has one of these squares.
+#[tactic(auto, unfolding(crate::specs::Reaches::is_row_on))]
+fn is_on(position: &Position, side: Color, on: SquareSet, row: SetRow) -> bool
+    ensures { result ≡ is_row_on position.now side on row }
+{
+    is_of(position, Group::MenOf(side), row) && !row.squares.common(on).is_empty()
 }
 
 /// Whether a row is of a group.

@@ -1,7 +1,7 @@
 //! Mobility sets, checked against a position: whether they are closed, and whether they leave a mate in reach.
 //!
-//! `closing` has the test of closed sets; `mates` the search for a mate, with `scene`, `attacks` and `near`; `bound` both
-//! together, and `groups` entries of sets.
+//! `closing` has the test of closed sets; `mates` the search for a mate, with `scene`, `attacks`, `near` and `ring`; `bound`
+//! both together, and `groups` entries of sets.
 #![tactic(auto)]
 
 mod attacks;
@@ -10,6 +10,7 @@ mod closing;
 mod groups;
 mod mates;
 mod near;
+mod ring;
 mod scene;
 
 pub use bound::proves_unwinnable;

@@ -40,6 +40,8 @@ pub struct Scene {
     pub loser_king: SquareSet,
     /// Where the loser's other men are in reach.
     pub loser_men: SquareSet,
+    /// Where they are, by what they may be there.
+    pub losers: Reach,
 }
 
 /// Where men are in reach as a kind.
@@ -86,6 +88,7 @@ impl Scene {
             winner_king: squares_of(position, rows, Group::KingOf(winner)),
             loser_king: squares_of(position, rows, Group::KingOf(loser)),
             loser_men: squares_of(position, rows, Group::MenOf(loser)),
+            losers: reach_kinds(position, rows, loser),
         }
     }
 }

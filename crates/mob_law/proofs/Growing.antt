@@ -1,5 +1,5 @@
 -- Larger sets: what is fixed or guarded in them is so in smaller ones, and a threat in smaller sets is one in larger ones.
-use Rattle.std.proofs.Common.{◌≡◌, ℕ, true, false, not, ◌&&◌, ◌||◌, ◌==◌, ap, inl, inr}
+use Rattle.std.proofs.Common.{◌≡◌, ℕ, Option, true, false, not, ◌&&◌, ◌||◌, ◌==◌, ap, inl, inr}
 use Rattle.std.proofs.lemmas.Bool.{and_parts, and_from, or_cases, or_left, or_right, both_ways, false_from_ne_true, true_from_ne_false, not-true}
 use Rattle.cha_board.specs.declared.men.Color.{Color}
 use Rattle.cha_board.specs.declared.men.Kind.{Kind}
@@ -11,7 +11,7 @@ use Rattle.cha_board.proofs.Scans.{any_square_at}
 use Rattle.mob_law.specs.Reach.{is_fixed, is_open, is_open_through, guards_as, guards_from, is_guarded}
 use Rattle.mob_sets.specs.Mobility.{Sets, IsWithin}
 use Rattle.mob_law.specs.Closed.{has_fixed_enemy, EnemyReaches}
-use Rattle.mob_law.specs.Threats.{KingOn, NonKingOn, Covered, Blocked, NextToKing, Attacked, Threat, HasNoMate}
+use Rattle.mob_law.specs.Threats.{KingOn, NonKingOn, MayStandNear, Covered, Blocked, NextToKing, Attacked, Threat, HasNoMate}
 use Rattle.cha_board.proofs.Contents.{some_square}
 use Rattle.mob_law.proofs.Standing.{all_weaker}
 
@@ -63,10 +63,13 @@ module _ (p : Board) (s r : Sets) (within : IsWithin s r) where
   pub enemy_grows : (c : Color) (t : ℕ) → EnemyReaches p s c t → EnemyReaches p r c t
   enemy_grows c t e = record { origin = e.origin; man = e.man; kind = e.kind; stood = e.stood; enemy = e.enemy; reach = within.has e.origin e.kind t e.reach }
 
-  covered_grows : (w : Color) (ks wk n : ℕ) (k : Kind) (u : ℕ) → Covered p s w ks wk n k u → Covered p r w ks wk n k u
-  covered_grows w ks wk n k u (Blocked j h) = Blocked j (non_king_grows (other_color w) j n h)
-  covered_grows w ks wk n k u (NextToKing h) = NextToKing h
-  covered_grows w ks wk n k u (Attacked j v a lone) = Attacked j v (record {
+  near_grows : (c : Color) (ks o : ℕ) → MayStandNear p s c ks o → MayStandNear p r c ks o
+  near_grows c ks o h = record { stood = h.stood; kind = h.kind; square = h.square; small = h.small; next = h.next; reach = within.has o h.kind h.square h.reach }
+
+  covered_grows : (w : Color) (ks wk n : ℕ) (k : Kind) (u : ℕ) (counted : Option ℕ) → Covered p s w ks wk n k u counted → Covered p r w ks wk n k u counted
+  covered_grows w ks wk n k u counted (Blocked j h stuck o is) = Blocked j (non_king_grows (other_color w) j n h) stuck o is
+  covered_grows w ks wk n k u counted (NextToKing h) = NextToKing h
+  covered_grows w ks wk n k u counted (Attacked j v a lone) = Attacked j v (record {
     attacker = non_king_grows w j v a.attacker;
     not_there = a.not_there;
     other = a.other;
@@ -89,7 +92,10 @@ module _ (p : Board) (s r : Sets) (within : IsWithin s r) where
       aims = t.checks.aims;
       open_way = open_grows t.square ks t.checks.open_way;
     };
-    covered = λ n small step. covered_grows w ks wk n t.kind t.square (t.covered n small step);
+    counted = t.counted;
+    covered = λ n small step. covered_grows w ks wk n t.kind t.square (t.counted n) (t.covered n small step);
+    near = λ n o is. near_grows (other_color w) ks o (t.near n o is);
+    once = t.once;
   }
 
   pub no_mate_shrinks : (w : Color) → HasNoMate p r w → HasNoMate p s w

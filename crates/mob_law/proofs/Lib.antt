@@ -6,6 +6,9 @@ pub mod Standing
 pub mod Begin
 pub mod Carry
 pub mod KingSteps
+pub mod Counted
+pub mod Ways
+pub mod Endings
 pub mod Mating
 pub mod OneMan
 pub mod PieceMoves

@@ -4,7 +4,7 @@ use Rattle.std.proofs.lemmas.Bool.{and_from, or_left, or_right, both_ways, false
 use Rattle.cha_board.specs.declared.men.Color.{Color}
 use Rattle.cha_board.specs.declared.men.Kind.TheVariants.{King}
 use Rattle.cha_board.specs.declared.men.Man.{Man}
-use Rattle.cha_board.specs.Men.{other_color, same_color, same_kind, is_man}
+use Rattle.cha_board.specs.Men.{other_color, same_color, same_kind, is_man, is_non_king}
 use Rattle.cha_board.specs.Squares.{steps_apart, aims_at, between}
 use Rattle.cha_board.specs.Board.{Board, man_at, is_empty, is_clear, attacked, king_of, in_check, has_one_king, IsValid}
 use Rattle.cha_board.proofs.Sightings.{attacked_from}
@@ -18,14 +18,16 @@ use Rattle.cha_moves.proofs.Listed.{listed}
 use Rattle.cha_moves.proofs.KingSquare.{king_stands}
 use Rattle.mob_law.specs.Reach.{is_fixed, is_open_through}
 use Rattle.mob_sets.specs.Mobility.{Sets}
-use Rattle.mob_law.specs.Threats.{Checks, Covered, Blocked, NextToKing, Attacked, Threat}
+use Rattle.mob_law.specs.Threats.{HasAtMostOneMan, Checks, ends_check, Covered, Blocked, NextToKing, Attacked, Threat}
 use Rattle.mob_law.proofs.Facts.{Facts, FactsHold}
-use Rattle.cha_board.proofs.ManTests.{either_color, not_of_other}
+use Rattle.cha_board.proofs.ManTests.{either_color, not_of_other, is_non_king_from}
 use Rattle.mob_law.proofs.Geometry.{near, king_aims, king_aims_from}
 use Rattle.mob_law.proofs.Standing.{all_weaker, empty_not_fixed, open_from, king_on, non_king_on, origin_is_non_king}
 use Rattle.mob_law.proofs.KingSteps.{king_may, step_plain}
 use Rattle.mob_law.proofs.Attackers.{some_attacker, attacks_by, clear_near}
 use Rattle.mob_law.proofs.Kings.{king_is_one}
+use Rattle.mob_law.proofs.Counted.{counted_on, counted_here, counted_near, counted_once}
+use Rattle.mob_law.proofs.Endings.{cannot_end}
 
 -- an enemy that is no king may be captured
 may_enter_enemy : (c : Color) (man : Man) → same_color man.color c ≡ false → same_kind man.kind King ≡ false → may_enter c (Some man) ≡ true
@@ -77,6 +79,7 @@ record Checker (p : Board) (s : Sets) (q : Board) (w : Color) (origin : ℕ → 
   found : man_at q.men square ≡ Some man
   own : same_color man.color w ≡ true
   other : same_kind man.kind King ≡ false
+  clear : is_clear q.men square (loser_on q w) ≡ true
   checks : Checks p s w (loser_on q w) man.kind square
 
 -- At a mate where the facts hold:
@@ -128,6 +131,7 @@ module _ (p : Board) (s : Sets) (q : Board) (w : Color) (origin : ℕ → ℕ) (
         found = a.found;
         own = a.own;
         other = none;
+        clear = a.clear;
         checks = record {
           checker = non_king_on p s q origin scene.facts scene.valid w u a.man a.found a.own none;
           other = λ e. not_of_other w King (man_at q.men u) a.man a.found a.own (rw e st.loser_is);
@@ -154,7 +158,7 @@ module _ (p : Board) (s : Sets) (q : Board) (w : Color) (origin : ℕ → ℕ) (
 module _ (p : Board) (s : Sets) (q : Board) (w : Color) (origin : ℕ → ℕ) (scene : Scene p s q w origin) (st : Stand q w) (c : Checker p s q w origin) (n : ℕ) (small : n < 64)
     (step : (steps_apart (loser_on q w) n == 1) ≡ true) where
   -- what attacks n once the loser's king has gone there
-  covered_from : is_pseudo_legal q (hop q w n) ≡ true → Covered p s w (loser_on q w) (winner_on q w) n c.man.kind c.square
+  covered_from : is_pseudo_legal q (hop q w n) ≡ true → Covered p s w (loser_on q w) (winner_on q w) n c.man.kind c.square (counted_on q (other_color w) (loser_on q w) origin n)
   unfolding in_check is_clear is_open_through
   covered_from may_go =
       let k = loser_on q w in
@@ -226,8 +230,30 @@ module _ (p : Board) (s : Sets) (q : Board) (w : Color) (origin : ℕ → ℕ) (
       let place = king_is_one q.men (other_color w) n (scene.valid.kings (other_color w)) (omega (arith, small, size)) (subst K e king) in
       (near (loser_on q w) n st.loser_small small step).other place
 
+  -- a man that stands in its king's way does not end the check of the winner's only man
+  stuck_there : (man : Man) → man_at q.men n ≡ Some man → same_color man.color (other_color w) ≡ true → same_kind man.kind King ≡ false → HasAtMostOneMan p w
+      → ends_check (other_color w) (loser_on q w) c.square man.kind n ≡ false
+  stuck_there man there own other lone =
+      let origins = λ (u : ℕ) (other_man : Man) (found : man_at q.men u ≡ Some other_man) (of : same_color other_man.color w ≡ true) (no_king : same_kind other_man.kind King ≡ false).
+      origin_is_non_king p s q origin scene.facts w u other_man found of no_king in
+      cannot_end q w scene.valid scene.mate (loser_on q w) (winner_on q w) c.square (record {
+        loser = st.loser_is;
+        winner = st.winner_is;
+        ks_small = st.loser_small;
+        wk_small = st.winner_small;
+        s_small = c.checks.checker.small;
+        far = st.far;
+        checker = c.man;
+        found = c.found;
+        own = c.own;
+        no_king = c.other;
+        clear = c.clear;
+        alone = λ u other_man found of no_king. scene.facts.distinct u c.square other_man c.man found c.found
+            (lone (origin u) (origin c.square) (origins u other_man found of no_king) (origins c.square c.man c.found c.own c.other));
+      }) n man there own other small
+
   -- each square next to the loser's king is covered: by a man of its own there, or by what attacks it
-  covered_at : (o : Option Man) → man_at q.men n ≡ o → Covered p s w (loser_on q w) (winner_on q w) n c.man.kind c.square
+  covered_at : (o : Option Man) → man_at q.men n ≡ o → Covered p s w (loser_on q w) (winner_on q w) n c.man.kind c.square (counted_on q (other_color w) (loser_on q w) origin n)
   covered_at None there =
       let color = st.loser.color ∙ sym scene.mate.to_move in
       covered_from
@@ -237,7 +263,10 @@ module _ (p : Board) (s : Sets) (q : Board) (w : Color) (origin : ℕ → ℕ) (
       elim (cases_Bool (same_kind man.kind King)) [
         | inl h ↦ absurd (blocked_at man.color (is_man_from (man_at q.men n) man man.color King there refl (same_kind_equal man.kind King h)) (either_color man.color w))
         | inr h ↦ elim (cases_Bool (same_color man.color (other_color w))) [
-          | inl own ↦ Blocked man.kind (non_king_on p s q origin scene.facts scene.valid (other_color w) n man there own h)
+          | inl own ↦ (
+              let blocker : is_non_king (other_color w) (man_at q.men n) ≡ true = rw there (is_non_king_from (other_color w) man own h) in
+              Blocked man.kind (non_king_on p s q origin scene.facts scene.valid (other_color w) n man there own h) (stuck_there man there own h)
+              (origin n) (counted_here q (other_color w) (loser_on q w) origin n step blocker))
           | inr enemy ↦ (
               let color = st.loser.color ∙ sym scene.mate.to_move in
               let E : Color → Type 0 = λ x. may_enter x (man_at q.men n) ≡ true in
@@ -267,6 +296,9 @@ mate_threatens p s q w valid held mate =
         kind = c.man.kind;
         square = c.square;
         checks = c.checks;
+        counted = counted_on q (other_color w) k origin;
+        near = counted_near p s q origin held.1 valid (other_color w) k;
+        once = counted_once p s q origin held.1 valid (other_color w) k;
         covered = λ n small step. covered_at p s q w origin scene st c n small (eq-eqb (steps_apart k n) 1 step) (man_at q.men n) refl;
       },
     )

@@ -29,6 +29,10 @@ is_leaper Knight = true
 is_leaper King = true
 is_leaper k = false
 
+-- a k of c on u aims at t by one step or a jump
+unfoldable pub steps_to : Color → Kind → ℕ → ℕ → Bool
+steps_to c k u t = aims_at c k u t && (is_leaper k || (steps_apart u t == 1))
+
 -- what stands on f is a man of c that attacks t, whatever stands on other squares
 unfoldable pub guards_as : Color → ℕ → ℕ → Option Man → Bool
 guards_as c f t None = false

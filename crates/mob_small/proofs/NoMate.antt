@@ -21,19 +21,20 @@ use Rattle.mob_small.proofs.Flights.{Flight, flight, not_both, Answer, answer}
 use Rattle.mob_small.proofs.Scene.{Shown, shown}
 use Rattle.mob_small.proofs.Replies.{hole_empty, answered}
 
-is_slider : Kind → Bool
+-- rooks and queens
+unfoldable pub is_slider : Kind → Bool
 is_slider Rook = true
 is_slider Queen = true
 is_slider _ = false
 
 -- how a rook or a queen moves
-record Slides (q : Board) (i : Kind) (n t : ℕ) : Type 0 where
-  way : goes q i n t ≡ true
-  well : promotes_well q.side i t None ≡ true
-  no_pawn : same_kind i Pawn ≡ false
-  no_king : same_kind i King ≡ false
+pub record Slides (q : Board) (i : Kind) (n t : ℕ) : Type 0 where
+  pub way : goes q i n t ≡ true
+  pub well : promotes_well q.side i t None ≡ true
+  pub no_pawn : same_kind i Pawn ≡ false
+  pub no_king : same_kind i King ≡ false
 
-slides : (q : Board) (i : Kind) (n t : ℕ) → is_slider i ≡ true → aims_at White i n t ≡ true → is_clear q.men n t ≡ true → Slides q i n t
+pub slides : (q : Board) (i : Kind) (n t : ℕ) → is_slider i ≡ true → aims_at White i n t ≡ true → is_clear q.men n t ≡ true → Slides q i n t
 unfolding is_slider goes promotes_well aims_at
 slides q Rook n t slider aims clear = record { way = and_from (aims_at q.side Rook n t) (is_clear q.men n t) aims clear; well = refl; no_pawn = refl; no_king = refl }
 slides q Queen n t slider aims clear = record { way = and_from (aims_at q.side Queen n t) (is_clear q.men n t) aims clear; well = refl; no_pawn = refl; no_king = refl }
@@ -97,7 +98,7 @@ bare_there men c n m bare (inr h) = both_ways (is_non_king c (man_at men m)) (ba
 
 module _ (q : Board) (w : Color) (valid : IsValid q) (mate : IsMated q (other_color w)) where
   -- a knight
-  knight_beside : (one : HasOneBeside q.men w Knight) (sh : Shown q w Knight one.square)
+  pub knight_beside : (one : HasOneBeside q.men w Knight) (sh : Shown q w Knight one.square)
       → (is_non_king (other_color w) (man_at q.men (along_rank sh.ks one.square)) ≡ true) ⊎ (is_non_king (other_color w) (man_at q.men (along_file sh.ks one.square)) ≡ true)
   unfolding aims_at
   knight_beside one sh =

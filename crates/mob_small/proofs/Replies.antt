@@ -35,7 +35,7 @@ pub record Reply (q : Board) (w : Color) (s ks n t : ℕ) (i : Kind) : Type 0 wh
   pub onto : (t ≡ s) ⊎ ((is_hole ks s n t ≡ true) × (lies_between s ks t ≡ true))
 
 -- what a man of one kind is not
-not_of_kind : (o : Option Man) (man : Man) (c : Color) (i j : Kind) → o ≡ Some man → man.kind ≡ i → same_kind i j ≡ false → is_man c j o ≡ true → ⊥
+pub not_of_kind : (o : Option Man) (man : Man) (c : Color) (i j : Kind) → o ≡ Some man → man.kind ≡ i → same_kind i j ≡ false → is_man c j o ≡ true → ⊥
 not_of_kind o man c i j found kind other there =
     let P : Option Man → Type 0 = λ x. is_man c j x ≡ true in
     let both = and_parts (same_color man.color c) (same_kind man.kind j) (subst P found there) in

@@ -90,12 +90,12 @@ pub record Shown (q : Board) (w : Color) (k : Kind) (s : ℕ) : Type 0 where
   pub aims : aims_at w k s ks ≡ true
   pub covered : (n : ℕ) → n < 64 → steps_apart ks n ≡ 1 → (is_non_king (other_color w) (man_at q.men n) ≡ true) ⊎ ((steps_apart wk n ≡ 1) ⊎ (aims_at w k s n ≡ true))
 
-cover_shown : (q : Board) (w : Color) (k : Kind) (s ks wk n : ℕ) (j : Kind) (u : ℕ) → is_man w k (man_at q.men s) ≡ true → ((v : ℕ) → is_non_king w (man_at q.men v) ≡ true → v ≡ s)
-    → Covered q (here q) w ks wk n j u
+cover_shown : (q : Board) (w : Color) (k : Kind) (s ks wk n : ℕ) (j : Kind) (u : ℕ) (counted : Option ℕ) → is_man w k (man_at q.men s) ≡ true → ((v : ℕ) → is_non_king w (man_at q.men v) ≡ true → v ≡ s)
+    → Covered q (here q) w ks wk n j u counted
     → (is_non_king (other_color w) (man_at q.men n) ≡ true) ⊎ ((steps_apart wk n ≡ 1) ⊎ (aims_at w k s n ≡ true))
-cover_shown q w k s ks wk n j u stands alone (Blocked i on) = inl (non_king_stands q (other_color w) i n on).0
-cover_shown q w k s ks wk n j u stands alone (NextToKing near) = inr (inl near)
-cover_shown q w k s ks wk n j u stands alone (Attacked i v attacks same) =
+cover_shown q w k s ks wk n j u counted stands alone (Blocked i on stuck o is) = inl (non_king_stands q (other_color w) i n on).0
+cover_shown q w k s ks wk n j u counted stands alone (NextToKing near) = inr (inl near)
+cover_shown q w k s ks wk n j u counted stands alone (Attacked i v attacks same) =
     let on = non_king_stands q w i v attacks.attacker in
     let place = alone v on.0 in
     let K : ℕ → Type 0 = λ x. is_kind i (man_at q.men x) ≡ true in
@@ -129,7 +129,7 @@ shown q w k valid mate one =
       distinct = t.distinct;
       far = t.far;
       aims = subst A kind (subst B place t.checks.aims);
-      covered = λ n small step. cover_shown q w k s ks wk n t.kind t.square one.stands one.alone (t.covered n small step);
+      covered = λ n small step. cover_shown q w k s ks wk n t.kind t.square (t.counted n) one.stands one.alone (t.covered n small step);
     }
 
 -- a side with only its king does not mate

@@ -16,7 +16,7 @@ use Rattle.cha_board.specs.Board.{Board, man_at, IsValid}
 use Rattle.cha_board.proofs.Scans.{any_square_at}
 use Rattle.cha_moves.specs.Moves.{last_rank, is_target, victim_of}
 use Rattle.cha_board.proofs.Identity.{on_board, same_kind_equal}
-use Rattle.mob_law.specs.Reach.{is_fixed, is_open, is_leaper, is_guarded}
+use Rattle.mob_law.specs.Reach.{is_fixed, is_open, is_leaper, steps_to, is_guarded}
 use Rattle.mob_sets.specs.Mobility.{Sets}
 use Rattle.mob_law.specs.Closed.{has_fixed_enemy, PieceGoes, PawnsStep, Enters, EnemyReaches, PawnCaptures, IsClosed}
 use Rattle.mob_law.specs.Castling.{IsClosedButForCastling}
@@ -25,7 +25,7 @@ use Rattle.mob_law.proofs.CastlingFollows.{follows}
 use Rattle.cha_board.proofs.ManTests.{other_kind, same_color_from}
 use Rattle.mob_law.proofs.Standing.{fixed_stands}
 use Rattle.mob_sets.proofs.KindTests.{any_kind_at}
-use Rattle.mob_steps.specs.Steps.{steps_to, is_stepped_to, stays}
+use Rattle.mob_steps.specs.Steps.{is_stepped_to, stays}
 use Rattle.mob_sets.specs.Rows.{kinds}
 use Rattle.mob_steps.specs.Grounds.{reaches_from, is_reached, ground_of, side_in}
 use Rattle.mob_steps.specs.Rules.{is_barred, piece_goes, pawn_steps, is_capturable, pawn_captures, pawn_goes, goes_on, is_struck, passes_on, is_passed, is_left, is_freed, AreRules, AllRules}

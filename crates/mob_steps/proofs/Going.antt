@@ -9,8 +9,9 @@ use Rattle.cha_board.specs.Squares.{squares, rank_of, files_apart, is_rank_ahead
 use Rattle.cha_board.specs.SquareSets.{set_of, has_square, set_joined}
 use Rattle.cha_board.proofs.SetLaws.{has-set_of, same_set}
 use Rattle.cha_moves.specs.Moves.{last_rank}
+use Rattle.mob_law.specs.Reach.{steps_to}
 use Rattle.mob_steps.specs.declared.ground.Ground.{Ground}
-use Rattle.mob_steps.specs.Steps.{steps_to, is_stepped_to, spread_of, stays}
+use Rattle.mob_steps.specs.Steps.{is_stepped_to, spread_of, stays}
 use Rattle.cha_board.specs.Shifts.{is_ahead}
 use Rattle.mob_steps.specs.Grounds.{side_in}
 use Rattle.mob_steps.specs.Rules.{is_barred, piece_goes, pawn_steps, is_capturable, pawn_captures, pawn_goes, goes_on, is_entered, entered_from}

@@ -14,14 +14,14 @@ use Rattle.cha_board.specs.Shifts.{is_ahead}
 use Rattle.cha_board.specs.Board.{Board, man_at}
 use Rattle.cha_moves.specs.Moves.{last_rank, is_target, is_promotion, victim_of}
 use Rattle.cha_board.proofs.Identity.{same_color_equal, same_kind_equal}
-use Rattle.mob_law.specs.Reach.{is_fixed, is_open, is_leaper, is_guarded}
+use Rattle.mob_law.specs.Reach.{is_fixed, is_open, is_leaper, steps_to, is_guarded}
 use Rattle.mob_sets.specs.Mobility.{Sets, IsWithin}
 use Rattle.mob_law.specs.Closed.{has_fixed_enemy, Entry, Enters, IsClosed}
 use Rattle.cha_board.proofs.Contents.{some_square, in_set_of}
 use Rattle.mob_law.proofs.Geometry.{leap_clear}
 use Rattle.cha_board.proofs.ManTests.{kinds_differ, same_kind_from}
 use Rattle.mob_law.proofs.Standing.{open_near}
-use Rattle.mob_steps.specs.Steps.{steps_to, is_stepped_to, stays}
+use Rattle.mob_steps.specs.Steps.{is_stepped_to, stays}
 use Rattle.mob_steps.specs.Grounds.{ground_of, side_in}
 use Rattle.mob_steps.specs.Rules.{is_barred, piece_goes, pawn_steps, is_capturable, pawn_captures, pawn_goes, goes_on, is_struck, passes_on, is_passed, is_left, is_freed, AreRules, AllRules}
 use Rattle.mob_steps.proofs.GroundAt.{fixed_at, guards_at, reach_at, men_at, target_at, reached_enemy}

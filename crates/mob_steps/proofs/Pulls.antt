@@ -12,7 +12,8 @@ use Rattle.std.specs.Int.{bit_at}
 use Rattle.cha_board.proofs.SetLaws.{length-set_of, has-set_of, same_squares}
 use Rattle.cha_board.proofs.Scans.{any_square_at, no_square, all_squares_at}
 use Rattle.cha_board.proofs.Contents.{some_square, same_test}
-use Rattle.mob_steps.specs.Steps.{steps_to, is_stepped_to, spread_of}
+use Rattle.mob_law.specs.Reach.{steps_to}
+use Rattle.mob_steps.specs.Steps.{is_stepped_to, spread_of}
 use Rattle.cha_board.specs.Shifts.{is_above, is_below, is_right_of, is_left_of}
 
 -- a square of the board is in the set where a square of the first set leads to it

@@ -14,9 +14,10 @@ use Rattle.cha_board.proofs.SetLaws.{has-set_of}
 use Rattle.cha_board.proofs.Scans.{any_square_at}
 use Rattle.cha_board.proofs.Contents.{some_square, in_set_of}
 use Rattle.cha_moves.specs.Moves.{is_promotion}
+use Rattle.mob_law.specs.Reach.{steps_to}
 use Rattle.mob_sets.specs.Mobility.{Sets}
 use Rattle.mob_steps.specs.declared.ground.Ground.{Ground}
-use Rattle.mob_steps.specs.Steps.{steps_to, is_stepped_to, stays}
+use Rattle.mob_steps.specs.Steps.{is_stepped_to, stays}
 use Rattle.mob_steps.specs.Grounds.{side_in}
 use Rattle.mob_steps.specs.Rules.{is_barred, goes_on, is_entered, comes_on, ends_on, is_struck, passes_on, is_passed, is_left, is_freed, AreRules}
 

@@ -9,10 +9,9 @@ use Rattle.cha_board.specs.Squares.{squares}
 use Rattle.cha_board.specs.SquareSets.{set_of}
 use Rattle.cha_board.specs.Board.{Board, man_at}
 use Rattle.cha_moves.specs.Moves.{is_target}
-use Rattle.mob_law.specs.Reach.{is_fixed, is_guarded}
+use Rattle.mob_law.specs.Reach.{is_fixed, steps_to, is_guarded}
 use Rattle.mob_sets.specs.Mobility.{Sets}
 use Rattle.mob_sets.specs.Rows.{kinds}
-use Rattle.mob_steps.specs.Steps.{steps_to}
 use Rattle.mob_steps.specs.declared.ground.Ground.{Ground}
 use Rattle.mob_steps.specs.declared.ground.SideGround.{SideGround}
 

@@ -11,9 +11,10 @@ use Rattle.cha_board.specs.Shifts.{is_ahead}
 use Rattle.cha_board.specs.SquareSets.{set_of, has_square}
 use Rattle.cha_board.specs.Board.{Board, man_at}
 use Rattle.cha_moves.specs.Moves.{is_promotion}
+use Rattle.mob_law.specs.Reach.{steps_to}
 use Rattle.mob_sets.specs.Mobility.{Sets}
 use Rattle.mob_steps.specs.declared.ground.Ground.{Ground}
-use Rattle.mob_steps.specs.Steps.{steps_to, is_stepped_to, stays}
+use Rattle.mob_steps.specs.Steps.{is_stepped_to, stays}
 use Rattle.mob_steps.specs.Grounds.{side_in}
 
 -- a fixed man of the other side keeps a king of c from t

@@ -5,20 +5,16 @@ use Rattle.cha_board.specs.declared.men.Color.{Color}
 use Rattle.cha_board.specs.declared.men.Kind.{Kind}
 use Rattle.cha_board.specs.declared.men.Kind.TheVariants.{Pawn}
 use Rattle.cha_board.specs.Men.{same_kind}
-use Rattle.cha_board.specs.Squares.{squares, rank_of, aims_at, steps_apart}
+use Rattle.cha_board.specs.Squares.{squares, rank_of}
 use Rattle.cha_board.specs.SquareSets.{set_of, has_square}
 use Rattle.cha_moves.specs.Moves.{last_rank}
-use Rattle.mob_law.specs.Reach.{is_leaper}
+use Rattle.mob_law.specs.Reach.{steps_to}
 
--- a k of c on u aims at t by one step or a jump
-unfoldable pub steps_to : Color → Kind → ℕ → ℕ → Bool
-steps_to c k u t = aims_at c k u t && (is_leaper k || (steps_apart u t == 1))
-
--- from some square of a set it does so
+-- from some square of a set a k of c aims at t by one step or a jump
 unfoldable pub is_stepped_to : Color → Kind → List Bool → ℕ → Bool
 is_stepped_to c k set t = list_any (λ u. has_square set u && steps_to c k u t) squares
 
--- the squares at which it aims so from a set
+-- the squares at which it aims so
 abbrev pub spread_of : Color → Kind → List Bool → List Bool
 spread_of c k set = set_of (is_stepped_to c k set)
 

@@ -16,3 +16,4 @@ pub use frees::freed;
 pub use goes::{comes, ends};
 pub use ground::{Ground, SideGround, own_squares};
 pub use rules::rules_on_the_ground;
+pub use steps::spread;

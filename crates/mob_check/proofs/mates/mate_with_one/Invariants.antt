@@ -3,4 +3,4 @@ use Rattle.mob_check.specs.Mates.{mates_from}
 use Rattle.mob_check.proofs.mates.mate_with_one.Given as goal
 
 abbrev pub invariant-loop-index : goal.invariant-loop-index
-invariant-loop-index l = (x : ℕ) → x < l.index → (mates_from l.scene l.seen l.king) x ≡ false
+invariant-loop-index l = (x : ℕ) → x < l.index → (mates_from l.scene l.seen l.men l.king) x ≡ false

@@ -10,5 +10,6 @@ returns c =
     let r = c.args.sets.now in
     let w = c.args.winner in
     let size = c.known.ensures.size in
-    let same : not c.some_mate.result ≡ not (may_mate (scene_of p r w)) = ap not (c.some_mate.ensures ∙ ap may_mate c.of.ensures) in
+    let same : not c.some_mate.result ≡ not (may_mate p r.rows (scene_of p r w)) =
+    ap not (c.some_mate.ensures ∙ ap (λ rows. may_mate p rows c.of.result) c.rows.ensures.value ∙ ap (may_mate p r.rows) c.of.ensures) in
     (λ h. none_from p r w size (sym same ∙ h), λ none. same ∙ none_test p r w size none)

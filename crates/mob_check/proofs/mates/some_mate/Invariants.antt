@@ -3,4 +3,4 @@ use Rattle.mob_check.specs.Mates.{may_mate_on}
 use Rattle.mob_check.proofs.mates.some_mate.Given as goal
 
 abbrev pub invariant-loop-index : goal.invariant-loop-index
-invariant-loop-index l = (x : ℕ) → x < l.index → (may_mate_on l.scene) x ≡ false
+invariant-loop-index l = (x : ℕ) → x < l.index → (may_mate_on l.position l.rows l.scene) x ≡ false

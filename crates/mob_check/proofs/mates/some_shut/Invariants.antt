@@ -3,4 +3,4 @@ use Rattle.mob_check.specs.Mates.{shuts_from}
 use Rattle.mob_check.proofs.mates.some_shut.Given as goal
 
 abbrev pub invariant-loop-index : goal.invariant-loop-index
-invariant-loop-index l = (x : ℕ) → x < l.index → (shuts_from l.scene l.covered l.king) x ≡ false
+invariant-loop-index l = (x : ℕ) → x < l.index → (shuts_from l.scene l.ring l.king) x ≡ false

@@ -5,15 +5,16 @@
     tools/second/second.py check < CERTIFICATE.txt
 
 `judge` reads the positions, and the report that `cha position --certs` wrote on them. It plays every printed line, checks every
-certificate, and looks itself for a mate within two plies and for the least closed sets; it wants a block for each line, numbers,
-statuses and the summary as they must be. It was written from docs/MANUAL.md and docs/DEFINITIONS.md and shares nothing with the
-program.
+certificate, and looks itself for a mate within two plies, for the least closed sets, for small material and for lone minor men; it
+wants a block for each line, numbers, statuses and the summary as they must be. It was written from docs/MANUAL.md and
+docs/DEFINITIONS.md and shares nothing with the program.
 """
 
 import re
 import sys
 
 from board import NAMES, Refused, after, is_mated, in_check, legal, move_text, other, read_fen, write_fen
+from lone import lone
 from sets import Sets, has_no_mate, is_closed, least
 from small import small_unwinnable
 
@@ -107,7 +108,9 @@ def judge_side(report, position, winner, sets, first):
     elif text == "unwinnable":
         if near is not None or not is_certified(position, report.take_certificate(), winner):
             raise Wrong(told)
-    elif not re.fullmatch(r"undecided after [0-9]+ positions, depth [2-8]", text) or never or near is not None:
+    elif not re.fullmatch(r"undecided after [0-9]+ positions, depth [2-8]", text) or near is not None:
+        raise Wrong(told)
+    elif never or small_unwinnable(position, winner) or lone(position, winner):
         raise Wrong(told)
     return text
 
@@ -177,7 +180,7 @@ class Text:
         return found
 
 
-SMALL = object()
+SMALL, LONE = object(), object()
 
 
 def read_position(text, pattern):
@@ -229,14 +232,14 @@ def read_certificate(data):
             kind, position = read_position(text, "(inner|leaf) (.*)")
             nodes.append((position, read_sets(text) if kind == "leaf" else None))
             continue
-        kind, position = read_position(text, "(inner|small|leaf (?:0|[1-9][0-9]*)) (.*)")
+        kind, position = read_position(text, "(inner|small|lone|leaf (?:0|[1-9][0-9]*)) (.*)")
         if kind.startswith("leaf "):
             number = int(kind[5:])
             if number >= len(shared):
                 raise Misfit(f"line {text.taken} node")
             nodes.append((position, shared[number]))
         else:
-            nodes.append((position, SMALL if kind == "small" else None))
+            nodes.append((position, {"inner": None, "small": SMALL, "lone": LONE}[kind]))
     text.take("end", "end")
     if text.next() is not None:
         raise Misfit(f"line {text.taken + 1} end")
@@ -246,6 +249,8 @@ def read_certificate(data):
 def holds(position, sets, known, winner):
     if sets is SMALL:
         return small_unwinnable(position, winner)
+    if sets is LONE:
+        return lone(position, winner) and not is_mated(position, other(winner))
     if sets is not None:
         return is_closed(position, sets) and has_no_mate(position, sets, winner)
     return not is_mated(position, other(winner)) and all(after(position, move) in known for move in legal(position))

@@ -13,7 +13,7 @@ use Rattle.cert_text.specs.declared.faults.CertFault.{CertFault}
 use Rattle.cert_text.specs.declared.rest.Left.{Left}
 use Rattle.cert_text.specs.Agreeing.{RowGoesOn}
 use Rattle.cert_text.specs.declared.faults.CertKind.TheVariants.{End}
-use Rattle.cert_text.specs.Spelled.{IsNotSmall, HasNoSmall}
+use Rattle.cert_text.specs.Spelled.{IsInnerOrLeaf, AreInnerOrLeaves}
 use Rattle.cert_text.specs.Lines.{lines_of, tail_of}
 use Rattle.cert_text.specs.Texts.{Found, found, misfit, and_then, ended, follows, rows_after, node_after, nodes_after}
 
@@ -46,15 +46,15 @@ pub nodes_done : (then : List ℕ) (whole : Result (Found (List Node)) CertFault
 unfolding nodes_after
 nodes_done then whole nodes left n lines e so_far = so_far ∙ rw e refl
 
--- nodes and one more are not of small material
-pub no_small_more : (nodes : List Node) (node : Node) → HasNoSmall nodes → IsNotSmall node.part → HasNoSmall (nodes ++ node ∷ [])
-no_small_more nodes node all one k d inside =
+-- nodes and one more are inner ones and leaves
+pub inner_or_leaf_more : (nodes : List Node) (node : Node) → AreInnerOrLeaves nodes → IsInnerOrLeaf node.part → AreInnerOrLeaves (nodes ++ node ∷ [])
+inner_or_leaf_more nodes node all one k d inside =
     elim (cases_lt k (length nodes)) [
       | inl low ↦ rw (get_or_append_left nodes (node ∷ []) d k low) (all k d low)
       | inr high ↦ (
           let here : length nodes ≡ k = omega (arith, inside, high, length-append nodes (node ∷ [])) in
-          let P : ℕ → Type 0 = λ j. IsNotSmall (get_or (nodes ++ node ∷ []) j d).part in
-          subst P here (subst (λ (n : Node). IsNotSmall n.part) (sym (get_or_at nodes node [] d (length nodes) refl)) one))
+          let P : ℕ → Type 0 = λ j. IsInnerOrLeaf (get_or (nodes ++ node ∷ []) j d).part in
+          subst P here (subst (λ (n : Node). IsInnerOrLeaf n.part) (sym (get_or_at nodes node [] d (length nodes) refl)) one))
     ]
 
 nothing : bits_of_set empty_set ≡ 0

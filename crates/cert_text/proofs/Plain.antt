@@ -19,9 +19,9 @@ use Rattle.cha_fen.proofs.RoundTrip.{above, row_above}
 use Rattle.mob_sets.specs.Rows.{Row, SetRows}
 use Rattle.cha_cert.specs.declared.nodes.Node.{Node}
 use Rattle.cha_cert.specs.declared.nodes.Part.{Part}
-use Rattle.cha_cert.specs.declared.nodes.Part.TheVariants.{Inner, Leaf, Small}
+use Rattle.cha_cert.specs.declared.nodes.Part.TheVariants.{Inner, Leaf, Small, Lone}
 use Rattle.cert_text.specs.Digits.{hex_digit, hex_digits}
-use Rattle.cert_text.specs.Spelled.{set_text, end_line, winner_line, count_line, loose_line, row_line, inner_line, leaf_line, small_line, part_lines, node_lines, cert_lines}
+use Rattle.cert_text.specs.Spelled.{set_text, end_line, winner_line, count_line, loose_line, row_line, inner_line, leaf_line, small_line, lone_line, part_lines, node_lines, cert_lines}
 
 -- a byte above the line feed
 abbrev pub plain : ℕ → Bool
@@ -148,8 +148,9 @@ unfolding loose_line
 sets_plain sets = (both_plain (codes "loose ") (set_text sets.loose) refl (hex_plain 16 (bits_of_set sets.loose)), rows_plain sets.rows)
 
 part_plain : (q : Board) (part : Part) → ArePlain (part_lines q part)
-unfolding inner_line leaf_line small_line
+unfolding inner_line leaf_line small_line lone_line
 part_plain q Small = (both_plain (codes "small ") (fen_text q) refl (fen_plain q), tt)
+part_plain q Lone = (both_plain (codes "lone ") (fen_text q) refl (fen_plain q), tt)
 part_plain q Inner = (both_plain (codes "inner ") (fen_text q) refl (fen_plain q), tt)
 part_plain q (Leaf sets) = (both_plain (codes "leaf ") (fen_text q) refl (fen_plain q), sets_plain sets)
 

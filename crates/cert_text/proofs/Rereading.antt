@@ -13,9 +13,9 @@ use Rattle.mob_sets.specs.Rows.{Row, row_place}
 use Rattle.mob_sets.specs.Tidy.{AreTidy, IsFull}
 use Rattle.cha_cert.specs.declared.nodes.Node.{Node}
 use Rattle.cha_cert.specs.declared.nodes.Part.{Part}
-use Rattle.cha_cert.specs.declared.nodes.Part.TheVariants.{Inner, Leaf, Small}
+use Rattle.cha_cert.specs.declared.nodes.Part.TheVariants.{Inner, Leaf, Small, Lone}
 use Rattle.cert_text.specs.declared.faults.CertKind.TheVariants as kinds
-use Rattle.cert_text.specs.Spelled.{header_line, end_line, winner_line, count_line, row_line, inner_line, leaf_line, small_line, part_lines, node_lines, cert_lines, cert_text}
+use Rattle.cert_text.specs.Spelled.{header_line, end_line, winner_line, count_line, row_line, inner_line, leaf_line, small_line, lone_line, part_lines, node_lines, cert_lines, cert_text}
 use Rattle.cert_text.specs.Lines.{lines_of, tail_of}
 use Rattle.cert_text.specs.Texts.{found, fixed_of, follows, wanted, begins_reach, rows_after, leaf_after, node_after, nodes_after, ended, cert_of}
 use Rattle.cert_text.specs.declared.faults.CertFault.{CertFault}
@@ -40,6 +40,10 @@ leaf_no_row q = refl
 small_no_row : (q : Board) → begins_reach (small_line q) ≡ false
 unfolding small_line
 small_no_row q = refl
+
+lone_no_row : (q : Board) → begins_reach (lone_line q) ≡ false
+unfolding lone_line
+lone_no_row q = refl
 
 row_begins : (row : Row) → begins_reach (row_line row) ≡ true
 unfolding row_line
@@ -92,6 +96,7 @@ part_again : (q : Board) (part : Part) (n : ℕ) (rest : List (List ℕ)) → Is
     → (m : ℕ) × (node_after [] n (part_lines q part ++ rest) ≡ found (record { position = q; part = part }) m rest)
 unfolding node_after leaf_after wanted
 part_again q Small n rest valid ok none = absurd ok
+part_again q Lone n rest valid ok none = absurd ok
 part_again q Inner n rest valid ok none = (n + 1, rw (inner_again q valid) refl)
 part_again q (Leaf sets) n rest valid ok none =
     let rows = rows_again [] sets.rows (n + 1 + 1) rest ok.0 ok.1 none in
@@ -102,6 +107,7 @@ unfolding NotRow
 part_no_row q Inner a b = inner_no_row q
 part_no_row q (Leaf sets) a b = leaf_no_row q
 part_no_row q Small a b = small_no_row q
+part_no_row q Lone a b = lone_no_row q
 
 first_no_row : (nodes : List Node) → NotRow (flat_map node_lines nodes ++ end_line ∷ [])
 unfolding NotRow

@@ -14,13 +14,13 @@ use Rattle.cha_fen.specs.Fen.{fen}
 use Rattle.cha_fen.specs.Written.{fen_text}
 use Rattle.cha_fen.proofs.WrittenRead.{written_is_read}
 use Rattle.cha_cert.specs.declared.shared.SharedPart.{SharedPart}
-use Rattle.cha_cert.specs.declared.shared.SharedPart.TheVariants.{Inner, Leaf, Small}
+use Rattle.cha_cert.specs.declared.shared.SharedPart.TheVariants.{Inner, Leaf, Small, Lone}
 use Rattle.cha_cert.specs.Shared.{Names}
 use Rattle.cert_text.specs.Digits.{value_of}
-use Rattle.cert_text.specs.Spelled.{inner_line, small_line}
+use Rattle.cert_text.specs.Spelled.{inner_line, small_line, lone_line}
 use Rattle.cert_text.specs.SharedSpelled.{sets_line, shared_leaf_line, shared_part_lines}
 use Rattle.cert_text.specs.Texts.{kept, position_if, inner_of, wanted, found}
-use Rattle.cert_text.specs.SharedTexts.{small_number, sets_of, number_len, leaf_if, shared_leaf_of, small_of, shared_node_of}
+use Rattle.cert_text.specs.SharedTexts.{small_number, sets_of, number_len, leaf_if, shared_leaf_of, small_of, lone_of, shared_node_of}
 use Rattle.cert_text.specs.declared.faults.CertKind.TheVariants as kinds
 use Rattle.cert_text.proofs.Numbers.{decimal_read}
 use Rattle.cert_text.proofs.LinesAgain.{if_none, less_test, kept_again, text_same, inner_again}
@@ -109,6 +109,13 @@ small_line_again q valid =
     let long : nat_lt (length (small_line q)) 6 ≡ false = grind (arith, nat_tests) in
     rw (long, written_is_read q valid) (rw (text_same (small_line q)) refl)
 
+-- and the line of one with lone minor men
+pub lone_line_again : (q : Board) → IsValid q → lone_of (lone_line q) ≡ Some q
+unfolding lone_of lone_line
+lone_line_again q valid =
+    let long : nat_lt (length (lone_line q)) 5 ≡ false = grind (arith, nat_tests) in
+    rw (long, written_is_read q valid) (rw (text_same (lone_line q)) refl)
+
 -- lines of one kind are not of another
 inner_is_no_small : (q : Board) (o : Option Board) → kept inner_line (small_line q) o ≡ None
 unfolding inner_line small_line
@@ -118,6 +125,24 @@ inner_is_no_small q (Some x) = refl
 small_no_inner : (q : Board) → inner_of (small_line q) ≡ None
 unfolding inner_of
 small_no_inner q = if_none (nat_lt (length (small_line q)) 6) _ (inner_is_no_small q (position_if (fen (drop 6 (small_line q)))))
+
+inner_is_no_lone : (q : Board) (o : Option Board) → kept inner_line (lone_line q) o ≡ None
+unfolding inner_line lone_line
+inner_is_no_lone q None = refl
+inner_is_no_lone q (Some x) = refl
+
+lone_no_inner : (q : Board) → inner_of (lone_line q) ≡ None
+unfolding inner_of
+lone_no_inner q = if_none (nat_lt (length (lone_line q)) 6) _ (inner_is_no_lone q (position_if (fen (drop 6 (lone_line q)))))
+
+small_is_no_lone : (q : Board) (o : Option Board) → kept small_line (lone_line q) o ≡ None
+unfolding small_line lone_line
+small_is_no_lone q None = refl
+small_is_no_lone q (Some x) = refl
+
+lone_no_small : (q : Board) → small_of (lone_line q) ≡ None
+unfolding small_of
+lone_no_small q = if_none (nat_lt (length (lone_line q)) 6) _ (small_is_no_lone q (position_if (fen (drop 6 (lone_line q)))))
 
 inner_is_no_leaf : (i : ℕ) (q : Board) (o : Option Board) → kept inner_line (shared_leaf_line i q) o ≡ None
 unfolding inner_line shared_leaf_line
@@ -137,10 +162,20 @@ leaf_no_small : (i : ℕ) (q : Board) → small_of (shared_leaf_line i q) ≡ No
 unfolding small_of
 leaf_no_small i q = if_none (nat_lt (length (shared_leaf_line i q)) 6) _ (small_is_no_leaf i q (position_if (fen (drop 6 (shared_leaf_line i q)))))
 
+lone_is_no_leaf : (i : ℕ) (q : Board) (o : Option Board) → kept lone_line (shared_leaf_line i q) o ≡ None
+unfolding lone_line shared_leaf_line
+lone_is_no_leaf i q None = refl
+lone_is_no_leaf i q (Some x) = refl
+
+leaf_no_lone : (i : ℕ) (q : Board) → lone_of (shared_leaf_line i q) ≡ None
+unfolding lone_of
+leaf_no_lone i q = if_none (nat_lt (length (shared_leaf_line i q)) 5) _ (lone_is_no_leaf i q (position_if (fen (drop 5 (shared_leaf_line i q)))))
+
 -- the line of a node
 pub node_line_again : (m : ℕ) (q : Board) (part : SharedPart) (n : ℕ) (rest : List (List ℕ)) → m < 4294967296 → IsValid q → Names m part
     → wanted (shared_node_of m) kinds.Node n (shared_part_lines q part ++ rest) ≡ found (record { position = q; part = part }) (n + 1) rest
 unfolding wanted shared_node_of
 node_line_again m q Inner n rest high valid named = rw (inner_again q valid) refl
-node_line_again m q (Leaf i) n rest high valid named = rw (leaf_no_inner i q, leaf_no_small i q, shared_leaf_again m i q valid named high) refl
+node_line_again m q (Leaf i) n rest high valid named = rw (leaf_no_inner i q, leaf_no_small i q, leaf_no_lone i q, shared_leaf_again m i q valid named high) refl
 node_line_again m q Small n rest high valid named = rw (small_no_inner q, small_line_again q valid) refl
+node_line_again m q Lone n rest high valid named = rw (lone_no_inner q, lone_no_small q, lone_line_again q valid) refl

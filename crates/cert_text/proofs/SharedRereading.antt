@@ -7,11 +7,11 @@ use Rattle.cha_fen.specs.Written.{fen_text}
 use Rattle.mob_sets.specs.Rows.{SetRows}
 use Rattle.cha_cert.specs.declared.shared.SharedNode.{SharedNode}
 use Rattle.cha_cert.specs.declared.shared.SharedPart.{SharedPart}
-use Rattle.cha_cert.specs.declared.shared.SharedPart.TheVariants.{Inner, Leaf, Small}
+use Rattle.cha_cert.specs.declared.shared.SharedPart.TheVariants.{Inner, Leaf, Small, Lone}
 use Rattle.cha_cert.specs.Shared.{Shared, Names, AreNamed}
 use Rattle.cert_text.specs.declared.faults.CertFault.{CertFault}
 use Rattle.cert_text.specs.declared.faults.CertKind.TheVariants as kinds
-use Rattle.cert_text.specs.Spelled.{end_line, winner_line, count_line, loose_line, inner_line, small_line}
+use Rattle.cert_text.specs.Spelled.{end_line, winner_line, count_line, loose_line, inner_line, small_line, lone_line}
 use Rattle.cert_text.specs.SharedSpelled.{sets_line, shared_leaf_line, set_lines, shared_part_lines, shared_node_lines, shared_header_line, shared_lines, shared_text}
 use Rattle.cert_text.specs.Lines.{lines_of, tail_of}
 use Rattle.cert_text.specs.Texts.{found, fixed_of, wanted, begins_reach, ended}
@@ -29,9 +29,10 @@ unfolding sets_line
 sets_line_plain n small = both_plain (codes "sets ") (decimal n) refl (decimal_plain n small)
 
 node_plain : (m : ℕ) (q : Board) (part : SharedPart) → m < 2 ^ 64 → Names m part → ArePlain (shared_part_lines q part)
-unfolding inner_line small_line shared_leaf_line
+unfolding inner_line small_line lone_line shared_leaf_line
 node_plain m q Inner small named = (both_plain (codes "inner ") (fen_text q) refl (fen_plain q), tt)
 node_plain m q Small small named = (both_plain (codes "small ") (fen_text q) refl (fen_plain q), tt)
+node_plain m q Lone small named = (both_plain (codes "lone ") (fen_text q) refl (fen_plain q), tt)
 node_plain m q (Leaf i) small named =
     (both_plain (codes "leaf ") (decimal i ++ 32 ∷ fen_text q) refl (both_plain (decimal i) (32 ∷ fen_text q) (decimal_plain i (omega (arith, small, named))) (one_plain 32 (fen_text q) (omega arith) (fen_plain q))), tt)
 

@@ -8,16 +8,16 @@ use Rattle.cha_board.specs.Board.{Board}
 use Rattle.cha_fen.specs.Fen.{fen}
 use Rattle.mob_sets.specs.Rows.{SetRows}
 use Rattle.cha_cert.specs.declared.shared.SharedNode.{SharedNode}
-use Rattle.cha_cert.specs.declared.shared.SharedPart.TheVariants.{Inner, Leaf, Small}
+use Rattle.cha_cert.specs.declared.shared.SharedPart.TheVariants.{Inner, Leaf, Small, Lone}
 use Rattle.cert_text.specs.declared.faults.CertFault.{CertFault}
 use Rattle.cert_text.specs.declared.faults.CertKind.TheVariants as kinds
 use Rattle.cert_text.specs.declared.shared_reader.SharedCertificate.{SharedCertificate}
 use Rattle.cert_text.specs.Digits.{value_of}
-use Rattle.cert_text.specs.Spelled.{end_line, winner_line, count_line, row_line, small_line, lines_text}
+use Rattle.cert_text.specs.Spelled.{end_line, winner_line, count_line, row_line, small_line, lone_line, lines_text}
 use Rattle.cert_text.specs.SharedSpelled.{sets_line, shared_leaf_line, set_lines, shared_node_lines, shared_header_line, shared_lines, shared_text}
 use Rattle.cert_text.specs.Lines.{lines_of, tail_of}
 use Rattle.cert_text.specs.Texts.{Found, and_then, fixed_of, winner_of, count_of, loose_of, kept, position_if, inner_of, on_some, wanted, rows_after, ended}
-use Rattle.cert_text.specs.SharedTexts.{small_number, sets_of, number_len, leaf_if, leaf_numbered, shared_leaf_of, small_of, shared_node_of, sets_after, many_after, shared_cert_of}
+use Rattle.cert_text.specs.SharedTexts.{small_number, sets_of, number_len, leaf_if, leaf_numbered, shared_leaf_of, small_of, lone_of, shared_node_of, sets_after, many_after, shared_cert_of}
 use Rattle.cert_text.proofs.Spelling.{joined, then_ok, wanted_ok, if_some, if_kept, if_left, kept_ok, fixed_ok, winner_ok, count_ok, loose_ok, inner_ok, rows_ok}
 
 sets_ok : (line : List ℕ) (m : ℕ) → sets_of line ≡ Some m → (line ≡ sets_line m) × (m < 4294967296)
@@ -49,15 +49,30 @@ small_ok : (line : List ℕ) (q : Board) → small_of line ≡ Some q → line �
 unfolding small_of
 small_ok line q e = (kept_ok small_line line _ q (if_left (nat_lt (length line) 6) _ q e)).1
 
+lone_ok : (line : List ℕ) (q : Board) → lone_of line ≡ Some q → line ≡ lone_line q
+unfolding lone_of
+lone_ok line q e = (kept_ok lone_line line _ q (if_left (nat_lt (length line) 5) _ q e)).1
+
+lone_cases : (m : ℕ) (line : List ℕ) (node : SharedNode) (lone : Option Board) → lone_of line ≡ lone
+    → on_some lone (shared_leaf_of m line) (λ q. Some (record { position = q; part = Lone })) ≡ Some node → line ∷ [] ≡ shared_node_lines node
+lone_cases m line node None s e = shared_leaf_ok m line node e
+lone_cases m line node (Some q) s e =
+    let is : record { position = q; part = Lone } ≡ node = cc in
+    ap (λ l. l ∷ []) (lone_ok line q s) ∙ ap shared_node_lines is
+
 small_cases : (m : ℕ) (line : List ℕ) (node : SharedNode) (small : Option Board) → small_of line ≡ small
-    → on_some small (shared_leaf_of m line) (λ q. Some (record { position = q; part = Small })) ≡ Some node → line ∷ [] ≡ shared_node_lines node
-small_cases m line node None s e = shared_leaf_ok m line node e
+    → on_some small (on_some (lone_of line) (shared_leaf_of m line) (λ q. Some (record { position = q; part = Lone }))) (λ q. Some (record { position = q; part = Small })) ≡ Some node
+    → line ∷ [] ≡ shared_node_lines node
+small_cases m line node None s e = lone_cases m line node (lone_of line) refl e
 small_cases m line node (Some q) s e =
     let is : record { position = q; part = Small } ≡ node = cc in
     ap (λ l. l ∷ []) (small_ok line q s) ∙ ap shared_node_lines is
 
 node_cases : (m : ℕ) (line : List ℕ) (node : SharedNode) (inner : Option Board) → inner_of line ≡ inner
-    → on_some inner (on_some (small_of line) (shared_leaf_of m line) (λ q. Some (record { position = q; part = Small }))) (λ q. Some (record { position = q; part = Inner })) ≡ Some node
+    → on_some inner
+    (on_some (small_of line) (on_some (lone_of line) (shared_leaf_of m line) (λ q. Some (record { position = q; part = Lone }))) (λ q. Some (record { position = q; part = Small })))
+    (λ q. Some (record { position = q; part = Inner }))
+    ≡ Some node
     → line ∷ [] ≡ shared_node_lines node
 node_cases m line node None s e = small_cases m line node (small_of line) refl e
 node_cases m line node (Some q) s e =

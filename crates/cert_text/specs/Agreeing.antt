@@ -7,7 +7,7 @@ use Rattle.mob_sets.specs.Rows.{Row, SetRows}
 use Rattle.mob_sets.specs.Tidy.{AreTidy}
 use Rattle.cha_cert.specs.declared.nodes.Node.{Node}
 use Rattle.cha_cert.specs.declared.nodes.Part.{Part}
-use Rattle.cha_cert.specs.declared.nodes.Part.TheVariants.{Inner, Leaf, Small}
+use Rattle.cha_cert.specs.declared.nodes.Part.TheVariants.{Inner, Leaf, Small, Lone}
 use Rattle.cha_cert.specs.declared.shared.SharedNode.{SharedNode}
 use Rattle.cha_cert.specs.Shared.{Shared, AreNamed}
 use Rattle.cert_text.specs.declared.faults.CertFault.{CertFault}
@@ -31,12 +31,13 @@ seen bytes value left = record { value = value; number = left.number; lines = li
 abbrev pub IsWritableSets : SetRows → Type 0
 IsWritableSets sets = AreTidy sets.rows × All (λ row. row.origin < 64) sets.rows × (length sets.loose ≡ 64)
 
--- a node whose text is read as that node: its position is valid, it is not one of small material, and the rows of a leaf are
--- tidy and on the board
+-- a node whose text is read as that node: its position is valid, it is an inner node or a leaf, and the rows of a leaf are tidy
+-- and on the board
 abbrev pub IsWritablePart : Part → Type 0
 IsWritablePart Inner = ⊤
 IsWritablePart (Leaf sets) = IsWritableSets sets
 IsWritablePart Small = ⊥
+IsWritablePart Lone = ⊥
 
 pub record IsWritable (node : Node) : Type 0 where
   pub position : IsValid node.position

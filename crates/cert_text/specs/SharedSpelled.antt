@@ -7,9 +7,9 @@ use Rattle.cha_fen.specs.Written.{fen_text}
 use Rattle.mob_sets.specs.Rows.{SetRows}
 use Rattle.cha_cert.specs.declared.shared.SharedNode.{SharedNode}
 use Rattle.cha_cert.specs.declared.shared.SharedPart.{SharedPart}
-use Rattle.cha_cert.specs.declared.shared.SharedPart.TheVariants.{Inner, Leaf, Small}
+use Rattle.cha_cert.specs.declared.shared.SharedPart.TheVariants.{Inner, Leaf, Small, Lone}
 use Rattle.cha_cert.specs.Shared.{Shared}
-use Rattle.cert_text.specs.Spelled.{winner_line, count_line, loose_line, row_line, inner_line, small_line, end_line, lines_text}
+use Rattle.cert_text.specs.Spelled.{winner_line, count_line, loose_line, row_line, inner_line, small_line, lone_line, end_line, lines_text}
 
 -- sets 1
 unfoldable pub sets_line : ℕ → List ℕ
@@ -28,6 +28,7 @@ abbrev pub shared_part_lines : Board → SharedPart → List (List ℕ)
 shared_part_lines q Inner = inner_line q ∷ []
 shared_part_lines q (Leaf i) = shared_leaf_line i q ∷ []
 shared_part_lines q Small = small_line q ∷ []
+shared_part_lines q Lone = lone_line q ∷ []
 
 abbrev pub shared_node_lines : SharedNode → List (List ℕ)
 shared_node_lines node = shared_part_lines node.position node.part

@@ -7,12 +7,12 @@ use Rattle.cha_board.specs.Board.{Board}
 use Rattle.cha_fen.specs.Fen.{fen}
 use Rattle.mob_sets.specs.Rows.{SetRows}
 use Rattle.cha_cert.specs.declared.shared.SharedNode.{SharedNode}
-use Rattle.cha_cert.specs.declared.shared.SharedPart.TheVariants.{Inner, Leaf, Small}
+use Rattle.cha_cert.specs.declared.shared.SharedPart.TheVariants.{Inner, Leaf, Small, Lone}
 use Rattle.cert_text.specs.declared.faults.CertFault.{CertFault}
 use Rattle.cert_text.specs.declared.faults.CertKind.TheVariants as kinds
 use Rattle.cert_text.specs.declared.shared_reader.SharedCertificate.{SharedCertificate}
 use Rattle.cert_text.specs.Digits.{value_of}
-use Rattle.cert_text.specs.Spelled.{small_line, end_line}
+use Rattle.cert_text.specs.Spelled.{small_line, lone_line, end_line}
 use Rattle.cert_text.specs.SharedSpelled.{sets_line, shared_leaf_line, shared_header_line}
 use Rattle.cert_text.specs.Lines.{lines_of, tail_of}
 use Rattle.cert_text.specs.Texts.{Found, found, and_then, on_some, kept, fixed_of, winner_of, count_of, loose_of, position_if, inner_of, wanted, rows_after, ended}
@@ -46,11 +46,16 @@ shared_leaf_of m line =
 unfoldable pub small_of : List ℕ → Option Board
 small_of line = if nat_lt (length line) 6 then None else kept small_line line (position_if (fen (drop 6 line)))
 
+unfoldable pub lone_of : List ℕ → Option Board
+lone_of line = if nat_lt (length line) 5 then None else kept lone_line line (position_if (fen (drop 5 line)))
+
 -- a node's line, where so many sets are there
 unfoldable pub shared_node_of : ℕ → List ℕ → Option SharedNode
 shared_node_of m line =
     on_some (inner_of line)
-    (on_some (small_of line) (shared_leaf_of m line) (λ q. Some (record { position = q; part = Small })))
+    (on_some (small_of line)
+    (on_some (lone_of line) (shared_leaf_of m line) (λ q. Some (record { position = q; part = Lone })))
+    (λ q. Some (record { position = q; part = Small })))
     (λ q. Some (record { position = q; part = Inner }))
 
 -- the lines of sets

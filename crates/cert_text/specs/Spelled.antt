@@ -11,7 +11,7 @@ use Rattle.cha_fen.specs.Written.{fen_text}
 use Rattle.mob_sets.specs.Rows.{Row}
 use Rattle.cha_cert.specs.declared.nodes.Node.{Node}
 use Rattle.cha_cert.specs.declared.nodes.Part.{Part}
-use Rattle.cha_cert.specs.declared.nodes.Part.TheVariants.{Inner, Leaf, Small}
+use Rattle.cha_cert.specs.declared.nodes.Part.TheVariants.{Inner, Leaf, Small, Lone}
 use Rattle.cert_text.specs.Digits.{hex_digits}
 
 -- a set as sixteen hexadecimal digits: bit s of the number stands for square s
@@ -48,23 +48,29 @@ leaf_line q = codes "leaf " ++ fen_text q
 unfoldable pub small_line : Board → List ℕ
 small_line q = codes "small " ++ fen_text q
 
--- the lines of a node; version 1 has none for small material, and is asked of no such node
+-- lone 8/8/8/4k3/3q4/7q/8/4KN2 w - -
+unfoldable pub lone_line : Board → List ℕ
+lone_line q = codes "lone " ++ fen_text q
+
+-- the lines of a node; version 1 has none for small material and for lone minor men, and is asked of no such node
 abbrev pub part_lines : Board → Part → List (List ℕ)
 part_lines q Inner = inner_line q ∷ []
 part_lines q (Leaf sets) = leaf_line q ∷ loose_line sets.loose ∷ map row_line sets.rows
 part_lines q Small = small_line q ∷ []
+part_lines q Lone = lone_line q ∷ []
 
 abbrev pub node_lines : Node → List (List ℕ)
 node_lines node = part_lines node.position node.part
 
--- no node is one of small material
-abbrev pub IsNotSmall : Part → Type 0
-IsNotSmall Inner = ⊤
-IsNotSmall (Leaf sets) = ⊤
-IsNotSmall Small = ⊥
+-- a node is an inner one or a leaf, as all are in version 1
+abbrev pub IsInnerOrLeaf : Part → Type 0
+IsInnerOrLeaf Inner = ⊤
+IsInnerOrLeaf (Leaf sets) = ⊤
+IsInnerOrLeaf Small = ⊥
+IsInnerOrLeaf Lone = ⊥
 
-abbrev pub HasNoSmall : List Node → Type 0
-HasNoSmall nodes = All (λ node. IsNotSmall node.part) nodes
+abbrev pub AreInnerOrLeaves : List Node → Type 0
+AreInnerOrLeaves nodes = All (λ node. IsInnerOrLeaf node.part) nodes
 
 abbrev pub header_line : List ℕ
 header_line = codes "cha-cert 1"

@@ -2,7 +2,7 @@
 
 ghost use Rattle.std.specs.Prelude.{◌≤◌, drop, length, ◌≡◌, [], IfOk};
 ghost use Rattle.cert_text.specs.Lines.{lines_of, tail_of};
-ghost use Rattle.cert_text.specs.Spelled.{IsNotSmall, HasNoSmall};
+ghost use Rattle.cert_text.specs.Spelled.{IsInnerOrLeaf, AreInnerOrLeaves};
 ghost use Rattle.cert_text.specs.Texts.{inner_of, leaf_of, leaf_after, node_after, nodes_after};
 ghost use Rattle.cert_text.specs.Agreeing.{Agrees, seen};
 
@@ -72,7 +72,7 @@ fn leaf(
     ensures said { Agrees (λ read. seen bytes.now read.0 read.1) result (leaf_after (tail_of (drop left.at bytes.now)) position left.number (lines_of (drop left.at bytes.now))) }
     ensures inside { IfOk result (λ read. read.1.at ≤ length bytes.now) }
     ensures tail { IfOk result (λ read. tail_of (drop read.1.at bytes.now) ≡ tail_of (drop left.at bytes.now)) }
-    ensures no_small { IfOk result (λ read. IsNotSmall read.0.part) }
+    ensures inner_or_leaf { IfOk result (λ read. IsInnerOrLeaf read.0.part) }
 {
     let (loose, left) = loose_line(alloc, bytes, left)?;
     let (rows, left) = rows_of_leaf(alloc, bytes, left)?;
@@ -92,7 +92,7 @@ fn node(alloc: Global, bytes: &[u8], left: Left) -> Result<(Node, Left), CertFau
     ensures said { Agrees (λ read. seen bytes.now read.0 read.1) result (node_after (tail_of (drop left.at bytes.now)) left.number (lines_of (drop left.at bytes.now))) }
     ensures inside { IfOk result (λ read. read.1.at ≤ length bytes.now) }
     ensures tail { IfOk result (λ read. tail_of (drop read.1.at bytes.now) ≡ tail_of (drop left.at bytes.now)) }
-    ensures no_small { IfOk result (λ read. IsNotSmall read.0.part) }
+    ensures inner_or_leaf { IfOk result (λ read. IsInnerOrLeaf read.0.part) }
 {
     let Some((line, rest)) = next_line(bytes, left) else {
         return Err(misfit(left.number, CertKind::Node));
@@ -113,7 +113,7 @@ pub fn nodes(alloc: Global, count: u32, bytes: &[u8], left: Left) -> Result<(Cer
     ensures said { Agrees (λ read. seen bytes.now read.0 read.1) result (nodes_after (tail_of (drop left.at bytes.now)) count [] left.number (lines_of (drop left.at bytes.now))) }
     ensures inside { IfOk result (λ read. read.1.at ≤ length bytes.now) }
     ensures tail { IfOk result (λ read. tail_of (drop read.1.at bytes.now) ≡ tail_of (drop left.at bytes.now)) }
-    ensures no_small { IfOk result (λ read. HasNoSmall read.0) }
+    ensures inner_or_leaf { IfOk result (λ read. AreInnerOrLeaves read.0) }
 {
     let mut cert = Cert::new(alloc);
     let mut left = left;

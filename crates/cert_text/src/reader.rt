@@ -4,7 +4,7 @@ ghost use Rattle.std.specs.Prelude.{◌≤◌, drop, length, ◌≡◌, ◌≢�
 ghost use Rattle.cha_board.specs.declared.men.Color.{Color as Side};
 ghost use Rattle.cha_cert.specs.declared.nodes.Node.{Node as CertNode};
 ghost use Rattle.cert_text.specs.declared.faults.CertKind.TheVariants.{NoMemory};
-ghost use Rattle.cert_text.specs.Spelled.{cert_text, HasNoSmall};
+ghost use Rattle.cert_text.specs.Spelled.{cert_text, AreInnerOrLeaves};
 ghost use Rattle.cert_text.specs.Texts.{cert_of};
 ghost use Rattle.cert_text.specs.Agreeing.{IsCertText};
 
@@ -48,7 +48,7 @@ pub fn read(alloc: Global, bytes: &[u8]) -> Result<Certificate, CertFault>
     ensures spelled { IfOk result (λ read. cert_text read.winner read.cert ≡ bytes.now) }
     ensures some { IfOk result (λ read. 0 < length read.cert) }
     ensures few { IfOk result (λ read. length read.cert < 2 ^ 32) }
-    ensures no_small { IfOk result (λ read. HasNoSmall read.cert) }
+    ensures inner_or_leaf { IfOk result (λ read. AreInnerOrLeaves read.cert) }
 {
     let _len = bytes.len();
     let left = Left { at: 0, number: 1 };

@@ -5,7 +5,7 @@ ghost use Rattle.cha_cert.specs.Shared.{Names};
 ghost use Rattle.cert_text.specs.declared.faults.CertKind.TheVariants.{Sets as SetsKind, Node as NodeKind};
 ghost use Rattle.cert_text.specs.Lines.{lines_of, tail_of};
 ghost use Rattle.cert_text.specs.Texts.{wanted};
-ghost use Rattle.cert_text.specs.SharedTexts.{sets_of, shared_leaf_of, small_of, shared_node_of, sets_after, many_after};
+ghost use Rattle.cert_text.specs.SharedTexts.{sets_of, shared_leaf_of, small_of, lone_of, shared_node_of, sets_after, many_after};
 ghost use Rattle.cert_text.specs.Agreeing.{Agrees, seen};
 
 use crate::bodies::inner_named;
@@ -15,7 +15,7 @@ use crate::leaves::{loose_line, rows_of_leaf};
 use crate::lines::{misfit, next_line};
 use crate::rest::Left;
 use crate::shared_spelled::{put_sets_count, put_shared_leaf};
-use crate::spelled::put_small;
+use crate::spelled::{put_lone, put_small};
 use cha_board::Position;
 use cha_cert::{SharedCert, SharedNode, SharedPart};
 use cha_fen::read;
@@ -132,6 +132,27 @@ fn small_named(alloc: Global, line: &[u8]) -> Result<Option<Position>, NoMemory>
     })
 }
 
+/// The position of a line `lone FEN`.
+#[tactic(auto, unfolding(crate::specs::SharedTexts::lone_of))]
+fn lone_named(alloc: Global, line: &[u8]) -> Result<Option<Position>, NoMemory>
+    ensures { IfOk result (λ position. position ≡ lone_of line.now) }
+{
+    if line.len() < 5 {
+        return Ok(None);
+    }
+    let (_label, fen) = line.split_at(5);
+    let Ok(position) = read(fen) else {
+        return Ok(None);
+    };
+    let mut text = Text::new(alloc);
+    put_lone(alloc, &position, &mut text)?;
+    Ok(if line == text.items() {
+        Some(position)
+    } else {
+        None
+    })
+}
+
 /// The node of a line, where so many sets are there.
 #[tactic(auto, unfolding(crate::specs::SharedTexts::shared_node_of))]
 fn shared_node_named(alloc: Global, sets: u32, line: &[u8]) -> Result<Option<SharedNode>, NoMemory>
@@ -148,6 +169,12 @@ fn shared_node_named(alloc: Global, sets: u32, line: &[u8]) -> Result<Option<Sha
         return Ok(Some(SharedNode {
             position,
             part: SharedPart::Small,
+        }));
+    }
+    if let Some(position) = lone_named(alloc, line)? {
+        return Ok(Some(SharedNode {
+            position,
+            part: SharedPart::Lone,
         }));
     }
     shared_leaf_named(alloc, sets, line)

@@ -7,7 +7,7 @@ ghost use Rattle.cert_text.specs.SharedSpelled.{sets_line, shared_leaf_line, set
 ghost use Rattle.cert_text.specs.SharedTexts.{shared_cert_of};
 ghost use Rattle.cert_text.specs.Agreeing.{IsWritableSets, HasValidPosition};
 
-use crate::spelled::{put_count, put_inner, put_sets, put_small};
+use crate::spelled::{put_count, put_inner, put_lone, put_sets, put_small};
 use cha_board::{Color, Position};
 use cha_cert::{SharedCert, SharedNode, SharedPart};
 use cha_list::{NoMemory, Text};
@@ -51,6 +51,7 @@ fn put_shared_node(alloc: Global, node: &SharedNode, text: &mut Text) -> Result<
         SharedPart::Inner => put_inner(alloc, &node.position, text)?,
         SharedPart::Leaf(number) => put_shared_leaf(alloc, number, &node.position, text)?,
         SharedPart::Small => put_small(alloc, &node.position, text)?,
+        SharedPart::Lone => put_lone(alloc, &node.position, text)?,
     }
     text.push(b'\n')?;
     Ok(())
@@ -119,7 +120,8 @@ fn put_node_count(alloc: Global, count: u64, text: &mut Text) -> Result<(), NoMe
 /// ```
 ///
 /// Each line ends with a line feed. The sets come first, each once, and a leaf names its sets by their number, from 0. A
-/// node of small material has the line `small FEN`. The text is read as the same shared certificate again.
+/// node of small material has the line `small FEN`, and one of lone minor men `lone FEN`. The text is read as the same shared
+/// certificate again.
 pub fn write2(alloc: Global, winner: Color, cert: &SharedCert) -> Result<Text, NoMemory>
     requires some { 0 < length cert.now.nodes }
     requires few { length cert.now.nodes < 2 ^ 32 }

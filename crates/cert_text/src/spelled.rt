@@ -3,7 +3,7 @@
 ghost use Rattle.std.specs.Prelude.{◌≡◌, ◌<◌, ◌≤◌, ◌^◌, ◌++◌, [], ◌∷◌, Ok, length, map, OnOk, IfOk};
 ghost use Rattle.std.specs.List.{All, flat_map};
 ghost use Rattle.mob_sets.specs.Tidy.{AreTidy};
-ghost use Rattle.cert_text.specs.Spelled.{header_line, winner_line, count_line, loose_line, row_line, inner_line, leaf_line, small_line, node_lines, IsNotSmall, HasNoSmall, lines_text, cert_text};
+ghost use Rattle.cert_text.specs.Spelled.{header_line, winner_line, count_line, loose_line, row_line, inner_line, leaf_line, small_line, lone_line, node_lines, IsInnerOrLeaf, AreInnerOrLeaves, lines_text, cert_text};
 ghost use Rattle.cert_text.specs.Texts.{cert_of};
 ghost use Rattle.cert_text.specs.Agreeing.{IsWritable};
 
@@ -79,6 +79,16 @@ pub fn put_small(alloc: Global, position: &Position, text: &mut Text) -> Result<
     text.append(fen.items())
 }
 
+/// Writes `lone FEN`.
+#[tactic(auto, unfolding(crate::specs::Spelled::lone_line))]
+pub fn put_lone(alloc: Global, position: &Position, text: &mut Text) -> Result<(), NoMemory>
+    ensures { OnOk result (text.new ≡ text.old ++ lone_line position.now) }
+{
+    let fen = cha_fen::write(alloc, position)?;
+    text.append(b"lone ")?;
+    text.append(fen.items())
+}
+
 /// Writes the lines of rows.
 fn put_rows(rows: &[SetRow], text: &mut Text) -> Result<(), NoMemory>
     ensures text { OnOk result (text.new ≡ text.old ++ lines_text (map row_line rows.now)) }
@@ -107,7 +117,7 @@ pub fn put_sets(sets: &Sets, text: &mut Text) -> Result<(), NoMemory>
 /// Writes the lines of a node.
 #[tactic(auto, unfolding(crate::specs::Spelled::lines_text))]
 fn put_node(alloc: Global, node: &Node, text: &mut Text) -> Result<(), NoMemory>
-    requires { IsNotSmall node.now.part }
+    requires { IsInnerOrLeaf node.now.part }
     ensures text { OnOk result (text.new ≡ text.old ++ lines_text (node_lines node.now)) }
     ensures writable { OnOk result (IsWritable node.now) }
 {
@@ -124,12 +134,13 @@ fn put_node(alloc: Global, node: &Node, text: &mut Text) -> Result<(), NoMemory>
             put_sets(sets, text)
         }
         Part::Small => unreachable!(),
+        Part::Lone => unreachable!(),
     }
 }
 
 /// Writes the lines of nodes.
 fn put_nodes(alloc: Global, nodes: &[Node], text: &mut Text) -> Result<(), NoMemory>
-    requires { HasNoSmall nodes.now }
+    requires { AreInnerOrLeaves nodes.now }
     ensures text { OnOk result (text.new ≡ text.old ++ lines_text (flat_map node_lines nodes.now)) }
     ensures writable { OnOk result (All IsWritable nodes.now) }
 {
@@ -154,12 +165,12 @@ fn put_head(alloc: Global, winner: Color, count: u64, text: &mut Text) -> Result
     Ok(())
 }
 
-/// The text of a certificate that no series of legal moves mates for a side, which has no node of small material. It is read
+/// The text of a certificate that no series of legal moves mates for a side, whose nodes are inner ones and leaves. It is read
 /// as the same again.
 pub fn write(alloc: Global, winner: Color, cert: &Cert) -> Result<Text, NoMemory>
     requires some { 0 < length cert.now }
     requires few { length cert.now < 2 ^ 32 }
-    requires no_small { HasNoSmall cert.now }
+    requires inner_or_leaf { AreInnerOrLeaves cert.now }
     ensures text { IfOk result (λ text. text ≡ cert_text winner cert.now) }
     ensures read_again { IfOk result (λ text. cert_of text ≡ Ok (record { winner = winner; cert = cert.now })) }
 {

@@ -39,7 +39,7 @@ fn texts_are_read_and_written_as_they_were(rt: HostRuntime) -> Result<(), Fail> 
     let found = read(rt.alloc(), LOST.as_bytes())?;
     assert_eq!(rt; found.cert.nodes().len(), 2);
     match &found.cert.nodes()[1].part {
-        Part::Inner | Part::Small => assert!(rt; false),
+        Part::Inner | Part::Small | Part::Lone => assert!(rt; false),
         Part::Leaf(sets) => {
             assert_eq!(rt; sets.loose().bits(), 0x0002_0000_0000_0010);
             assert_eq!(rt; sets.rows().len(), 2);

@@ -11,9 +11,10 @@ use Rattle.mob_law.specs.Closed.{IsClosed}
 use Rattle.mob_law.specs.Threats.{HasNoMate}
 use Rattle.mob_sets.specs.Rows.{SetRows, sets_of}
 use Rattle.mob_small.specs.Small.{IsSmallUnwinnable}
+use Rattle.mob_lone.specs.Lone.{IsLoneUnwinnable}
 use Rattle.cha_cert.specs.declared.nodes.Node.{Node}
 use Rattle.cha_cert.specs.declared.nodes.Part.{Part}
-use Rattle.cha_cert.specs.declared.nodes.Part.TheVariants.{Inner, Leaf, Small}
+use Rattle.cha_cert.specs.declared.nodes.Part.TheVariants.{Inner, Leaf, Small, Lone}
 use Rattle.cha_cert.specs.declared.checking.Checked.{Checked}
 use Rattle.cha_cert.specs.declared.checking.Checked.TheVariants.{Accepted, Fails}
 
@@ -36,6 +37,7 @@ abbrev pub PartHolds : Color → List Node → Board → Part → Type 0
 PartHolds w nodes q Inner = InnerHolds w nodes q
 PartHolds w nodes q (Leaf sets) = LeafHolds w q sets
 PartHolds w nodes q Small = IsSmallUnwinnable q w
+PartHolds w nodes q Lone = IsLoneUnwinnable q w
 
 abbrev pub NodeHolds : Color → List Node → Node → Type 0
 NodeHolds w nodes node = PartHolds w nodes node.position node.part

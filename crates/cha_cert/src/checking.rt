@@ -14,6 +14,7 @@ use cha_board::{Color, Position, same_position};
 use cha_list::{NoMemory, Steps};
 use cha_moves::{after, is_mate, legal};
 use mob_check::proves_unwinnable;
+use mob_lone::lone_verdict;
 use mob_sets::Sets;
 use mob_small::small_verdict;
 use std::alloc::Global;
@@ -33,7 +34,9 @@ pub enum Checked {
 /// Checks that a certificate shows that no series of legal moves from a position mates for a side (this project).
 ///
 /// A leaf holds where its mobility sets are closed for its position and have no mate for the side. A node of small material
-/// holds where there is no pawn, at most one man beside each king, and no mate for the side with such men. An inner node
+/// holds where there is no pawn, at most one man beside each king, and no mate for the side with such men. A node of lone
+/// minor men holds where the side has beside its king one knight, and the other side queens alone, or the side has only
+/// bishops of one colour, the other only rooks, queens and bishops of that colour, and the position is no mate. An inner node
 /// holds where its position is no mate for the side and each legal move leads to the position of some node.
 pub fn check(
     alloc: Global,
@@ -136,6 +139,7 @@ fn node_holds<L: Ledger>(
         Part::Inner => inner_holds(alloc, index, winner, &node.position, steps),
         Part::Leaf(sets) => Ok(leaf_holds(winner, &node.position, sets)),
         Part::Small => Ok(small_verdict(&node.position, winner)),
+        Part::Lone => Ok(lone_verdict(&node.position, winner)),
     }
 }
 

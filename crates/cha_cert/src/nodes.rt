@@ -17,6 +17,8 @@ pub enum Part {
     Leaf(Sets),
     /// The position has small material, with which the side cannot mate.
     Small,
+    /// The position has lone minor men, with which the side cannot mate.
+    Lone,
 }
 
 /// A position, and why no series of legal moves from it mates.

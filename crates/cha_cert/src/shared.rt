@@ -18,6 +18,8 @@ pub enum SharedPart {
     Leaf(u32),
     /// The position has small material, with which the side cannot mate.
     Small,
+    /// The position has lone minor men, with which the side cannot mate.
+    Lone,
 }
 
 /// A position, and why no series of legal moves from it mates.

@@ -14,6 +14,7 @@ use crate::indexing::Index;
 use crate::shared::{SharedCert, SharedNode, SharedPart};
 use cha_board::{Color, Position, same_position};
 use cha_list::{NoMemory, Steps};
+use mob_lone::lone_verdict;
 use mob_small::small_verdict;
 use std::alloc::Global;
 use std::marker::Brand;
@@ -143,5 +144,6 @@ fn holds<L: Ledger>(
             Ok(leaf_holds(winner, &node.position, sets))
         }
         SharedPart::Small => Ok(small_verdict(&node.position, winner)),
+        SharedPart::Lone => Ok(lone_verdict(&node.position, winner)),
     }
 }

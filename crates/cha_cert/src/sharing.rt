@@ -2,7 +2,7 @@
 
 ghost use Rattle.std.specs.Prelude.{◌≡◌, ◌<◌, ◌≤◌, ◌^◌, [], ◌∷◌, ◌++◌, List, None, length, IfOk, IfSome, OnOk, Contains};
 ghost use Rattle.cha_cert.specs.declared.nodes.Node.{Node as CertNode};
-ghost use Rattle.cha_cert.specs.declared.nodes.Part.TheVariants.{Inner as CertInner, Leaf as CertLeaf, Small as CertSmall};
+ghost use Rattle.cha_cert.specs.declared.nodes.Part.TheVariants.{Inner as CertInner, Leaf as CertLeaf, Small as CertSmall, Lone as CertLone};
 ghost use Rattle.cha_cert.specs.Shared.{Names, AreInOrder, Shares, IsAt, expansion, part_of, number_in, part_added, shared_of};
 
 use crate::nodes::{Cert, Node, Part};
@@ -40,6 +40,7 @@ fn add(alloc: Global, shared: &mut SharedCert, node: &Node) -> Result<(), NoMemo
         Part::Inner => add_inner(shared, node.position),
         Part::Leaf(sets) => add_leaf(alloc, shared, node.position, sets),
         Part::Small => add_small(shared, node.position),
+        Part::Lone => add_lone(shared, node.position),
     }
 }
 
@@ -63,6 +64,18 @@ fn add_small(shared: &mut SharedCert, position: Position) -> Result<(), NoMemory
     shared.push(SharedNode {
         position,
         part: SharedPart::Small,
+    })?;
+    Ok(())
+}
+
+/// Appends a node of lone minor men.
+fn add_lone(shared: &mut SharedCert, position: Position) -> Result<(), NoMemory>
+    ensures exact { OnOk result (shared.new ≡ part_added shared.old position CertLone) }
+    ensures shares { (nodes : List CertNode) → Shares shared.old nodes → OnOk result (Shares shared.new (nodes ++ (record { position = position; part = CertLone }) ∷ [])) }
+{
+    shared.push(SharedNode {
+        position,
+        part: SharedPart::Lone,
     })?;
     Ok(())
 }
@@ -134,6 +147,7 @@ fn part_with(alloc: Global, sets: &[Sets], part: SharedPart) -> Result<Part, NoM
     match part {
         SharedPart::Inner => Ok(Part::Inner),
         SharedPart::Small => Ok(Part::Small),
+        SharedPart::Lone => Ok(Part::Lone),
         SharedPart::Leaf(number) => Ok(Part::Leaf(sets[number as usize].copy(alloc)?)),
     }
 }

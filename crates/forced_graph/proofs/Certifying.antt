@@ -10,7 +10,7 @@ use Rattle.cha_board.specs.Board.{Board, IsValid}
 use Rattle.cha_moves.specs.Moves.{after}
 use Rattle.cha_cert.specs.declared.nodes.Node.{Node as CertNode}
 use Rattle.cha_cert.specs.declared.nodes.Part.{Part}
-use Rattle.cha_cert.specs.declared.nodes.Part.TheVariants.{Inner, Leaf, Small}
+use Rattle.cha_cert.specs.declared.nodes.Part.TheVariants.{Inner, Leaf, Small, Lone}
 use Rattle.cha_cert.specs.Certificates.{positions_of, PartHolds, NodeHolds, BeginsAt, IsValidCert}
 use Rattle.node_store.specs.Nodes.{Node, positions}
 use Rattle.node_store.specs.Graphs.{IsStore}
@@ -46,6 +46,7 @@ unfolding IsLeaf
 leaf_holds w nodes q Inner leaf = absurd leaf
 leaf_holds w nodes q (Leaf sets) leaf = leaf
 leaf_holds w nodes q Small leaf = leaf
+leaf_holds w nodes q Lone leaf = leaf
 
 -- each node holds
 holds : (root : Board) (w : Color) (count : ℕ) (nodes : List Node) (waiting : List (List ℕ)) (parts : List Part) → Between root w count nodes waiting parts → ((name : ℕ) → Waits waiting name → ⊥) → (cert : List CertNode) → positions_of cert ≡ positions nodes

@@ -9,7 +9,9 @@ use Rattle.mob_law.specs.Closed.{IsClosed}
 use Rattle.mob_law.specs.Threats.{HasNoMate}
 use Rattle.mob_law.specs.Static.{IsStaticallyUnwinnable}
 use Rattle.mob_sets.specs.Rows.{SetRows, sets_of}
-use Rattle.cha_cert.specs.declared.nodes.Part.TheVariants.{Leaf}
+use Rattle.cha_cert.specs.declared.nodes.Part.TheVariants.{Leaf, Small, Lone}
+use Rattle.mob_small.specs.Small.{IsSmallUnwinnable}
+use Rattle.mob_lone.specs.Lone.{IsLoneUnwinnable}
 use Rattle.cha_cert.specs.Certificates.{LeafHolds}
 use Rattle.node_store.specs.declared.origin.Origin.{Origin}
 use Rattle.node_store.specs.Nodes.{Node, origins, IsAt}
@@ -43,3 +45,13 @@ leaf_shown nodes name w q None sets at some closed no_mate q2 here = cc
 leaf_shown nodes name w q (Some s) sets at some closed no_mate q2 here =
     let holds : LeafHolds w q s = record { closed = closed; no_mate = no_mate } in
     subst (λ (b : Board). LeafHolds w b sets) (same_Some q q2 (sym at ∙ here)) (subst (LeafHolds w q) (same_Some s sets some) holds)
+
+-- the material is small
+pub leaf_small : (nodes : List Node) (name : ℕ) (w : Color) (q : Board) → IsAt nodes name q → IsSmallUnwinnable q w → IsLeafPart nodes name w Small
+unfolding IsLeafPart IsLeaf
+leaf_small nodes name w q at small q2 here = subst (λ (b : Board). IsSmallUnwinnable b w) (same_Some q q2 (sym at ∙ here)) small
+
+-- or the minor men are lone
+pub leaf_lone : (nodes : List Node) (name : ℕ) (w : Color) (q : Board) → IsAt nodes name q → IsLoneUnwinnable q w → IsLeafPart nodes name w Lone
+unfolding IsLeafPart IsLeaf
+leaf_lone nodes name w q at lone q2 here = subst (λ (b : Board). IsLoneUnwinnable b w) (same_Some q q2 (sym at ∙ here)) lone

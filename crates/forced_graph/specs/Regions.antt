@@ -8,9 +8,10 @@ use Rattle.cha_moves.specs.Moves.{after, legal, is_zeroing}
 use Rattle.cha_moves.specs.Ends.{IsMated}
 use Rattle.mob_law.specs.Static.{IsStaticallyUnwinnable}
 use Rattle.mob_small.specs.Small.{IsSmallUnwinnable}
+use Rattle.mob_lone.specs.Lone.{IsLoneUnwinnable}
 use Rattle.cha_cert.specs.declared.nodes.Node.{Node as CertNode}
 use Rattle.cha_cert.specs.declared.nodes.Part.{Part}
-use Rattle.cha_cert.specs.declared.nodes.Part.TheVariants.{Inner, Leaf, Small}
+use Rattle.cha_cert.specs.declared.nodes.Part.TheVariants.{Inner, Leaf, Small, Lone}
 use Rattle.cha_cert.specs.Certificates.{LeafHolds}
 use Rattle.node_store.specs.declared.origin.Origin.{Origin}
 use Rattle.node_store.specs.Lists.{list_at, Has, put}
@@ -27,6 +28,7 @@ unfoldable pub IsLeaf : Color → Board → Part → Type 0
 IsLeaf w q Inner = ⊥
 IsLeaf w q (Leaf sets) = LeafHolds w q sets
 IsLeaf w q Small = IsSmallUnwinnable q w
+IsLeaf w q Lone = IsLoneUnwinnable q w
 
 -- and so is the node of a name
 unfoldable pub IsLeafPart : List Node → ℕ → Color → Part → Type 0

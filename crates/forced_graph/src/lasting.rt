@@ -7,7 +7,7 @@ use cha_board::{Kind, Position, is_man_of};
 use cha_moves::Move;
 
 /// Whether a move changes what no later move brings back: a capture, a pawn's move, or one by which a castling right or an
-/// en passant target goes. Only after such a move can closed sets be smaller than they were.
+/// en passant target goes. Only after such a move can there be less material, or closed sets be smaller than they were.
 pub fn is_lasting(before: &Position, by: Move, next: &Position) -> bool
     ensures { IsTrue (is_zeroing before.now by) → IsTrue result }
 {

@@ -10,6 +10,8 @@ use crate::region::Region;
 use cha_board::Color;
 use cha_cert::Part;
 use cha_list::NoMemory;
+use mob_lone::lone_verdict;
+use mob_small::small_verdict;
 use mob_solve::static_verdict;
 use node_store::Store;
 use std::alloc::Global;
@@ -59,8 +61,8 @@ impl Region {
     }
 }
 
-/// What a node is as a leaf, if it is one: where the move that led there changes the position for good, closed sets without
-/// a mate are looked for.
+/// What a node is as a leaf, if it is one: where the move that led there changes the position for good, it is looked at for
+/// small material, then for lone minor men, and then for closed sets without a mate.
 fn leaf_part(
     alloc: Global,
     store: &Store,
@@ -77,6 +79,12 @@ fn leaf_part(
     let next = store.position(name);
     if !is_lasting(&store.position(origin.parent), origin.by, &next) {
         return Ok(None);
+    }
+    if small_verdict(&next, winner) {
+        return Ok(Some(Part::Small));
+    }
+    if lone_verdict(&next, winner) {
+        return Ok(Some(Part::Lone));
     }
     match static_verdict(alloc, &next, winner)? {
         None => Ok(None),

@@ -7,19 +7,30 @@ ghost use Rattle.mob_law.specs.Static.{IsStaticallyUnwinnable};
 
 use crate::{Explored, explore, explore_in};
 use cha_board::{Color, Position, Square, same_position};
-use cha_cert::{Checked, Part, check};
+use cha_cert::{Checked, Node, Part, check};
 use cha_fact::{Facts, Line, Proved};
 use cha_fen::read;
 use cha_moves::{Move, is_mate, replays};
+use mob_small::small_verdict;
 use mob_solve::static_verdict;
 use shard_table::{Shard, Table};
 use std::alloc::Global;
 use std::test::Fail;
 
-/// A lone queen is taken by the only move, and bare kings are left.
-const QUEEN_TAKEN: &str = "k7/1Q6/8/8/8/8/8/4K3 b - -";
+/// A queen is taken by the only move, and a bare king is left to play against a pawn.
+const QUEEN_TAKEN: &str = "k7/1Q6/8/8/8/p7/8/4K3 b - -";
 
-const BARE_KINGS: &str = "8/1k6/8/8/8/8/8/4K3 w - -";
+const BARE_KING: &str = "8/1k6/8/8/8/p7/8/4K3 w - -";
+
+/// A queen is taken by the only move, and a knight is left to play against a queen.
+const KNIGHT_LEFT: &str = "k7/1Q6/8/8/3q4/8/8/4KN2 b - -";
+
+const KNIGHT_AND_QUEEN: &str = "8/1k6/8/8/3q4/8/8/4KN2 w - -";
+
+/// The same with two queens against the knight.
+const LONE_KNIGHT_LEFT: &str = "k7/1Q6/8/8/3q4/7q/8/4KN2 b - -";
+
+const KNIGHT_AND_QUEENS: &str = "8/1k6/8/8/3q4/7q/8/4KN2 w - -";
 
 /// A rook mates on the last rank.
 const LAST_RANK: &str = "6k1/5ppp/8/8/8/8/5PPP/3R2K1 b - -";
@@ -48,21 +59,23 @@ fn begins(alloc: Global, position: &Position) -> Result<(), Fail>
     }
 }
 
-/// Whether the answer is a certificate of two nodes: the position, and bare kings as a leaf.
-fn is_two_nodes(alloc: Global, position: &Position, explored: &Explored) -> Result<bool, Fail> {
+/// The second node of a certificate of two that is accepted for White, of which the first is the position, an inner node.
+fn second_node<'a>(
+    alloc: Global,
+    position: &Position,
+    explored: &'a Explored,
+) -> Result<&'a Node, Fail> {
     let Explored::Closed(cert) = explored else {
-        return Ok(false);
+        return Err("not closed")?;
     };
     let nodes = cert.nodes();
     if nodes.len() != 2 || check(alloc, position, Color::White, cert)? != Checked::Accepted {
-        return Ok(false);
+        return Err("no certificate of two nodes")?;
     }
-    Ok(
-        matches!(&nodes[0].part, Part::Inner)
-            && matches!(&nodes[1].part, Part::Leaf(_))
-            && same_position(&nodes[0].position, position)
-            && same_position(&nodes[1].position, &place(BARE_KINGS)?),
-    )
+    if !matches!(&nodes[0].part, Part::Inner) || !same_position(&nodes[0].position, position) {
+        return Err("another first node")?;
+    }
+    Ok(&nodes[1])
 }
 
 /// Explores for White with a place of one's own, where it may begin.
@@ -85,7 +98,34 @@ fn a_graph_that_a_capture_ends_is_closed(rt: HostRuntime) -> Result<(), Fail> {
     let position = place(QUEEN_TAKEN)?;
     let mut shard = Shard::new(alloc, 16)?;
     let closed = explored(alloc, &position, 1, &mut shard)?;
-    assert!(rt; is_two_nodes(alloc, &position, &closed)?);
+    let second = second_node(alloc, &position, &closed)?;
+    assert!(rt; matches!(&second.part, Part::Leaf(_)));
+    assert!(rt; same_position(&second.position, &place(BARE_KING)?));
+    Ok(())
+}
+
+// A queen beside her king takes a knight that gives check, so the knight never mates, and sets do not see that. Two queens
+// are not small material.
+#[test]
+fn a_graph_that_the_men_left_end_is_closed(rt: HostRuntime) -> Result<(), Fail> {
+    let alloc = rt.alloc();
+    for (root, left) in [
+        (KNIGHT_LEFT, KNIGHT_AND_QUEEN),
+        (LONE_KNIGHT_LEFT, KNIGHT_AND_QUEENS),
+    ] {
+        let position = place(root)?;
+        let left = place(left)?;
+        assert!(rt; static_verdict(alloc, &left, Color::White)?.is_none());
+        let mut shard = Shard::new(alloc, 16)?;
+        let closed = explored(alloc, &position, 1, &mut shard)?;
+        let second = second_node(alloc, &position, &closed)?;
+        assert!(rt; same_position(&second.position, &left));
+        match &second.part {
+            Part::Small => assert!(rt; small_verdict(&left, Color::White)),
+            Part::Lone => assert!(rt; !small_verdict(&left, Color::White)),
+            _ => Err("another leaf")?,
+        }
+    }
     Ok(())
 }
 
@@ -149,6 +189,7 @@ fn a_table_is_asked_too(rt: HostRuntime) -> Result<(), Fail> {
     let (table, mut pass) = Table::new(alloc, 1024)?;
     begins(alloc, &position)?;
     let closed = explore(&rt, alloc, &position, Color::White, 1, &table, &mut pass)?;
-    assert!(rt; is_two_nodes(alloc, &position, &closed)?);
+    let second = second_node(alloc, &position, &closed)?;
+    assert!(rt; same_position(&second.position, &place(BARE_KING)?));
     Ok(())
 }

@@ -3,8 +3,8 @@ use Rattle.std.proofs.Common.{rules, ◌-◌, ◌+◌, drop, ◌∙◌, sym, ap,
 use Rattle.cert_text.specs.Lines.{lines_of, tail_of}
 use Rattle.cert_text.specs.Texts.{nodes_after}
 use Rattle.cert_text.specs.Agreeing.{Agrees, seen}
-use Rattle.cert_text.specs.Spelled.{HasNoSmall}
-use Rattle.cert_text.proofs.Going.{node_goes, node_first, nodes_done, no_small_more}
+use Rattle.cert_text.specs.Spelled.{AreInnerOrLeaves}
+use Rattle.cert_text.proofs.Going.{node_goes, node_first, nodes_done, inner_or_leaf_more}
 use Rattle.cert_text.proofs.bodies.nodes.Goals as goal
 
 pub returns-in_err-node-clause-said : goal.returns-in_err-node-clause-said
@@ -22,7 +22,7 @@ loop-read-preserved c =
     node_goes (tail_of (drop c.loop-read.left.at bytes)) (tail_of (drop c.args.left.at bytes)) _ c.loop-read.cert c.in_ok-node.node (c.args.count - (c.loop-read._read + 1)) (c.args.count - c.loop-read._read) c.loop-read.left.number c.in_ok-node.rest.number _ _
     c.loop-read.invariant.tail (omega arith) c.loop-read.invariant.said c.in_ok-node.ensures.said in
     record {
-      no_small = subst HasNoSmall (sym c.in_ok-push.ensures.ok) (no_small_more c.loop-read.cert c.in_ok-node.node c.loop-read.invariant.no_small c.in_ok-node.ensures.no_small);
+      inner_or_leaf = subst AreInnerOrLeaves (sym c.in_ok-push.ensures.ok) (inner_or_leaf_more c.loop-read.cert c.in_ok-node.node c.loop-read.invariant.inner_or_leaf c.in_ok-node.ensures.inner_or_leaf);
       inside = c.in_ok-node.ensures.inside;
       tail = c.in_ok-node.ensures.tail ∙ c.loop-read.invariant.tail;
       said = goes ∙ ap (λ ns. nodes_after (tail_of (drop c.args.left.at bytes)) (c.args.count - (c.loop-read._read + 1)) ns c.in_ok-node.rest.number (lines_of (drop c.in_ok-node.rest.at bytes))) (sym c.in_ok-push.ensures.ok);

@@ -1,13 +1,13 @@
 use Rattle.std.proofs.Common.{◌≡◌, ◌-◌, ◌≤◌, [], length, drop}
 use Rattle.cert_text.specs.Lines.{lines_of, tail_of}
-use Rattle.cert_text.specs.Spelled.{HasNoSmall}
+use Rattle.cert_text.specs.Spelled.{AreInnerOrLeaves}
 use Rattle.cert_text.specs.Texts.{nodes_after}
 use Rattle.cert_text.proofs.bodies.nodes.Given as goal
 
 -- the nodes so far, and what is left, give what the whole gives
 abbrev pub invariant-loop-read : goal.invariant-loop-read
 invariant-loop-read l = record {
-  no_small : HasNoSmall l.cert;
+  inner_or_leaf : AreInnerOrLeaves l.cert;
   inside : l.left.at ≤ length l.bytes;
   tail : tail_of (drop l.left.at l.bytes) ≡ tail_of (drop l.initial.left.at l.bytes);
   said :

@@ -1,16 +1,19 @@
--- Certificates of one node.
+-- Certificates of one node, and what is shown without a search.
 use Rattle.std.proofs.Common.{◌≡◌, zero, suc, List, [], ◌∷◌, sym, subst, refl, arith}
 use Rattle.std.specs.List.{All}
 use Rattle.cha_board.specs.declared.men.Color.{Color}
 use Rattle.cha_board.specs.Board.{Board, IsValid}
 use Rattle.mob_law.specs.Closed.{IsClosed}
+use Rattle.mob_law.specs.Static.{IsStaticallyUnwinnable}
 use Rattle.mob_law.specs.Threats.{HasNoMate}
 use Rattle.mob_sets.specs.Rows.{SetRows, sets_of}
 use Rattle.cha_cert.specs.declared.nodes.Node.{Node}
 use Rattle.cha_cert.specs.declared.nodes.Part.{Part}
-use Rattle.cha_cert.specs.declared.nodes.Part.TheVariants.{Leaf, Small}
+use Rattle.cha_cert.specs.declared.nodes.Part.TheVariants.{Leaf, Small, Lone}
 use Rattle.cha_cert.specs.Certificates.{AllValid, PartHolds, NodeHolds, IsValidCert}
 use Rattle.mob_small.specs.Small.{IsSmallUnwinnable}
+use Rattle.mob_lone.specs.Lone.{IsLoneUnwinnable}
+use Rattle.cha_verdict.specs.AtOnce.{IsShownAtOnce, BySets, BySmallMaterial, ByLoneMen}
 
 module _ (q : Board) (w : Color) (part : Part) (valid : IsValid q) where
   abbrev pub node : Node
@@ -37,3 +40,17 @@ leaf_is_valid q w sets valid closed no_mate cert is = node_is_valid q w (Leaf se
 -- small material with which the side cannot mate
 pub small_is_valid : (q : Board) (w : Color) → IsValid q → IsSmallUnwinnable q w → (cert : List Node) → cert ≡ record { position = q; part = Small } ∷ [] → IsValidCert q w cert
 small_is_valid q w valid small cert is = node_is_valid q w Small valid small cert is
+
+-- lone minor men with which the side cannot mate
+pub lone_is_valid : (q : Board) (w : Color) → IsValid q → IsLoneUnwinnable q w → (cert : List Node) → cert ≡ record { position = q; part = Lone } ∷ [] → IsValidCert q w cert
+lone_is_valid q w valid lone cert is = node_is_valid q w Lone valid lone cert is
+
+-- what neither sets show nor the men
+pub not_at_once : (q : Board) (w : Color) → (IsStaticallyUnwinnable q w → ⊥) → (IsSmallUnwinnable q w → ⊥) × (IsLoneUnwinnable q w → ⊥) → IsShownAtOnce q w → ⊥
+not_at_once q w static material (BySets shown) = static shown
+not_at_once q w static material (BySmallMaterial shown) = material.0 shown
+not_at_once q w static material (ByLoneMen shown) = material.1 shown
+
+-- what is not shown without a search is not shown by sets
+pub no_sets : (q : Board) (w : Color) → (IsShownAtOnce q w → ⊥) → IsStaticallyUnwinnable q w → ⊥
+no_sets q w unshown static = unshown (BySets static)

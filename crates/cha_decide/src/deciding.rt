@@ -21,8 +21,9 @@ use std::alloc::Global;
 /// ends so (Laws of Chess, Articles 5.2.2 and 6.9): where closed mobility sets exist in which no mate can arise, or where all
 /// positions that can be reached were explored. It is `Undecided` where the whole budget of positions was spent.
 ///
-/// Whatever the search does, a side that is examined is winnable where a mate within two plies exists, unwinnable where it is
-/// statically unwinnable, and never undecided where fewer distinct positions than the budget can be reached (this project).
+/// Whatever the search does, a side that is examined is winnable where a mate within two plies exists, unwinnable where
+/// mobility sets, small material or lone minor men show it, and never undecided where fewer distinct positions than the budget
+/// can be reached (this project).
 /// The only error is want of memory.
 pub fn decide_by<C: Crew>(
     alloc: Global,

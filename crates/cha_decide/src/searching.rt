@@ -4,7 +4,7 @@ ghost use Rattle.std.specs.Prelude.{◌≡◌, ◌≤◌, ◌⊎◌, IfOk, IfSom
 ghost use Rattle.cha_board.specs.Men.{other_color};
 ghost use Rattle.cha_moves.specs.Ends.{IsMatingLine, IsMated, HasNoMateWithin};
 ghost use Rattle.cha_moves.specs.Lines.{HasLines};
-ghost use Rattle.mob_law.specs.Static.{IsStaticallyUnwinnable};
+ghost use Rattle.cha_verdict.specs.AtOnce.{IsShownAtOnce};
 ghost use Rattle.cha_verdict.specs.Sound.{IsUndecided};
 ghost use Rattle.cha_decide.specs.Shown.{IsFound, AskedFor, MadeSome};
 
@@ -83,6 +83,7 @@ fn hunted_last(
 }
 
 /// The verdict of the exploration of a position on a side that has no mate within so many plies.
+#[tactic(auto, using(crate::proofs::Leaves::no_sets))]
 fn explored<F: Facts>(
     alloc: Global,
     position: &Position,
@@ -93,7 +94,7 @@ fn explored<F: Facts>(
 ) -> Result<Verdict, NoMemory>
     requires ready { F.ready facts.old }
     requires unmated { IsMated position.now (other_color winner) → ⊥ }
-    requires unshown { IsStaticallyUnwinnable position.now winner → ⊥ }
+    requires unshown { IsShownAtOnce position.now winner → ⊥ }
     requires none { HasNoMateWithin position.now winner depth }
     requires deep { 2 ≤ depth }
     requires searched { (depth ≡ limits.now.depth) ⊎ HasLines position.now depth limits.now.budget }
@@ -119,7 +120,7 @@ fn deepened<C: Crew>(
 ) -> Result<Verdict, NoMemory>
     requires ready { C.ready crew.old }
     requires unmated { IsMated position.now (other_color winner) → ⊥ }
-    requires unshown { IsStaticallyUnwinnable position.now winner → ⊥ }
+    requires unshown { IsShownAtOnce position.now winner → ⊥ }
     ensures stays_ready { C.ready crew.new }
     ensures found { IfOk result (IsFound position.now winner limits.now) }
     ensures calls { MadeSome C.made crew.old crew.new }
@@ -130,7 +131,7 @@ fn deepened<C: Crew>(
     }
 }
 
-/// The verdict of the searches on a side that has not mated, and that no mobility sets show unable to mate: a round of two
+/// The verdict of the searches on a side that has not mated, and that is not shown unable to mate without one: a round of two
 /// plies, which starts no thread, hunts, the rounds of the limits, and the exploration.
 pub fn searched<C: Crew>(
     alloc: Global,
@@ -142,7 +143,7 @@ pub fn searched<C: Crew>(
 ) -> Result<Verdict, NoMemory>
     requires ready { C.ready crew.old }
     requires unmated { IsMated position.now (other_color winner) → ⊥ }
-    requires unshown { IsStaticallyUnwinnable position.now winner → ⊥ }
+    requires unshown { IsShownAtOnce position.now winner → ⊥ }
     ensures stays_ready { C.ready crew.new }
     ensures found { IfOk result (IsFound position.now winner limits.now) }
     ensures calls { AskedFor C.made crew.old crew.new position.now winner result }

@@ -7,12 +7,16 @@ ghost use Rattle.mob_law.specs.Static.{IsStaticallyUnwinnable};
 ghost use Rattle.mob_law.specs.Threats.{HasNoMate};
 ghost use Rattle.mob_sets.specs.Rows.{sets_of};
 ghost use Rattle.mob_small.specs.Small.{IsSmallUnwinnable};
+ghost use Rattle.mob_lone.specs.Lone.{IsLoneUnwinnable};
+ghost use Rattle.cha_verdict.specs.AtOnce.{IsShownAtOnce};
 ghost use Rattle.cha_decide.specs.Shown.{IsShownUnwinnable};
 
 use cha_board::{Color, Position};
 use cha_cert::{Cert, Checked, Node, Part, check};
 use cha_list::NoMemory;
+use mob_lone::lone_verdict;
 use mob_sets::Sets;
+use mob_small::small_verdict;
 use mob_solve::static_verdict;
 use std::alloc::Global;
 
@@ -49,12 +53,23 @@ fn certified(
 
 /// The certificate that a side cannot mate, of the position alone, which has small material. The check of certificates has
 /// accepted it.
-pub fn certified_small(alloc: Global, position: &Position, winner: Color) -> Result<Cert, NoMemory>
+fn certified_small(alloc: Global, position: &Position, winner: Color) -> Result<Cert, NoMemory>
     requires { IsSmallUnwinnable position.now winner }
     ensures { IfOk result (λ cert. IsShownUnwinnable position.now winner cert) }
 {
     position.known();
     let cert = single(alloc, position, Part::Small)?;
+    checked(alloc, position, winner, cert)
+}
+
+/// The certificate that a side cannot mate, of the position alone, which has lone minor men. The check of certificates has
+/// accepted it.
+fn certified_lone(alloc: Global, position: &Position, winner: Color) -> Result<Cert, NoMemory>
+    requires { IsLoneUnwinnable position.now winner }
+    ensures { IfOk result (λ cert. IsShownUnwinnable position.now winner cert) }
+{
+    position.known();
+    let cert = single(alloc, position, Part::Lone)?;
     checked(alloc, position, winner, cert)
 }
 
@@ -76,7 +91,7 @@ pub fn checked(
 }
 
 /// The static verdict with its certificate: closed mobility sets in which no mate by the side can arise, if there are any.
-pub fn shown_unwinnable(
+fn shown_by_sets(
     alloc: Global,
     position: &Position,
     winner: Color,
@@ -86,5 +101,41 @@ pub fn shown_unwinnable(
     match static_verdict(alloc, position, winner)? {
         Some(sets) => Ok(Some(certified(alloc, position, winner, sets)?)),
         None => Ok(None),
+    }
+}
+
+/// The verdicts of small material and of lone minor men with their certificate, of the position alone, if either shows that the
+/// side cannot mate.
+fn shown_by_material(
+    alloc: Global,
+    position: &Position,
+    winner: Color,
+) -> Result<Option<Cert>, NoMemory>
+    ensures { IfOk result (λ found. MatchOption found ((IsSmallUnwinnable position.now winner → ⊥) × (IsLoneUnwinnable position.now winner → ⊥)) (λ cert. IsShownUnwinnable position.now winner cert)) }
+{
+    if small_verdict(position, winner) {
+        return Ok(Some(certified_small(alloc, position, winner)?));
+    }
+    if lone_verdict(position, winner) {
+        return Ok(Some(certified_lone(alloc, position, winner)?));
+    }
+    Ok(None)
+}
+
+/// The certificate that a side cannot mate, where that is shown without a search: by closed mobility sets, or by the men alone.
+#[tactic(auto, using(crate::proofs::Leaves::not_at_once))]
+pub fn shown_at_once(
+    alloc: Global,
+    position: &Position,
+    winner: Color,
+) -> Result<Option<Cert>, NoMemory>
+    ensures { IfOk result (λ found. MatchOption found (IsShownAtOnce position.now winner → ⊥) (λ cert. IsShownUnwinnable position.now winner cert)) }
+{
+    match shown_by_sets(alloc, position, winner)? {
+        Some(cert) => Ok(Some(cert)),
+        None => match shown_by_material(alloc, position, winner)? {
+            Some(cert) => Ok(Some(cert)),
+            None => Ok(None),
+        },
     }
 }

@@ -4,16 +4,16 @@ ghost use Rattle.std.specs.Prelude.{IfOk};
 ghost use Rattle.cha_decide.specs.Shown.{IsFound, AskedFor};
 
 use crate::searching::searched;
-use crate::showing::{certified_small, shown_unwinnable};
+use crate::showing::shown_at_once;
 use cha_board::{Color, Position};
 use cha_list::NoMemory;
 use cha_moves::{Moves, is_mate};
 use cha_verdict::{Limits, Verdict};
-use mob_small::small_verdict;
 use root_workers::{Crew, Gate};
 use std::alloc::Global;
 
-/// The verdict on a side: a mate on the board, then the static verdict, then that of small material, then the searches.
+/// The verdict on a side: a mate on the board, then the static verdict, then those of small material and of lone minor men, then
+/// the searches.
 pub fn examine<C: Crew>(
     alloc: Global,
     position: &Position,
@@ -30,14 +30,8 @@ pub fn examine<C: Crew>(
     if is_mate(position, winner) {
         return Ok(Verdict::Winnable(Moves::new(alloc)));
     }
-    match shown_unwinnable(alloc, position, winner)? {
+    match shown_at_once(alloc, position, winner)? {
         Some(cert) => Ok(Verdict::Unwinnable(cert)),
-        None => {
-            if small_verdict(position, winner) {
-                let cert = certified_small(alloc, position, winner)?;
-                return Ok(Verdict::Unwinnable(cert));
-            }
-            searched(alloc, position, winner, limits, crew, gate)
-        }
+        None => searched(alloc, position, winner, limits, crew, gate),
     }
 }

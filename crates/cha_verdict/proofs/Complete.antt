@@ -3,18 +3,26 @@ use Rattle.std.proofs.Common.{◌≡◌, ℕ, ◌≤◌, true, false, List, leng
 use Rattle.cha_board.specs.declared.men.Color.{Color}
 use Rattle.cha_board.specs.Board.{Board, IsValid}
 use Rattle.cha_moves.specs.Step.{Move}
-use Rattle.cha_moves.specs.Ends.{IsMatingLine}
+use Rattle.cha_moves.specs.Ends.{IsMatingLine, IsUnwinnable}
 use Rattle.cha_moves.specs.Lines.{HasPositions}
-use Rattle.mob_law.specs.Static.{IsStaticallyUnwinnable}
 use Rattle.mob_law.proofs.Exploring.{explored_positions}
 use Rattle.mob_law.proofs.Law.{static_bounded}
+use Rattle.mob_small.proofs.Keeping.{small_bounded}
+use Rattle.mob_lone.proofs.Keeping.{lone_bounded}
 use Rattle.cha_cert.proofs.Bounded.{valid_is_unwinnable}
 use Rattle.cha_verdict.specs.declared.verdicts.Verdict.{Verdict}
 use Rattle.cha_verdict.specs.declared.verdicts.Verdict.TheVariants.{Winnable, Unwinnable, Undecided, Skipped}
 use Rattle.cha_verdict.specs.declared.decisions.Decision.{Decision}
+use Rattle.cha_verdict.specs.AtOnce.{IsShownAtOnce, BySets, BySmallMaterial, ByLoneMen}
 use Rattle.cha_verdict.specs.Bounds.{Bounds}
 use Rattle.cha_verdict.specs.Verdicts.{is_winnable, is_unwinnable, is_undecided, is_skipped}
 use Rattle.cha_verdict.specs.Sound.{IsTrueOf, IsSound, IsComplete, verdict_on}
+
+-- what is shown without a search holds
+at_once_bounded : (q : Board) (w : Color) → IsValid q → IsShownAtOnce q w → IsUnwinnable q w
+at_once_bounded q w valid (BySets static) = static_bounded q w valid static
+at_once_bounded q w valid (BySmallMaterial small) = small_bounded q w valid small
+at_once_bounded q w valid (ByLoneMen lone) = lone_bounded q w valid lone
 
 module _ (q : Board) (w : Color) (limits : Bounds) where
   -- a side that is examined is winnable where a mate within two plies exists
@@ -24,12 +32,12 @@ module _ (q : Board) (w : Color) (limits : Bounds) where
   mate_found (Undecided units depth) h examined ms few line = let deep = h.deep in absurd (h.none ms (omega (arith, deep, few)) line)
   mate_found Skipped h examined ms few line = cc
 
-  -- and unwinnable where closed sets show it
-  static_found : (v : Verdict) → IsTrueOf q w limits v → IsValid q → is_skipped v ≡ false → IsStaticallyUnwinnable q w → is_unwinnable v ≡ true
-  static_found (Winnable moves) h valid examined static = absurd (static_bounded q w valid static moves h)
-  static_found (Unwinnable cert) h valid examined static = refl
-  static_found (Undecided units depth) h valid examined static = absurd (h.explored.unshown static)
-  static_found Skipped h valid examined static = cc
+  -- and unwinnable where that is shown without a search
+  shown_found : (v : Verdict) → IsTrueOf q w limits v → IsValid q → is_skipped v ≡ false → IsShownAtOnce q w → is_unwinnable v ≡ true
+  shown_found (Winnable moves) h valid examined shown = absurd (at_once_bounded q w valid shown moves h)
+  shown_found (Unwinnable cert) h valid examined shown = refl
+  shown_found (Undecided units depth) h valid examined shown = absurd (h.unshown shown)
+  shown_found Skipped h valid examined shown = cc
 
   -- and undecided only where many positions can be reached
   many_reached : (v : Verdict) → IsTrueOf q w limits v → is_undecided v ≡ true → HasPositions q limits.budget
@@ -41,6 +49,6 @@ module _ (q : Board) (w : Color) (limits : Bounds) where
 pub complete : (q : Board) (first : Color) (limits : Bounds) (d : Decision) → IsValid q → IsSound q first limits d → (w : Color) → IsComplete q w limits (verdict_on d w)
 complete q first limits d valid sound w = record {
   finds_mates = λ ms examined few line. mate_found q w limits (verdict_on d w) (sound.true_of w) examined ms few line;
-  finds_unwinnable = λ examined static. static_found q w limits (verdict_on d w) (sound.true_of w) valid examined static;
+  finds_unwinnable = λ examined shown. shown_found q w limits (verdict_on d w) (sound.true_of w) valid examined shown;
   undecided = λ is. many_reached q w limits (verdict_on d w) (sound.true_of w) is;
 }

@@ -1,5 +1,5 @@
 -- What a sound scan of the positions of a game shows.
-use Rattle.std.proofs.Common.{◌≡◌, ℕ, zero, suc, ◌+◌, ◌-◌, ◌<◌, ◌≤◌, ◌||◌, Bool, true, false, List, [], ◌∷◌, length, Option, Some, None, slice_get, refl, sym, ◌∙◌, subst, ap, arith}
+use Rattle.std.proofs.Common.{◌≡◌, ℕ, zero, suc, ◌-◌, ◌<◌, ◌≤◌, ◌||◌, Bool, true, false, List, [], ◌∷◌, length, Option, Some, None, slice_get, refl, subst, arith}
 use Rattle.cha_board.specs.declared.men.Color.{Color}
 use Rattle.cha_board.specs.declared.men.Color.TheVariants.{White, Black}
 use Rattle.cha_board.specs.Board.{Board}
@@ -17,7 +17,7 @@ use Rattle.cha_verdict.specs.declared.scans.Scan.{Scan}
 use Rattle.cha_verdict.specs.Bounds.{Bounds}
 use Rattle.cha_verdict.specs.Verdicts.{is_winnable}
 use Rattle.cha_verdict.specs.Sound.{IsTrueOf, IsSound}
-use Rattle.cha_verdict.specs.Scans.{AreValidCerts, IsEarlier, IsOpenEdge, HasEdge, IsSoundScan, ShowsDead}
+use Rattle.cha_verdict.specs.Scans.{AreValidCerts, IsEarlier, HasEdge, IsSoundScan, ShowsDead}
 
 -- certificates for both sides
 certified : (q : Board) (certs : EarlierCerts) → AreValidCerts q certs → IsDead q

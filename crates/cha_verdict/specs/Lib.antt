@@ -1,3 +1,4 @@
+pub mod AtOnce
 pub mod Bounds
 pub mod Verdicts
 pub mod Sound

@@ -10,8 +10,8 @@ ghost use Rattle.cha_verdict.specs.Bounds.{Bounds};
 ghost use Rattle.cha_verdict.specs.Sound.{IsSound, IsComplete, verdict_on};
 ghost use Rattle.cha_verdict.specs.Scans.{IsSoundScan, ShowsDead};
 
-/// The law: true verdicts miss no mate within two plies and no side that is statically unwinnable, and leave undecided only
-/// positions from which at least as many distinct ones as the budget can be reached.
+/// The law: true verdicts miss no mate within two plies and no side that is shown unable to mate without a search, and leave
+/// undecided only positions from which at least as many distinct ones as the budget can be reached.
 pub fn sound_is_complete()
     ensures { (q : Board) (first : Color) (limits : Bounds) (d : Decision) → IsValid q → IsSound q first limits d → (winner : Color) → IsComplete q winner limits (verdict_on d winner) }
 {}

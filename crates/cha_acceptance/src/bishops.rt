@@ -16,7 +16,7 @@ pub const ONE_COLOUR: [Row; 7] = [
 ];
 
 /// Bishops of both colours, or a man that may stand in its own king's way.
-pub const MORE: [Row; 9] = [
+pub const MORE: [Row; 11] = [
     // Two bishops of different colours mate in a corner.
     ("8/8/8/4k3/8/8/8/2B1KB2 w - -", Wins),
     // King a8, bishop b8, against king b6 and a bishop on the long diagonal.
@@ -29,9 +29,12 @@ pub const MORE: [Row; 9] = [
     ("8/8/3p4/4k3/8/8/8/4KB2 w - -", Wins),
     // Two light bishops and a knight against them: both mates above.
     ("8/8/3n4/4k3/8/3B4/8/4KB2 w - -", Wins),
-    // A rook beside its king can always step between, so the bishop never mates. The sets do not see that,
-    // but small material does.
+    // A rook beside its king can always take the bishop or step between, so the bishop never mates.
     ("8/8/3r4/4k3/8/8/8/4KB2 w - -", BlackWins),
     // A queen too.
     ("8/8/3q4/4k3/8/8/8/4KB2 w - -", BlackWins),
+    // And several of them, against several bishops, where all bishops stand on light squares.
+    ("8/8/2rqb3/4k3/8/3B4/8/4KB2 w - -", BlackWins),
+    // A dark bishop stands on b8 while the light one mates.
+    ("kb5q/8/1K6/8/8/8/8/5B2 w - -", White("1: f1g2")),
 ];

@@ -16,7 +16,7 @@ end
 ";
 
 /// Certificates that are accepted, with the winner.
-pub const ACCEPTED: [Row; 12] = [
+pub const ACCEPTED: [Row; 14] = [
     (FORCED, "accepted w\n"),
     // Two bare kings, for either side.
     (
@@ -56,6 +56,11 @@ pub const ACCEPTED: [Row; 12] = [
         "cha-cert 1\nwinner w\nnodes 2\ninner 7k/5Q2/6K1/8/8/8/8/8 b - -\nleaf 4k3/8/8/8/8/8/8/4K3 w - -\nloose 1000000000000010\nreach e1 K ffffffffffffffff\nreach e8 K ffffffffffffffff\nend\n",
         "accepted w\n",
     ),
+    // The lost queen, with its leaf twice.
+    (
+        "cha-cert 1\nwinner w\nnodes 3\ninner k7/1Q6/8/8/8/8/8/4K3 b - -\nleaf 8/1k6/8/8/8/8/8/4K3 w - -\nloose 0002000000000010\nreach e1 K ffffffffffffffff\nreach b7 K ffffffffffffffff\nleaf 8/1k6/8/8/8/8/8/4K3 w - -\nloose 0002000000000010\nreach e1 K ffffffffffffffff\nreach b7 K ffffffffffffffff\nend\n",
+        "accepted w\n",
+    ),
     // Version 2: the sets first, a leaf with their number, small material, and sets that no leaf names.
     (
         "cha-cert 2\nwinner w\nsets 1\nloose 1000000000000010\nreach e1 K ffffffffffffffff\nreach e8 K ffffffffffffffff\nnodes 1\nleaf 0 4k3/8/8/8/8/8/8/4K3 w - -\nend\n",
@@ -65,6 +70,11 @@ pub const ACCEPTED: [Row; 12] = [
         "cha-cert 2\nwinner w\nsets 0\nnodes 1\nsmall 8/8/8/4k3/3q4/8/8/4KN2 w - -\nend\n",
         "accepted w\n",
     ),
+    // Lone minor men.
+    (
+        "cha-cert 2\nwinner w\nsets 0\nnodes 1\nlone 8/8/8/4k3/3q4/7q/8/4KN2 w - -\nend\n",
+        "accepted w\n",
+    ),
     (
         "cha-cert 2\nwinner w\nsets 1\nloose 0000000000000000\nnodes 1\ninner 7k/5Q2/6K1/8/8/8/8/8 b - -\nend\n",
         "accepted w\n",
@@ -72,7 +82,7 @@ pub const ACCEPTED: [Row; 12] = [
 ];
 
 /// Certificates that are refused, with the node or the line.
-pub const REFUSED: [Row; 37] = [
+pub const REFUSED: [Row; 42] = [
     // The capture leads to no node.
     (
         "cha-cert 1\nwinner w\nnodes 1\ninner k7/1Q6/8/8/8/8/8/4K3 b - -\nend\n",
@@ -204,9 +214,30 @@ pub const REFUSED: [Row; 37] = [
         "cha-cert 2\nwinner w\nsets 0\nnodes 1\nsmall 4k3/8/8/8/8/8/4P3/4K3 w - -\nend\n",
         "refused: node 0\n",
     ),
-    // Version 1 has no line for small material.
+    // A pawn beside lone men, bishops of both colours, and a rook beside a lone knight.
+    (
+        "cha-cert 2\nwinner w\nsets 0\nnodes 1\nlone 8/8/8/4k3/3q4/7q/7p/4KN2 w - -\nend\n",
+        "refused: node 0\n",
+    ),
+    (
+        "cha-cert 2\nwinner w\nsets 0\nnodes 1\nlone 8/8/3b4/4k3/3q4/8/8/4KB2 w - -\nend\n",
+        "refused: node 0\n",
+    ),
+    (
+        "cha-cert 2\nwinner w\nsets 0\nnodes 1\nlone 8/8/8/4k3/3q4/7r/8/4KN2 w - -\nend\n",
+        "refused: node 0\n",
+    ),
+    // Version 1 has no lines for small material and lone minor men.
     (
         "cha-cert 1\nwinner w\nnodes 1\nsmall 8/8/8/4k3/3q4/8/8/4KN2 w - -\nend\n",
         "refused: line 4 node\n",
+    ),
+    (
+        "cha-cert 1\nwinner w\nnodes 1\nlone 8/8/8/4k3/3q4/7q/8/4KN2 w - -\nend\n",
+        "refused: line 4 node\n",
+    ),
+    (
+        "cha-cert 2\nwinner w\nsets 0\nnodes 1\nlone 8/8/8/4k3/3q4/7q/8/4KN2 w - - 0 1\nend\n",
+        "refused: line 5 node\n",
     ),
 ];

@@ -103,16 +103,47 @@ fn any_failing_read_ends_the_run(rt: HostRuntime) -> Result<(), Fail> {
     Ok(())
 }
 
+/// The game is settled with the byte behind its last token.
+#[test]
+fn no_block_comes_before_its_game_is_settled(rt: HostRuntime) -> Result<(), Fail> {
+    for call in 1..26 {
+        let alloc = rt.alloc();
+        let mut source = Pieces::new(
+            GAME.as_bytes().to_vec(alloc)?,
+            Vec::new(alloc),
+            [call].to_vec(alloc)?,
+        );
+        let found = run_over(&rt, alloc, "adjudicate", &mut source, 4096, Vec::new(alloc))?;
+        let written = if call <= 24 { "" } else { BLOCK };
+        assert_eq!(rt; found.text(), written, "call {call}");
+        assert_eq!(rt; found.status, Status::ReadFault, "call {call}");
+    }
+    Ok(())
+}
+
+/// Words, input and the whole output.
+const WHOLE: [(&str, &str, &str); 2] = [
+    ("position", LINES, REPORT),
+    (
+        "adjudicate",
+        GAME,
+        "game 1\nfen: rnb1kbnr/pppp1ppp/8/4p3/6Pq/5P2/PPPPP2P/RNBQKBNR w KQkq -\nwhite: skipped\nblack: winnable in 0\nstatus: checkmate\nresult: 0-1 -> 0-1 by 5.1.1\ngames: 1, unreadable: 0, changed: 0, undecided: 0\n",
+    ),
+];
+
 #[test]
 fn a_full_sink_ends_the_run(rt: HostRuntime) -> Result<(), Fail> {
-    for room in 0..=REPORT.len() {
-        let alloc = rt.alloc();
-        let mut source = Bytes::new(LINES.as_bytes().to_vec(alloc)?);
-        let none = Vec::new(alloc);
-        let found = run_over(&rt, alloc, "position", &mut source, room as u32, none)?;
-        assert_eq!(rt; found.written.as_slice(), &REPORT.as_bytes()[..room]);
-        assert_eq!(rt; found.status == Status::Done, room == REPORT.len());
-        assert_eq!(rt; found.status == Status::WriteFault, room < REPORT.len());
+    for (words, input, whole) in WHOLE {
+        for room in 0..=300u32 {
+            let alloc = rt.alloc();
+            let mut source = Bytes::new(input.as_bytes().to_vec(alloc)?);
+            let none = Vec::new(alloc);
+            let found = run_over(&rt, alloc, words, &mut source, room, none)?;
+            let fits = whole.len().min(room as usize);
+            assert_eq!(rt; found.written.as_slice(), &whole.as_bytes()[..fits]);
+            assert_eq!(rt; found.status == Status::Done, fits == whole.len());
+            assert_eq!(rt; found.status == Status::WriteFault, fits < whole.len());
+        }
     }
     Ok(())
 }

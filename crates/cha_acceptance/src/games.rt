@@ -3,11 +3,11 @@
 use crate::tables::Row;
 
 /// A game as a server writes it, with clocks, annotations and variations.
-const SERVER_GAME: &str =
+pub const SERVER_GAME: &str =
     "[Event \"Rated Blitz game\"]\n[Site \"https://example.org/abcd1234\"]\n[White \"anna\"]\n[Black \"ben\"]\n[Result \"1-0\"]\n[Variant \"Standard\"]\n[TimeControl \"180+0\"]\n[Termination \"Time forfeit\"]\n\n1. e4 { [%clk 0:03:00] } 1... e5 { [%clk 0:03:00] } 2. Qh5!? $5 Nc6\n(2... g6 3. Qxe5+ (3. Qd1)) 3. Bc4 1-0\n";
 
 /// Inputs of `adjudicate` with the whole output.
-pub const ROWS: [Row; 22] = [
+pub const ROWS: [Row; 23] = [
     ("", "games: 0, unreadable: 0, changed: 0, undecided: 0\n"),
     (
         "[FEN \"4k3/8/8/8/8/8/8/4K3 w - -\"]\n*",
@@ -71,6 +71,10 @@ pub const ROWS: [Row; 22] = [
         "game 1\nunreadable: bad FEN: opponent in check\ngames: 1, unreadable: 1, changed: 0, undecided: 0\n",
     ),
     (
+        "[Event \"Rated",
+        "game 1\nunreadable: bad token at byte 0\ngames: 1, unreadable: 1, changed: 0, undecided: 0\n",
+    ),
+    (
         "1. e4 ] *",
         "game 1\nunreadable: bad token at byte 6\ngames: 1, unreadable: 1, changed: 0, undecided: 0\n",
     ),
@@ -101,19 +105,19 @@ pub const ROWS: [Row; 22] = [
     ),
 ];
 
-/// Inputs of `adjudicate --budget 500 --depth 2` with the whole output.
+/// Inputs of `adjudicate --budget 1 --depth 2` with the whole output.
 pub const SHORT_ROWS: [Row; 3] = [
-    // Behind this wall Black never mates, and White is not shown to.
+    // Black's king alone never mates, and one position does not show White's mate.
     (
-        "[FEN \"4kb2/7B/8/p1p1p1p1/P1P1P1P1/8/8/4K3 w - -\"]\n[Termination \"time forfeit\"]\n\n0-1",
-        "game 1\nfen: 4kb2/7B/8/p1p1p1p1/P1P1P1P1/8/8/4K3 w - -\nwhite: undecided after 500 positions, depth 2\nblack: unwinnable\nstatus: unclear\nresult: 0-1 -> 1/2-1/2 by 6.9\ngames: 1, unreadable: 0, changed: 1, undecided: 1\n",
+        "[FEN \"8/8/8/4k3/8/8/8/4KR2 w - -\"]\n[Termination \"time forfeit\"]\n\n0-1",
+        "game 1\nfen: 8/8/8/4k3/8/8/8/4KR2 w - -\nwhite: undecided after 1 positions, depth 2\nblack: unwinnable\nstatus: unclear\nresult: 0-1 -> 1/2-1/2 by 6.9\ngames: 1, unreadable: 0, changed: 1, undecided: 1\n",
     ),
     (
-        "[FEN \"4kb2/7B/8/p1p1p1p1/P1P1P1P1/8/8/4K3 w - -\"]\n[Termination \"normal\"]\n\n0-1",
-        "game 1\nfen: 4kb2/7B/8/p1p1p1p1/P1P1P1P1/8/8/4K3 w - -\nwhite: undecided after 500 positions, depth 2\nblack: unwinnable\nstatus: unclear\nresult: 0-1 -> 0-1 as recorded\ngames: 1, unreadable: 0, changed: 0, undecided: 1\n",
+        "[FEN \"8/8/8/4k3/8/8/8/4KR2 w - -\"]\n[Termination \"normal\"]\n\n0-1",
+        "game 1\nfen: 8/8/8/4k3/8/8/8/4KR2 w - -\nwhite: undecided after 1 positions, depth 2\nblack: unwinnable\nstatus: unclear\nresult: 0-1 -> 0-1 as recorded\ngames: 1, unreadable: 0, changed: 0, undecided: 1\n",
     ),
     (
-        "[FEN \"4kb2/7B/8/p1p1p1p1/P1P1P1P1/8/8/4K3 w - -\"]\n[Termination \"time forfeit\"]\n\n1-0",
-        "game 1\nfen: 4kb2/7B/8/p1p1p1p1/P1P1P1P1/8/8/4K3 w - -\nwhite: undecided after 500 positions, depth 2\nblack: unwinnable\nstatus: unclear\nresult: 1-0 -> 1-0 as recorded, winner undecided\ngames: 1, unreadable: 0, changed: 0, undecided: 1\n",
+        "[FEN \"8/8/8/4k3/8/8/8/4KR2 w - -\"]\n[Termination \"time forfeit\"]\n\n1-0",
+        "game 1\nfen: 8/8/8/4k3/8/8/8/4KR2 w - -\nwhite: undecided after 1 positions, depth 2\nblack: unwinnable\nstatus: unclear\nresult: 1-0 -> 1-0 as recorded, winner undecided\ngames: 1, unreadable: 0, changed: 0, undecided: 1\n",
     ),
 ];

@@ -1,6 +1,6 @@
 //! Knights, and other men without pawns.
 
-use crate::known::Known::{BareWhite, BlackWins, Dead, Unshown, White, Wins};
+use crate::known::Known::{BareWhite, BlackWins, Dead, White, Wins};
 use crate::known::Row;
 
 /// A lone knight against each kind of man.
@@ -17,10 +17,10 @@ pub const LONE: [Row; 11] = [
     ("8/8/3b4/4k3/8/8/8/4KN2 w - -", Wins),
     ("8/8/3r4/4k3/8/8/8/4KN2 w - -", Wins),
     ("6rk/8/7K/4N3/8/8/8/8 w - -", White("1: e5f7")),
-    // A queen beside its king always takes the knight that gives check. The sets do not look at that, but small material does;
-    // two queens are not small.
+    // A queen beside its king always takes the knight that gives check. The sets do not look at that, but small material does,
+    // and with two queens the knight is a lone one.
     ("8/8/8/4k3/3q4/8/8/4KN2 w - -", BlackWins),
-    ("8/8/1q1q4/4k3/8/8/8/4KN2 w - -", Unshown),
+    ("8/8/1q1q4/4k3/8/8/8/4KN2 w - -", BlackWins),
     ("8/8/8/8/4K3/3Q4/8/4kn2 b - -", Wins),
 ];
 

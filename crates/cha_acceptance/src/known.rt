@@ -1,9 +1,8 @@
 //! Positions with known verdicts, table by table.
 //!
 //! Where sets of squares exist that no legal move leaves and that no mate by a side fits into, the side is unwinnable. The sets
-//! let each man go wherever it could go alone, past all men that may ever move; so they know nothing of tempo, pins and captures
-//! that would answer a check. Where they show nothing, a line that mates is found for each side that has one here, and a few
-//! sides that never mate are left undecided by so small a budget.
+//! let each man go wherever it could go alone, past all men that may ever move; so they know nothing of tempo and pins, and little
+//! of captures that would answer a check. Where they show nothing, a line that mates is found for each side that has one here.
 
 use crate::running::run_on;
 use crate::{bishops, ends, knights, pawns, walls, walls_men};
@@ -21,12 +20,6 @@ pub enum Known {
     Wins,
     /// Black can mate, and White is unwinnable.
     BlackWins,
-    /// Black can mate, and White is left undecided.
-    Unshown,
-    /// Black is unwinnable, and White is left undecided.
-    OnlyWhite,
-    /// White is unwinnable, and Black is left undecided.
-    OnlyBlack,
     /// White mates by this many moves, which follow.
     White(&'static str),
     /// Black does, and White is unwinnable.
@@ -38,10 +31,8 @@ pub enum Known {
 /// A position and what is known of it.
 pub type Row = (&'static str, Known);
 
-/// What a search may spend here, and how a side is told that it leaves open.
+/// What a search may spend here.
 const WORDS: &str = "position --budget 3000 --depth 2";
-
-const OPEN: &str = "undecided after 3000 positions, depth 2";
 
 const NEVER: &str = "unwinnable";
 
@@ -85,9 +76,6 @@ fn findings_of(known: Known) -> (Said, Said, &'static str) {
         Known::Dead => ((NEVER, Some("")), (NEVER, Some("")), "dead"),
         Known::Wins => ((MATES, None), ("skipped", Some("")), "live"),
         Known::BlackWins => ((NEVER, Some("")), (MATES, None), "live"),
-        Known::Unshown => ((OPEN, Some("")), (MATES, None), "live"),
-        Known::OnlyWhite => ((OPEN, Some("")), (NEVER, Some("")), "unclear"),
-        Known::OnlyBlack => ((NEVER, Some("")), (OPEN, Some("")), "unclear"),
         Known::White(line) => ((MATES, Some(line)), ("skipped", Some("")), "live"),
         Known::BareWhite(line) => ((NEVER, Some("")), (MATES, Some(line)), "live"),
         Known::Ended(white, black, status) => ((white, Some("")), (black, Some("")), status),

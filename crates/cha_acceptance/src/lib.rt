@@ -2,7 +2,7 @@
 //! that FEN says.
 //!
 //! `running` makes one run. `tables` goes through tables of whole outputs: `positions`, `games`, `printed` and `checks`.
-//! `mates` has runs that list the shortest mates. `dead_from` has games that were dead from some ply on. `faults` has sources and
+//! `mates` has runs that list the shortest mates, those of `published` problems among them. `dead_from` has games that were dead from some ply on. `faults` has sources and
 //! sinks that fail. `known` goes through the tables of positions with known verdicts: `walls`,
 //! `walls_men`, `bishops`, `knights`, `pawns` and `ends`; `printed` checks what is printed of them. `closed_sets` and
 //! `mates_in_reach` put sets, which `written_sets` reads, to the checker; `least_sets` and `static_verdicts` have answers of
@@ -41,6 +41,8 @@ mod pawns;
 mod positions;
 #[cfg(test)]
 mod printed;
+#[cfg(test)]
+mod published;
 #[cfg(test)]
 mod running;
 #[cfg(test)]

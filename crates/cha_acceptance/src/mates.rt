@@ -1,5 +1,6 @@
 //! Whole runs that list the shortest mates.
 
+use crate::published::PUBLISHED;
 use crate::running::{run_on, words_of};
 use adjudicate::{Status, run_alone};
 use cha_outside::{Bytes, Kept};
@@ -63,6 +64,29 @@ fn shortest_mates_are_listed_without_a_thread(rt: HostRuntime) -> Result<(), Fai
         assert!(rt; sink.bytes() == output.as_bytes(), "{words}");
         assert_eq!(rt; status, Status::Done, "{words}");
     }
+    Ok(())
+}
+
+#[test]
+fn published_problems_have_their_published_solutions(rt: HostRuntime) -> Result<(), Fail> {
+    let alloc = rt.alloc();
+    let mut input = String::new(alloc);
+    let mut wanted = String::new(alloc);
+    for (fen, plies, solutions, _) in PUBLISHED {
+        input.push_str(fen)?;
+        input.push('\n')?;
+        let line = format!(in alloc; "plies: {plies}, lines: {solutions}\n")?;
+        wanted.push_str(line.as_str())?;
+    }
+    let found = run_on(&rt, alloc, "mates w --depth 6", input.as_str())?;
+    let mut counts = String::new(alloc);
+    for line in found.text().lines() {
+        if line.starts_with("plies: ") {
+            counts.push_str(line)?;
+            counts.push('\n')?;
+        }
+    }
+    assert_eq!(rt; counts.as_str(), wanted.as_str());
     Ok(())
 }
 

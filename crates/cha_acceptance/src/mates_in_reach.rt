@@ -7,7 +7,7 @@ use mob_check::no_mate;
 use std::test::Fail;
 
 /// Positions, sets, and whether they have no mate for White.
-const SETS: [(&str, &str, bool); 26] = [
+const SETS: [(&str, &str, bool); 29] = [
     // No man of White can give check.
     (
         "4k3/8/8/p1p1p1p1/P1P1P1P1/8/8/4K3 w - -",
@@ -117,15 +117,33 @@ const SETS: [(&str, &str, bool); 26] = [
         "1000000000000011 e1K0000200000000000 e8K8000000000000000 a1Q0040000000000000",
         false,
     ),
-    // A rook on h1 gives check to a king on h8 past a loose man on h4, and not past a fixed one.
+    // A rook on h1 gives check to a king on h8 past a loose man on h4, and not past a fixed one. A knight on g8 would step between.
     (
-        "1n2k3/8/8/8/7p/8/8/R3K3 w - -",
-        "1200000000000011 e1K0000400000000000 e8K8000000000000000 a1R0000000000000080 b8N4000000000000000",
+        "1r2k3/8/8/8/7p/8/8/R3K3 w - -",
+        "1200000000000011 e1K0000400000000000 e8K8000000000000000 a1R0000000000000080 b8R4000000000000000",
         true,
+    ),
+    (
+        "1r2k3/8/8/8/7p/8/8/R3K3 w - -",
+        "1200000080000011 e1K0000400000000000 e8K8000000000000000 a1R0000000000000080 b8R4000000000000000",
+        false,
     ),
     (
         "1n2k3/8/8/8/7p/8/8/R3K3 w - -",
         "1200000080000011 e1K0000400000000000 e8K8000000000000000 a1R0000000000000080 b8N4000000000000000",
+        true,
+    ),
+    // Knights on f7 and e6 leave g8 and h7 to a king on h8: one knight does not fill both, and two do.
+    (
+        "1n2k3/8/8/8/8/8/8/NN2K3 w - -",
+        "1200000000000013 e1K0000000000000010 e8K8000000000000000 a1N0020100000000000 b1N0020100000000000 \
+         b8N4080000000000000",
+        true,
+    ),
+    (
+        "1n1nk3/8/8/8/8/8/8/NN2K3 w - -",
+        "1a00000000000013 e1K0000000000000010 e8K8000000000000000 a1N0020100000000000 b1N0020100000000000 \
+         b8N4080000000000000 d8N4080000000000000",
         false,
     ),
     // Another rook on a8 attacks g8 past a loose man on d8, and not past a fixed one.

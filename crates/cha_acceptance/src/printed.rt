@@ -151,6 +151,37 @@ status: live
 positions: 1, refused: 0, dead: 0, undecided: 0
 ";
 
+/// The queen can only be taken, and then White's king is alone. No leaf of the first certificate needs sets.
+const QUEEN_LOST: &str = "\
+position 1
+fen: k7/1Q6/8/8/8/8/8/4K3 b - -
+white: unwinnable
+cha-cert 2
+winner w
+sets 0
+nodes 2
+inner k7/1Q6/8/8/8/8/8/4K3 b - -
+small 8/1k6/8/8/8/8/8/4K3 w - -
+end
+black: unwinnable
+cha-cert 2
+winner b
+sets 1
+loose 0102000000000010
+reach e1 K ffffffffffffffff
+reach b7 Q ffffffffffffffff
+reach a8 K ffffffffffffffff
+nodes 1
+leaf 0 k7/1Q6/8/8/8/8/8/4K3 b - -
+end
+status: dead
+positions: 1, refused: 0, dead: 1, undecided: 0
+";
+
+/// The certificate of a lone knight that never mates beside two queens.
+const LONE_KNIGHT: &str =
+    "cha-cert 2\nwinner w\nsets 0\nnodes 1\nlone 8/8/8/4k3/3q4/7q/8/4KN2 w - -\nend\n";
+
 /// Games with the certificates of sides that cannot mate.
 pub const GAMES: [Row; 3] = [
     ("[FEN \"4k3/8/8/8/8/8/8/4K3 w - -\"]\n*", BARE_KINGS),
@@ -162,7 +193,8 @@ pub const GAMES: [Row; 3] = [
 ];
 
 /// Positions with the certificates of sides that cannot mate.
-pub const POSITIONS: [Row; 5] = [
+pub const POSITIONS: [Row; 6] = [
+    ("k7/1Q6/8/8/8/8/8/4K3 b - -", QUEEN_LOST),
     ("4k3/7B/8/p1p1p1p1/P1P1P1P1/8/8/4K3 w - -", BISHOP_BEYOND),
     ("8/8/8/8/8/1k6/7r/K7 w - -", BARE_WHITE),
     (
@@ -226,5 +258,17 @@ fn printed_certificates_are_accepted(rt: HostRuntime) -> Result<(), Fail> {
             assert_eq!(rt; found.text(), line_on(certificate), "{certificate}");
         }
     }
+    Ok(())
+}
+
+#[test]
+fn a_lone_knight_has_a_certificate_of_one_node(rt: HostRuntime) -> Result<(), Fail> {
+    let alloc = rt.alloc();
+    let line = "8/8/8/4k3/3q4/7q/8/4KN2 w - -\n";
+    let printed = run_on(&rt, alloc, "position --certs", line)?;
+    assert!(rt; printed.text().contains("\nwhite: unwinnable\ncha-cert 2\n"));
+    let certificates = certificates_in(alloc, printed.text())?;
+    assert!(rt; certificates.len() == 1);
+    assert_eq!(rt; certificates[0].as_str(), LONE_KNIGHT);
     Ok(())
 }

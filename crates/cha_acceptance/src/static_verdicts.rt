@@ -31,7 +31,7 @@ fn first_other<'a>(alloc: Global, rows: &[(&'a str, &str)]) -> Result<Option<&'a
 }
 
 /// Positions with the letters of both sides, and before each the argument.
-const VERDICTS: [(&str, &str); 83] = [
+const VERDICTS: [(&str, &str); 87] = [
     // Bare kings and single men.
     // A rook mates with its king; a bare king never gives check.
     ("8/8/8/4k3/8/8/8/4KR2 w - -", "WU"),
@@ -74,10 +74,13 @@ const VERDICTS: [(&str, &str); 83] = [
     ("8/8/8/4k3/4b3/8/8/4KB2 w - -", "UU"),
     // Bishops of both colours: each may block where the other gives check.
     ("8/8/8/4k3/3b4/8/8/4KB2 w - -", "WW"),
-    // The sets let the rook stand in its king's way on any square.
-    ("8/8/8/4k3/4r3/8/8/3K1B2 w - -", "WW"),
-    // And the queen.
-    ("8/8/8/4k3/3q4/8/8/4KB2 w - -", "WW"),
+    // A rook beside its king takes the bishop, or steps between: of the two squares that touch both the king and the square in
+    // front of it, the other king covers one.
+    ("8/8/8/4k3/4r3/8/8/3K1B2 w - -", "UW"),
+    // So does a queen.
+    ("8/8/8/4k3/3q4/8/8/4KB2 w - -", "UW"),
+    // However many there are.
+    ("4k3/3q4/8/8/8/8/4r3/K2B4 w - -", "UW"),
     // Several pieces.
     // Bishop and knight mate.
     ("8/8/8/4k3/8/8/8/4KBN1 w - -", "WU"),
@@ -156,6 +159,12 @@ const VERDICTS: [(&str, &str); 83] = [
     ("4k3/6B1/8/p1p1p1p1/P1P1P1P1/8/8/4K3 w - -", "WW"),
     // Two light bishops beyond the wall leave its dark squares free.
     ("4k3/1B5B/8/p1p1p1p1/P1P1P1P1/8/8/4K3 w - -", "UU"),
+    // Black's dark bishop fills one dark square beside a king on a8, and two are left.
+    ("4kb2/7B/8/p1p1p1p1/P1P1P1P1/8/8/4K3 w - -", "UU"),
+    // Two fill both: king a8, bishops a7 and b8, against a bishop on d5.
+    ("3bkb2/7B/8/p1p1p1p1/P1P1P1P1/8/8/4K3 w - -", "WU"),
+    // Only the bishop of h6 comes to Black's king: the other is behind the wall, and the knight is shut in.
+    ("8/1k5B/7b/8/1p1p1p1p/1PpP1P1P/2P3K1/N3b3 b - -", "UU"),
     // Black's light bishop takes the other or a pawn.
     ("4k1b1/7B/8/p1p1p1p1/P1P1P1P1/8/8/4K3 w - -", "WW"),
     // A light bishop beyond the wall and a dark one behind it, which opens it.

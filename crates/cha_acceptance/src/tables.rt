@@ -1,5 +1,6 @@
 //! Inputs with their whole outputs, or with a part of it.
 
+use crate::games::SERVER_GAME;
 use crate::running::{run_on, run_over};
 use crate::{checks, games, positions, printed};
 use adjudicate::Status;
@@ -16,7 +17,7 @@ const TABLES: [(&str, &str, Status, &[Row]); 7] = [
     ("games", "adjudicate", Status::Done, &games::ROWS),
     (
         "games with a small budget",
-        "adjudicate --budget 500 --depth 2",
+        "adjudicate --budget 1 --depth 2",
         Status::Done,
         &games::SHORT_ROWS,
     ),
@@ -70,7 +71,7 @@ struct Long {
 
 /// Lines of a position may have 4,096 bytes, games 12,000 moves, and tag values 4,096 bytes. The last input begins with a byte
 /// order mark and castles with zeros. A game of bare kings that is played on for 300 plies was dead from the capture on.
-const LONG: [Long; 8] = [
+const LONG: [Long; 11] = [
     Long {
         words: "position",
         before: "4k3/8/8/8/8/8/8/4K3 w - -",
@@ -134,6 +135,31 @@ const LONG: [Long; 8] = [
         times: 0,
         after: "",
         part: "game 1\nfen: r1bqk2r/pppp1ppp/2n2n2/2b1p3/2B1P3/5N2/PPPP1PPP/RNBQ1RK1 w kq -\n",
+    },
+    // The server's game without its end, with a table of one row a shard, and parentheses without an end.
+    Long {
+        words: "adjudicate --workers 1",
+        before: "[Event \"Rated Blitz game\"]\n[Site \"https://example.org/abcd1234\"]\n[White \"anna\"]\n[Black \"ben\"]\n[Result \"1-0\"]\n[Variant \"Standard\"]\n[TimeControl \"180+0\"]\n[Termination \"Time forfeit\"]\n\n1. e4 { [%clk 0:03:00] } 1... e5 { [%clk 0:03:00] } 2. Qh5!? $5 Nc6\n(2... g6 3. Qxe5+ (3. Qd1)) 3. Bc4",
+        piece: "",
+        times: 0,
+        after: "",
+        part: "game 1\nfen: r1bqkbnr/pppp1ppp/2n5/4p2Q/2B1P3/8/PPPP1PPP/RNB1K1NR b KQkq -\nwhite: winnable in 2: c6b4 h5f7\nblack: skipped\nstatus: live\nresult: * -> * as recorded\ngames: 1, unreadable: 0, changed: 0, undecided: 0\n",
+    },
+    Long {
+        words: "adjudicate --workers 1 --entries 1",
+        before: SERVER_GAME,
+        piece: "",
+        times: 0,
+        after: "",
+        part: "game 1\nfen: r1bqkbnr/pppp1ppp/2n5/4p2Q/2B1P3/8/PPPP1PPP/RNB1K1NR b KQkq -\nwhite: winnable in 2: c6b4 h5f7\nblack: skipped\nstatus: live\nresult: 1-0 -> 1-0 as recorded\ngames: 1, unreadable: 0, changed: 0, undecided: 0\n",
+    },
+    Long {
+        words: "adjudicate",
+        before: "",
+        piece: "((((((((((((((((",
+        times: 1_048_576,
+        after: "",
+        part: "game 1\nunreadable: unclosed comment or variation\ngames: 1, unreadable: 1, changed: 0, undecided: 0\n",
     },
 ];
 

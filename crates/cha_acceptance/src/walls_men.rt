@@ -1,6 +1,6 @@
 //! Walls with other men on either side of them.
 
-use crate::known::Known::{Dead, OnlyBlack, OnlyWhite, White, Wins};
+use crate::known::Known::{Dead, White, Wins};
 use crate::known::Row;
 
 /// A bishop at home or beyond. White's pawns stand on light squares and Black's on dark ones.
@@ -21,7 +21,7 @@ pub const ONE_BISHOP: [Row; 8] = [
 ];
 
 /// Two bishops and more.
-pub const BISHOPS: [Row; 7] = [
+pub const BISHOPS: [Row; 8] = [
     // Each bishop behind its own pawns: neither comes out.
     ("4kb2/8/8/p1p1p1p1/P1P1P1P1/8/8/4KB2 w - -", Dead),
     // Each bishop beyond: neither covers both colours of squares, and they never meet.
@@ -30,11 +30,13 @@ pub const BISHOPS: [Row; 7] = [
     ("4k3/7B/8/p1p1p1p1/P1P1P1P1/8/8/4KB2 b - -", Dead),
     // A dark bishop at home and one beyond, the same for Black.
     ("4kb2/8/8/p1p1p1p1/P1P1P1P1/8/7b/4K3 w - -", Dead),
-    // Black's dark bishop may stand in its king's way on one dark square, and needs two for a mate on a8. The sets let it
-    // stand on both. It never gives check itself.
-    ("4kb2/7B/8/p1p1p1p1/P1P1P1P1/8/8/4K3 w - -", OnlyWhite),
+    // Black's dark bishop may stand in its king's way on one dark square, and a mate on a8 leaves two. It never gives check
+    // itself.
+    ("4kb2/7B/8/p1p1p1p1/P1P1P1P1/8/8/4K3 w - -", Dead),
     // The same for the other side.
-    ("4k3/8/8/p1p1p1p1/P1P1P1P1/8/7b/4KB2 w - -", OnlyBlack),
+    ("4k3/8/8/p1p1p1p1/P1P1P1P1/8/7b/4KB2 w - -", Dead),
+    // Black's second dark bishop is behind the wall, and White's knight cannot move.
+    ("8/1k5B/7b/8/1p1p1p1p/1PpP1P1P/2P3K1/N3b3 b - -", Dead),
     // A light and a dark bishop beyond: the dark one takes the pawns.
     ("3Bk3/7B/8/p1p1p1p1/P1P1P1P1/8/8/4K3 b - -", Wins),
 ];

@@ -15,6 +15,7 @@ kit:
 	@command -v rt >/dev/null 2>&1 || { echo "the Rattle kit is missing: its command 'rt' is not on the PATH" >&2; exit 2; }
 
 cha: kit
+	@tools/prove.py cha_main
 	@cd crates/cha_main && rt run -- position < /dev/null > /dev/null
 	@cp $(PROGRAM) cha
 
@@ -39,7 +40,7 @@ HEAP = $(dir $(shell rt doc 2>/dev/null))c/liblibc_c.a
 lib: libcha.a libcha.so
 
 $(LIBRARY): kit
-	@cd crates/cha_c && rt lib
+	@tools/prove.py cha_c
 
 libcha.a: $(LIBRARY)
 	@rm -f $@

@@ -37,3 +37,10 @@ __attribute__((destructor)) static void tell(void) {
         fclose(out);
     }
 }
+
+/* A program may end by `_exit`, which runs no destructor. */
+void _exit(int status) {
+    tell();
+    ((void (*)(int))dlsym(RTLD_NEXT, "_exit"))(status);
+    __builtin_unreachable();
+}

@@ -12,6 +12,7 @@ pub mod Contents
 pub mod Betweens
 pub mod Firsts
 pub mod Tidiness
+mod Moving
 pub mod Tables
 pub mod Sliding
 pub mod Striking

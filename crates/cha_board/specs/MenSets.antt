@@ -8,7 +8,7 @@ use Rattle.cha_board.specs.declared.placement.Men.TheInside.{Inside}
 use Rattle.cha_board.specs.Men.{is_of, is_kind}
 use Rattle.cha_board.specs.Board.{man_at}
 use Rattle.cha_board.specs.Squares.{squares}
-use Rattle.cha_board.specs.SquareSets.{set_of, has_square}
+use Rattle.cha_board.specs.SquareSets.{set_of, has_square, set_joined, set_minus}
 
 -- the first kind whose set has a square, a king where no other has it
 abbrev pub first_kind : Bool → Bool → Bool → Bool → Bool → Kind
@@ -29,6 +29,10 @@ man_in a s =
 -- the men that the sets show
 abbrev pub men_in : Inside → List (Option Man)
 men_in a = map (man_in a) squares
+
+-- a set without the squares that are gone, and with others where they are inside
+abbrev pub set_changed : List Bool → List Bool → List Bool → Bool → List Bool
+set_changed set gone onto inside = if inside then set_joined (set_minus set gone) onto else set_minus set gone
 
 -- the squares of the men of a kind
 abbrev pub kind_set : List (Option Man) → Kind → List Bool

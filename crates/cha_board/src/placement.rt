@@ -1,10 +1,10 @@
 //! What stands on the squares of the board.
 
-ghost use Rattle.std.specs.Prelude.{◌≡◌, not, None, replicate, IsTrue, slice_set};
+ghost use Rattle.std.specs.Prelude.{◌≡◌, not, Some, None, replicate, IsTrue, slice_set};
 ghost use Rattle.cha_board.specs.Men.{is_of, is_kind, is_man};
 ghost use Rattle.cha_board.specs.Board.{man_at, is_empty, king_of, has_one_king};
 ghost use Rattle.cha_board.specs.SquareSets.{set_of};
-ghost use Rattle.cha_board.specs.MenSets.{first_kind as first_kind_of, man_of as man_of_sets};
+ghost use Rattle.cha_board.specs.MenSets.{set_changed};
 
 use crate::men::{Color, Kind, Man, is_of_kind, is_of_side};
 use crate::sets::SquareSet;
@@ -86,14 +86,20 @@ impl Men {
     pub fn man(&self, at: Square) -> Option<Man>
         ensures { result ≡ man_at self.now at }
     {
-        let kind = first_kind(
-            self.pawns.has(at),
-            self.knights.has(at),
-            self.bishops.has(at),
-            self.rooks.has(at),
-            self.queens.has(at),
-        );
-        man_of(self.white.has(at), self.black.has(at), kind)
+        // Most squares are asked for the men on them, so the kinds are asked one after the other.
+        if self.white.has(at) {
+            Some(Man {
+                color: Color::White,
+                kind: self.kind_at(at),
+            })
+        } else if self.black.has(at) {
+            Some(Man {
+                color: Color::Black,
+                kind: self.kind_at(at),
+            })
+        } else {
+            None
+        }
     }
 
     /// The men once this stands on a square, in place of what stood there.
@@ -129,6 +135,43 @@ impl Men {
             rooks: self.rooks.without(at),
             queens: self.queens.without(at),
             kings: self.kings.without(at),
+        }
+    }
+
+    /// The men once nothing stands on one square, and this man on another, in place of what stood there.
+    pub fn moved(&self, from: Square, to: Square, man: Man) -> Men
+        ensures { result ≡ slice_set (slice_set self.now from None) to (Some man) }
+    {
+        let gone = SquareSet::single(from).with(to);
+        let onto = SquareSet::single(to);
+        Men {
+            white: changed(self.white, gone, onto, man.color.is(Color::White)),
+            black: changed(self.black, gone, onto, man.color.is(Color::Black)),
+            pawns: changed(self.pawns, gone, onto, man.kind.is(Kind::Pawn)),
+            knights: changed(self.knights, gone, onto, man.kind.is(Kind::Knight)),
+            bishops: changed(self.bishops, gone, onto, man.kind.is(Kind::Bishop)),
+            rooks: changed(self.rooks, gone, onto, man.kind.is(Kind::Rook)),
+            queens: changed(self.queens, gone, onto, man.kind.is(Kind::Queen)),
+            kings: changed(self.kings, gone, onto, man.kind.is(Kind::King)),
+        }
+    }
+
+    /// The kind of the man on a square on which one stands.
+    pub fn kind_at(&self, at: Square) -> Kind
+        ensures { (man : Man) → man_at self.now at ≡ Some man → result ≡ man.kind }
+    {
+        if self.all_of_kind(Kind::Pawn).has(at) {
+            Kind::Pawn
+        } else if self.all_of_kind(Kind::Knight).has(at) {
+            Kind::Knight
+        } else if self.all_of_kind(Kind::Bishop).has(at) {
+            Kind::Bishop
+        } else if self.all_of_kind(Kind::Rook).has(at) {
+            Kind::Rook
+        } else if self.all_of_kind(Kind::Queen).has(at) {
+            Kind::Queen
+        } else {
+            Kind::King
         }
     }
 
@@ -193,40 +236,10 @@ impl Men {
     }
 }
 
-/// The first kind whose set has a square, a king where no other has it.
-fn first_kind(pawn: bool, knight: bool, bishop: bool, rook: bool, queen: bool) -> Kind
-    ensures { result ≡ first_kind_of pawn knight bishop rook queen }
+/// A set without the squares that are gone, and perhaps with others.
+fn changed(set: SquareSet, gone: SquareSet, onto: SquareSet, inside: bool) -> SquareSet
+    ensures { result ≡ set_changed set gone onto inside }
 {
-    if pawn {
-        Kind::Pawn
-    } else if knight {
-        Kind::Knight
-    } else if bishop {
-        Kind::Bishop
-    } else if rook {
-        Kind::Rook
-    } else if queen {
-        Kind::Queen
-    } else {
-        Kind::King
-    }
-}
-
-/// The man on a square of the white or of the black set.
-fn man_of(white: bool, black: bool, kind: Kind) -> Option<Man>
-    ensures { result ≡ man_of_sets white black kind }
-{
-    if white {
-        Some(Man {
-            color: Color::White,
-            kind,
-        })
-    } else if black {
-        Some(Man {
-            color: Color::Black,
-            kind,
-        })
-    } else {
-        None
-    }
+    let left = set.minus(gone);
+    if inside { left.joined(onto) } else { left }
 }

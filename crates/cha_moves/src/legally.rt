@@ -68,6 +68,7 @@ fn goes_well(position: &Position, less: &Men, man: Man, from: Square, to: Square
 }
 
 /// The legal ones of the ways of a man, each of which is asked.
+#[inline(never)]
 fn sifted(position: &Position, man: Man, from: Square, ways: SquareSet) -> SquareSet
     requires man { man_at position.now.men from ≡ Some man }
     requires ways { ways ≡ set_of (is_way position.now from) }
@@ -97,6 +98,8 @@ fn has_to_ask(position: &Position, shields: &Shields, man: Man, from: Square) ->
 }
 
 /// The squares to which the man on a square goes legally.
+// It is asked once a man, and a call costs as much as the ways of most men.
+#[inline(always)]
 pub fn legal_ways(position: &Position, shields: &Shields, man: Man, from: Square) -> SquareSet
     requires man { man_at position.now.men from ≡ Some man }
     requires shields { AreShields position.now shields.now.answers shields.now.screens }

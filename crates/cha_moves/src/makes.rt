@@ -88,8 +88,23 @@ fn keeps(m: Move, king: u8, rook: u8) -> bool
 }
 
 /// The rights to castle after a move.
-#[tactic(auto, unfolding(crate::specs::Moves::rights_after))]
 pub fn rights_made(rights: Rights, m: Move) -> Rights
+    ensures { result ≡ rights_after rights m }
+{
+    // The homes a1, e1, h1, a8, e8 and h8.
+    let homes = SquareSet::from_bits(0x9100_0000_0000_0091);
+    if touched(m).common(homes).is_empty() {
+        rights
+    } else {
+        rights_left(rights, m)
+    }
+}
+
+/// The rights to castle after a move, each of which is asked.
+// Few moves touch a home, and the others are not to make room for this.
+#[inline(never)]
+#[tactic(auto, unfolding(crate::specs::Moves::rights_after))]
+fn rights_left(rights: Rights, m: Move) -> Rights
     ensures { result ≡ rights_after rights m }
 {
     Rights {

@@ -84,6 +84,7 @@ fn pawn_captures(position: &Position, s: Square) -> SquareSet
 }
 
 /// The squares to which a king of the side to move goes, by castling too.
+#[inline(never)]
 fn king_ways(position: &Position, s: Square) -> SquareSet
     ensures { result ≡ set_of (goes position.now Kind.King s) }
 {

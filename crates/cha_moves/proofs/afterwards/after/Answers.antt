@@ -1,17 +1,22 @@
-use Rattle.std.proofs.Common.{refl, ◌∙◌}
-use Rattle.cha_moves.specs.Moves.{after}
-use Rattle.cha_moves.proofs.Listed.{is_listed}
-use Rattle.cha_moves.proofs.Validity.{after_is_valid}
+use Rattle.std.proofs.Common.{ap}
+use Rattle.cha_moves.specs.Step.{Move}
+use Rattle.cha_moves.proofs.Alone.{is_mover}
 use Rattle.cha_moves.proofs.afterwards.after.Goals as goal
 
-pub of_parts-requires : goal.of_parts-requires
-unfolding after
-of_parts-requires c =
-    let q = c.args.position.now in
-    let m = c.args.m in
-    let found = is_listed q m c.requires in
-    rw (c.men_made.ensures, c.other.ensures, c.side.ensures, c.rights_made.ensures, c.rights.ensures, c.target_made.ensures) (after_is_valid q m c.known.ensures found.from found.to found.legal)
+pub after_pawn-requires-clause-man : goal.after_pawn-requires-clause-man
+after_pawn-requires-clause-man c = is_mover c.args.position.now c.args.m _ _ _ _ c.requires c.placement.ensures.value (ap (λ (m : Move). m.from) c.m.view_is) c.kind_at.ensures c.in-Pawn.is
 
-pub returns : goal.returns
-unfolding after
-returns c = c.of_parts.ensures ∙ rw (c.men_made.ensures, c.other.ensures, c.side.ensures, c.rights_made.ensures, c.rights.ensures, c.target_made.ensures) refl
+pub after_piece-requires-clause-man : goal.after_piece-requires-clause-man
+after_piece-requires-clause-man c = is_mover c.args.position.now c.args.m _ _ _ _ c.requires c.placement.ensures.value (ap (λ (m : Move). m.from) c.m.view_is) c.kind_at.ensures c.in-Knight.is
+
+pub after_piece-requires-in-Bishop-clause-man : goal.after_piece-requires-in-Bishop-clause-man
+after_piece-requires-in-Bishop-clause-man c = is_mover c.args.position.now c.args.m _ _ _ _ c.requires c.placement.ensures.value (ap (λ (m : Move). m.from) c.m.view_is) c.kind_at.ensures c.in-Bishop.is
+
+pub after_piece-requires-in-Rook-clause-man : goal.after_piece-requires-in-Rook-clause-man
+after_piece-requires-in-Rook-clause-man c = is_mover c.args.position.now c.args.m _ _ _ _ c.requires c.placement.ensures.value (ap (λ (m : Move). m.from) c.m.view_is) c.kind_at.ensures c.in-Rook.is
+
+pub after_piece-requires-in-Queen-clause-man : goal.after_piece-requires-in-Queen-clause-man
+after_piece-requires-in-Queen-clause-man c = is_mover c.args.position.now c.args.m _ _ _ _ c.requires c.placement.ensures.value (ap (λ (m : Move). m.from) c.m.view_is) c.kind_at.ensures c.in-Queen.is
+
+pub after_king-requires-clause-man : goal.after_king-requires-clause-man
+after_king-requires-clause-man c = is_mover c.args.position.now c.args.m _ _ _ _ c.requires c.placement.ensures.value (ap (λ (m : Move). m.from) c.m.view_is) c.kind_at.ensures c.in-King.is

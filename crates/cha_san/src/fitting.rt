@@ -1,18 +1,28 @@
 //! Which moves fit what a word says (PGN standard, 8.2.3).
 
 ghost use Rattle.std.specs.Prelude.{◌≡◌};
+ghost use Rattle.cha_board.specs.Men.{is_man};
+ghost use Rattle.cha_board.specs.Board.{man_at};
 ghost use Rattle.cha_san.specs.Fitting.{is_castling, is_named, promotes_as as promotes_so, fits_parts as fits_parts_of, fits as fits_form};
 
 use crate::forms::{Form, Parts};
-use cha_board::{Kind, Position, files_between, is_man_of};
+use cha_board::{Kind, Position, Square, files_between};
 use cha_moves::Move;
+
+/// Whether a man of the side to move and of this kind stands on a square.
+fn has_own(position: &Position, kind: Kind, at: Square) -> bool
+    ensures { result ≡ is_man position.now.side kind (man_at position.now.men at) }
+{
+    let _at = at.index();
+    position.men(position.side(), kind).has(at)
+}
 
 /// Whether a move is castling: the move of the king of the side to move over two files (Laws of Chess, Article 3.8.2).
 #[tactic(auto, unfolding(crate::specs::Fitting::is_castling))]
 pub fn castles(position: &Position, m: &Move) -> bool
     ensures { result ≡ is_castling position.now m.now }
 {
-    is_man_of(position.man(m.from), position.side(), Kind::King) && files_between(m.from, m.to) == 2
+    has_own(position, Kind::King, m.from) && files_between(m.from, m.to) == 2
 }
 
 /// Whether a file or a rank is the one that is named, if one is named.
@@ -44,7 +54,7 @@ fn fits_parts(position: &Position, parts: &Parts, m: &Move) -> bool
     ensures { result ≡ fits_parts_of position.now parts.now m.now }
 {
     !castles(position, m)
-        && is_man_of(position.man(m.from), position.side(), parts.kind)
+        && has_own(position, parts.kind, m.from)
         && named(parts.file, m.from.file())
         && named(parts.rank, m.from.rank())
         && m.to.index() == parts.to.index()

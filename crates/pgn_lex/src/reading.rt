@@ -22,6 +22,8 @@ fn marked(bytes: &[u8]) -> bool
 }
 
 /// Adds the token of a piece, if it has one.
+// To hand a token on costs more than to add it.
+#[inline(always)]
 pub fn place(token: Option<Token>, offset: u64, out: &mut Vec<Placed>) -> Result<(), NoMemory>
     ensures ok { OnOk result (out.new.items ≡ out.old.items ++ placed offset token) }
     ensures err { OnErr result (out.new.items ≡ out.old.items) }

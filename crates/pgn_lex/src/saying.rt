@@ -2,12 +2,14 @@
 
 ghost use Rattle.std.specs.Prelude.{◌≡◌, ◌++◌, List, ℕ, OnOk, OnErr, IfOk, length, take, nat_lt};
 ghost use Rattle.pgn_lex.specs.declared.kinds.Token.TheVariants.{Tag};
+ghost use Rattle.pgn_lex.specs.Pieces.{word_token};
 ghost use Rattle.pgn_lex.specs.Stages.{bad_placed, token_at, tokens_at};
+ghost use Rattle.pgn_lex.specs.Tokens.{placed};
 
 use crate::kinds::{Placed, Token};
 use crate::reading::place;
 use crate::stages::Stage;
-use crate::words::word_said;
+use crate::words::word_token_of;
 use cha_list::{NoMemory, text_of};
 use std::alloc::Global;
 
@@ -37,8 +39,8 @@ fn said(alloc: Global, stage: Stage, word: &[u8], value: &[u8]) -> Result<Option
         Stage::InComment => Ok(Some(Token::Unclosed)),
         Stage::AfterDollar => Ok(Some(Token::Bad)),
         Stage::InWord => {
-            let text = text_of(alloc, word)?;
-            Ok(word_said(text))
+            let token = word_token_of(alloc, word)?;
+            Ok(token)
         }
         Stage::InTag => Ok(Some(Token::BadTag)),
         Stage::InName => Ok(Some(Token::BadTag)),
@@ -84,9 +86,42 @@ fn place_two(out: &mut Vec<Placed>) -> Result<(), NoMemory>
     Ok(())
 }
 
+/// Adds the token of a word that began at a place, if it gives one.
+#[inline(never)]
+fn say_word(alloc: Global, start: u64, word: &[u8], out: &mut Vec<Placed>) -> Result<(), NoMemory>
+    ensures ok { OnOk result (out.new.items ≡ out.old.items ++ placed start (word_token word.now)) }
+    ensures err { OnErr result (out.new.items ≡ out.old.items) }
+{
+    let token = word_token_of(alloc, word)?;
+    place(token, start, out)
+}
+
 /// Adds the tokens of pieces that ended, the last of which began at a place. On a refusal none is added.
-#[tactic(auto, unfolding(crate::specs::Stages::tokens_at))]
+#[tactic(auto, unfolding(crate::specs::Stages::tokens_at, crate::specs::Stages::token_at))]
+// Nearly all pieces are words and white space.
+#[inline(always)]
 pub fn say(
+    alloc: Global,
+    stage: Stage,
+    start: u64,
+    word: &[u8],
+    value: &[u8],
+    out: &mut Vec<Placed>,
+) -> Result<(), NoMemory>
+    ensures ok { OnOk result ((w v : List ℕ) → word.now ≡ take 255 w → value.now ≡ take 4097 v → out.new.items ≡ out.old.items ++ tokens_at stage start w v) }
+    ensures err { OnErr result (out.new.items ≡ out.old.items) }
+{
+    match stage {
+        Stage::Between => Ok(()),
+        Stage::InWord => say_word(alloc, start, word, out),
+        _ => say_all(alloc, stage, start, word, value, out),
+    }
+}
+
+/// The same for any piece.
+#[tactic(auto, unfolding(crate::specs::Stages::tokens_at))]
+#[inline(never)]
+fn say_all(
     alloc: Global,
     stage: Stage,
     start: u64,

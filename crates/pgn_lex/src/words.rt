@@ -1,6 +1,11 @@
 //! Words: moves, results and move numbers.
 
-ghost use Rattle.std.specs.Prelude.{◌≡◌, ◌≤◌, IfOk, length};
+ghost use Rattle.std.specs.Prelude.{◌≡◌, ◌≤◌, ◌||◌, IfOk, length};
+ghost use Rattle.std.specs.List.{list_all};
+ghost use Rattle.cha_list.specs.declared.classes.Class.TheVariants.{Digit};
+ghost use Rattle.cha_list.specs.Bytes.{in_class};
+ghost use Rattle.pgn_lex.specs.declared.classes.PgnClass.TheVariants.{Mark};
+ghost use Rattle.pgn_lex.specs.Classes.{in_pgn_class};
 ghost use Rattle.pgn_lex.specs.Pieces.{word_token, word_piece};
 
 use crate::classes::PgnClass;
@@ -12,15 +17,34 @@ use std::alloc::Global;
 /// How many bytes of a word are kept.
 const KEPT: usize = 255;
 
+/// Whether a word gives no token: a move number, or signs that judge a move.
+fn gives_none(word: &[u8]) -> bool
+    ensures { result ≡ (list_all (in_class Digit) word.now || list_all (in_pgn_class Mark) word.now) }
+{
+    all_of(Class::Digit, word) || all_of(PgnClass::Mark, word)
+}
+
 /// The token of a word, by the bytes that are kept of it.
 #[tactic(auto, unfolding(crate::specs::Pieces::word_token))]
-pub fn word_said(word: Text) -> Option<Token>
+fn word_said(word: Text) -> Option<Token>
     ensures { result ≡ word_token word }
 {
-    if all_of(Class::Digit, word.items()) || all_of(PgnClass::Mark, word.items()) {
+    if gives_none(word.items()) {
         return None;
     }
     Some(Token::Word(word))
+}
+
+/// The token of the bytes of a word. Where it gives none, no memory is taken.
+#[tactic(auto, unfolding(crate::specs::Pieces::word_token))]
+pub fn word_token_of(alloc: Global, word: &[u8]) -> Result<Option<Token>, NoMemory>
+    ensures { IfOk result (λ token. token ≡ word_token word.now) }
+{
+    if gives_none(word) {
+        return Ok(None);
+    }
+    let text = text_of(alloc, word)?;
+    Ok(Some(Token::Word(text)))
 }
 
 /// A word, which begins with this byte.

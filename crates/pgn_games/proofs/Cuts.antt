@@ -28,7 +28,7 @@ unfolding turn
 tag_begins place token e = begins_by (is_tag token) place token e
 
 -- one variation more at most
-deeper_by_one : (depth : ℕ) (token : Token) → depth_after depth token ≤ depth + 1
+pub deeper_by_one : (depth : ℕ) (token : Token) → depth_after depth token ≤ depth + 1
 unfolding depth_after
 deeper_by_one depth (Tag name value cut) = omega arith
 deeper_by_one depth BadTag = omega arith

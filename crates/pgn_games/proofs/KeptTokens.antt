@@ -1,5 +1,5 @@
 -- The tokens that a reader keeps, and the games that they make up.
-use Rattle.std.proofs.Common.{◌≡◌, ◌==◌, ℕ, zero, suc, ◌+◌, ◌<◌, ◌≤◌, Bool, true, false, List, [], ◌∷◌, ◌++◌, Some, length, take, drop, map, refl, sym, ap, ◌∙◌, arith, append-nil, append_assoc, length-append}
+use Rattle.std.proofs.Common.{◌≡◌, ◌==◌, ℕ, zero, suc, ◌+◌, ◌-◌, ◌^◌, ◌<◌, ◌≤◌, Bool, true, false, List, [], ◌∷◌, ◌++◌, Some, length, take, drop, map, refl, sym, ap, ◌∙◌, arith, append-nil, append_assoc, length-append}
 use Rattle.std.specs.List.{slice_get}
 use Rattle.std.proofs.lemmas.Bool.Decides.{nat_tests}
 use Rattle.std.proofs.Math.Seq.{take-append_seam}
@@ -218,13 +218,20 @@ game_found fed bytes game behind given g found h first e f is = ap (λ n. slice_
 pub none_found : (fed bytes : List ℕ) (game behind : List Placed) (given g : ℕ) → IsCutAtEnd (tokens fed) (game ++ behind) given → game ≡ [] → behind ≡ [] → bytes ≡ fed → given ≡ g → length (games bytes) ≤ g
 none_found fed bytes game behind given g h none nothing e f = omega (arith, none_last fed bytes (game ++ behind) given h (rw (none, nothing) refl) e, f)
 
-pub empty_list : (xs ys : List Placed) (b : Bool) → b ≡ (length xs == 0) → b ≡ true → xs ≡ ys → ys ≡ []
-empty_list [] ys b e f g = sym g
-empty_list (x ∷ xs) ys b e f g = let h : true ≡ false = sym f ∙ e ∙ some_length (length xs) in cc
+-- no more tokens than places
+pub few_open : (fed : List ℕ) (ended : Bool) (game behind : List Placed) (piece : List ℕ) (used given taken : ℕ) → IsOpen fed ended (game ++ behind) piece used given taken → length game + length behind < 2 ^ 64 - 1
+few_open fed ended game behind piece used given taken h = omega (arith, h.told.few, h.sparse, h.taken_is, h.few_bytes, length-append game behind)
+
+pub few_last : (fed : List ℕ) (game behind : List Placed) (piece : List ℕ) (used given : ℕ) → IsLast fed (game ++ behind) piece used given → length game + length behind < 2 ^ 64 - 1
+few_last fed game behind piece used given h = omega (arith, h.told.few, h.sparse, h.few_bytes, length-append game behind)
+
+pub no_list : (ys : List Placed) (b : Bool) → b ≡ (length ys == 0) → b ≡ true → ys ≡ []
+no_list [] b e f = refl
+no_list (y ∷ ys) b e f = let h : true ≡ false = sym f ∙ e ∙ some_length (length ys) in cc
   where
     some_length : (n : ℕ) → (suc n == 0) ≡ false
     some_length n = grind (arith, nat_tests)
 
-pub some_list : (xs ys : List Placed) (b : Bool) → b ≡ (length xs == 0) → b ≡ false → xs ≡ ys → 0 < length ys
-some_list [] ys b e f g = let h : true ≡ false = sym e ∙ f in cc
-some_list (x ∷ xs) ys b e f g = omega (arith, ap length g)
+pub some_list : (ys : List Placed) (b : Bool) → b ≡ (length ys == 0) → b ≡ false → 0 < length ys
+some_list [] b e f = let h : true ≡ false = sym e ∙ f in cc
+some_list (y ∷ ys) b e f = omega arith

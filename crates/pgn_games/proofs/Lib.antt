@@ -1,9 +1,10 @@
-pub mod Chains
 pub mod Cuts
 pub mod EachToken
 pub mod Ends
 pub mod Examples
-pub mod Gathering
 pub mod KeptTokens
-pub mod Outsides
+pub mod KeptWords
+pub mod Moved
 pub mod Settled
+pub mod Summed
+pub mod Told

@@ -11,17 +11,17 @@ abbrev pub taken_by : Cutter → List ℕ
 taken_by c = c.lexer.fed ++ drop c.used c.piece.items
 
 abbrev pub IsOpenAt : Cutter → Type 0
-IsOpenAt c = IsOpen c.lexer.fed c.lexer.ended (c.game.items ++ c.behind.items) c.piece.items c.used c.given c.taken
+IsOpenAt c = IsOpen c.lexer.fed c.lexer.ended (c.game ++ c.behind.items) c.piece.items c.used c.given c.taken
 
 abbrev pub IsLastAt : Cutter → Type 0
-IsLastAt c = IsLast c.lexer.fed (c.game.items ++ c.behind.items) c.piece.items c.used c.given
+IsLastAt c = IsLast c.lexer.fed (c.game ++ c.behind.items) c.piece.items c.used c.given
 
 abbrev pub IsScannedAt : Cutter → Type 0
-IsScannedAt c = IsScanned c.game.items c.place
+IsScannedAt c = IsScanned c.game c.place
 
 -- its game is whole
 abbrev pub HasGame : Cutter → Type 0
-HasGame c = first_end Before (c.game.items ++ c.behind.items) ≡ Some (length c.game.items)
+HasGame c = first_end Before (c.game ++ c.behind.items) ≡ Some (length c.game)
 
 -- a game was given
 abbrev pub found_one : Result (Option Game) NoMemory → Bool

@@ -7,3 +7,5 @@ pub mod Settling
 -- what only loops and lemmas use
 pub mod Holding
 pub mod Keeping
+pub mod Summing
+pub mod Told

@@ -1,44 +1,23 @@
-//! What a reader keeps: the tokens of one game and of one byte, and the rest of the piece that was read last.
+//! What a reader keeps: what one game says, the tokens of one byte, and the rest of the piece that was read last.
 
-ghost use Rattle.std.specs.Prelude.{if◌then◌else◌, ◌≡◌, ◌+◌, ◌-◌, ◌^◌, ◌<◌, ◌≤◌, ◌++◌, ◌↔◌, List, ℕ, [], length, take, slice_get, OnOk, OnErr, IfOk, IfSome};
+ghost use Rattle.std.specs.Prelude.{if◌then◌else◌, ◌≡◌, ◌+◌, ◌-◌, ◌^◌, ◌<◌, ◌≤◌, ◌↔◌, [], length, take, slice_get, OnOk, IfOk, IfSome};
 ghost use Rattle.std.specs.declared.result.Result.TheVariants.{Ok, Err};
 ghost use Rattle.std.specs.declared.option.Option.TheVariants.{Some, None};
-ghost use Rattle.std.specs.Io.KnownBytes.{Consumes, IsAtEnd};
+ghost use Rattle.std.specs.Io.KnownBytes.{IsAtEnd};
 ghost use Rattle.cha_outside.specs.Faults.{Rose};
-ghost use Rattle.pgn_games.specs.declared.turns.Place.TheVariants.{Before};
 ghost use Rattle.pgn_games.specs.Games.{games, game_of};
 ghost use Rattle.pgn_games.specs.Settling.{settled_games};
-ghost use Rattle.pgn_games.specs.Holding.{first_end, IsScanned};
 ghost use Rattle.pgn_games.specs.Reading.{Takes};
 
+use crate::filling::{Filled, fill};
+use crate::gathering::{Standing, gather};
 use crate::played::Game;
-use crate::slices::game;
-use crate::turns::{Place, Turn, turned};
+use crate::summary::Summary;
+use crate::turns::Place;
 use cha_list::NoMemory;
-use cha_outside::{Got, MOST_BYTES, ReadEnd, Source};
+use cha_outside::{MOST_BYTES, ReadEnd, Source};
 use pgn_lex::{Lexer, Placed};
 use std::alloc::Global;
-
-/// How many bytes one read asks for.
-const PIECE: usize = 4096;
-
-/// Whether the game that is being read is whole.
-#[derive(Clone, Copy, Debug, PartialEq, Eq)]
-pub enum Standing {
-    /// It is: its last token is known.
-    Whole,
-    /// It goes on, or has not begun.
-    Open,
-}
-
-/// What one read gave.
-#[derive(Clone, Copy, Debug, PartialEq, Eq)]
-pub enum Filled {
-    /// A piece of one byte or more.
-    More,
-    /// The end of the source.
-    End,
-}
 
 /// How far a cutter came.
 #[derive(Clone, Copy, Debug, PartialEq, Eq)]
@@ -49,74 +28,17 @@ pub enum Advanced {
     Ended,
 }
 
-/// The tokens of a game that is being read, those behind it that the last byte gave, and the rest of a piece of the source.
+/// What the game says that is being read, the tokens behind it that the last byte gave, and the rest of a piece of the source.
 #[derive(Drop)]
 pub struct Cutter {
     pub lexer: Lexer,
-    pub game: Vec<Placed>,
+    pub game: Summary,
     pub behind: Vec<Placed>,
     pub place: Place,
     pub piece: Vec<u8>,
     pub used: usize,
     pub given: usize,
     pub taken: usize,
-}
-
-/// Moves tokens to the game that is being read, up to its last one.
-fn gather(
-    game: &mut Vec<Placed>,
-    behind: &mut Vec<Placed>,
-    place: &mut Place,
-) -> Result<Standing, NoMemory>
-    requires { IsScanned game.old.items place.old }
-    ensures same { OnOk result (game.new.items ++ behind.new.items ≡ game.old.items ++ behind.old.items) }
-    ensures open { result ≡ Ok Standing.Open → IsScanned game.new.items place.new × (behind.new.items ≡ []) }
-    ensures whole { result ≡ Ok Standing.Whole → first_end Before (game.new.items ++ behind.new.items) ≡ Some (length game.new.items) }
-{
-    while !behind.as_slice().is_empty() {
-        match turned(*place, &behind[0].token) {
-            Turn::Stays(next) => {
-                let token = behind.remove(0);
-                game.push(token)?;
-                *place = next;
-            }
-            Turn::Ends => {
-                let token = behind.remove(0);
-                game.push(token)?;
-                return Ok(Standing::Whole);
-            }
-            Turn::Begins => return Ok(Standing::Whole),
-        }
-    }
-    Ok(Standing::Open)
-}
-
-/// Reads the next piece of a source, in place of the last one.
-fn fill<S: Source>(piece: &mut Vec<u8>, source: &mut S) -> Result<Filled, ReadEnd>
-    ensures bytes { Consumes (S.left source.old) (S.left source.new) piece.new.items }
-    ensures few { length piece.new.items ≤ 4096 }
-    ensures more { result ≡ Ok Filled.More → 0 < length piece.new.items }
-    ensures end { result ≡ Ok Filled.End → IsAtEnd (S.left source.new) × (piece.new.items ≡ []) }
-    ensures err { OnErr result (piece.new.items ≡ []) }
-    ensures cause { result ≡ Err ReadEnd.ReadFault → Rose (S.faults source.old) (S.faults source.new) }
-    ensures not_long { result ≡ Err ReadEnd.TooLong → ⊥ }
-    ensures later { S.faults source.old ≤ S.faults source.new }
-{
-    piece.clear();
-    let Ok(()) = piece.try_reserve(PIECE) else {
-        return Err(ReadEnd::NoMemory);
-    };
-    let mut buffer = [0u8; PIECE];
-    match source.read(&mut buffer) {
-        Got::Bytes(n) => {
-            let Ok(()) = piece.extend_from_slice(&buffer[..n]) else {
-                unreachable!()
-            };
-            Ok(Filled::More)
-        }
-        Got::End => Ok(Filled::End),
-        Got::Failed => Err(ReadEnd::ReadFault),
-    }
 }
 
 impl Cutter {
@@ -130,7 +52,7 @@ impl Cutter {
         let lexer = Lexer::new(alloc)?;
         Ok(Cutter {
             lexer,
-            game: Vec::new(alloc),
+            game: Summary::new(alloc),
             behind: Vec::new(alloc),
             place: Place::Before,
             piece: Vec::new(alloc),
@@ -248,31 +170,27 @@ impl Cutter {
     }
 
     /// The game, which makes room for the next one.
-    fn take_game(&mut self, alloc: Global) -> Result<Game, NoMemory>
+    fn take_game(&mut self, alloc: Global) -> Game
         requires { self.old.given < 2 ^ 64 - 1 }
-        ensures game { IfOk result (λ game. game ≡ game_of self.old.game.items) }
-        ensures emptied { OnOk result ((self.new.game.items ≡ []) × (self.new.place ≡ Place.Before) × (self.new.given ≡ self.old.given + 1)) }
-        ensures kept { OnErr result (self.new.given ≡ self.old.given) }
+        ensures game { result ≡ game_of self.old.game }
+        ensures emptied { (self.new.game ≡ []) × (self.new.place ≡ Place.Before) × (self.new.given ≡ self.old.given + 1) }
         ensures same { (self.new.lexer ≡ self.old.lexer) × (self.new.behind ≡ self.old.behind) × (self.new.piece ≡ self.old.piece) × (self.new.used ≡ self.old.used) × (self.new.taken ≡ self.old.taken) }
     {
-        let game = game(alloc, &self.game)?;
-        self.game.clear();
+        let whole = std::mem::replace(&mut self.game, Summary::new(alloc));
         self.place = Place::Before;
         self.given += 1;
-        Ok(game)
+        whole.game()
     }
 
     /// Gives the game that is whole.
-    pub fn give(&mut self, alloc: Global) -> Result<Game, NoMemory>
+    pub fn give(&mut self, alloc: Global) -> Game
         requires open { IsOpenAt self.old }
         requires whole { HasGame self.old }
         ensures taken { taken_by self.new ≡ taken_by self.old }
-        ensures open { OnOk result (IsOpenAt self.new × IsScannedAt self.new × (self.new.given ≡ self.old.given + 1)) }
-        ensures kept { OnErr result (self.new.given ≡ self.old.given) }
-        ensures game { IfOk result (λ game. slice_get (games (taken_by self.old)) self.old.given ≡ Some game) }
+        ensures open { IsOpenAt self.new × IsScannedAt self.new × (self.new.given ≡ self.old.given + 1) }
+        ensures game { slice_get (games (taken_by self.old)) self.old.given ≡ Some result }
     {
-        let game = self.take_game(alloc)?;
-        Ok(game)
+        self.take_game(alloc)
     }
 
     /// Gives the next of the games that are left, once the source has ended.
@@ -286,16 +204,12 @@ impl Cutter {
         ensures none { result ≡ Ok None → length (games (taken_by self.old)) ≤ self.old.given }
     {
         match self.finish()? {
-            Standing::Whole => {
-                let game = self.take_game(alloc)?;
-                Ok(Some(game))
-            }
+            Standing::Whole => Ok(Some(self.take_game(alloc))),
             Standing::Open => {
-                if self.game.as_slice().is_empty() {
+                if self.game.is_empty() {
                     return Ok(None);
                 }
-                let game = self.take_game(alloc)?;
-                Ok(Some(game))
+                Ok(Some(self.take_game(alloc)))
             }
         }
     }

@@ -17,8 +17,8 @@ use cha_outside::{MOST_BYTES, ReadEnd, Source};
 use std::alloc::Global;
 use std::marker::Model;
 
-/// A reader of the games of a source, one at a time. It keeps one game, the tokens of one byte, and the rest of the piece that
-/// was read last.
+/// A reader of the games of a source, one at a time. It keeps what one game says, the tokens of one byte, and the rest of the
+/// piece that was read last: its memory is bounded, whatever the text.
 #[derive(Drop)]
 pub struct Reader {
     alloc: Global,
@@ -86,15 +86,7 @@ impl Reader {
     {
         if !self.ended {
             match self.cutter.advance(source) {
-                Ok(Advanced::Whole) => {
-                    return match self.cutter.give(self.alloc) {
-                        Ok(game) => Ok(Some(game)),
-                        Err(_) => {
-                            self.failed = true;
-                            Err(ReadEnd::NoMemory)
-                        }
-                    };
-                }
+                Ok(Advanced::Whole) => return Ok(Some(self.cutter.give(self.alloc))),
                 Ok(Advanced::Ended) => self.ended = true,
                 Err(end) => {
                     self.failed = true;

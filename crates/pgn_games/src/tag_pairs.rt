@@ -1,66 +1,75 @@
 //! What the tag pairs of a game say.
 
-ghost use Rattle.std.specs.Prelude.{◌≡◌, not};
-ghost use Rattle.std.specs.List.{list_any};
-ghost use Rattle.std.specs.Option.{option_copied};
-ghost use Rattle.std.specs.Str.{str_eq_ignore_ascii_case};
-ghost use Rattle.pgn_games.specs.Fields.{value_named, tag_value, is_cut, says_forfeit, says_chess, passes};
+ghost use Rattle.std.specs.Prelude.{◌≡◌, if◌then◌else◌, not, Some, None, codes};
+ghost use Rattle.std.specs.Option.{option_or};
+ghost use Rattle.std.specs.Str.{bytes_eq, str_eq_ignore_ascii_case};
+ghost use Rattle.pgn_games.specs.Fields.{is_cut, says_forfeit, says_chess, passes};
 ghost use Rattle.pgn_games.specs.Games.{opening, start_of, start_fault};
 
 use crate::faults::GameFault;
 use cha_board::Position;
 use cha_fen::read;
-use pgn_lex::{Placed, Token};
+use cha_list::Text;
+use pgn_lex::Token;
 
-/// The value of a tag pair of this name.
-#[tactic(auto, unfolding(crate::specs::Fields::value_named))]
-fn value_under<'a>(name: &[u8], token: &'a Token) -> Option<&'a [u8]>
-    ensures { option_copied result ≡ value_named name.now token.now }
+/// The values that count: of each name the value of the first tag pair. Letters of a name count with their case.
+#[derive(Drop)]
+pub struct TagValues {
+    pub variant: Option<Text>,
+    pub fen: Option<Text>,
+    pub termination: Option<Text>,
+}
+
+/// Keeps the value of a tag pair, if it is the first of its name.
+fn keep_first(kept: &mut Option<Text>, value: Text)
+    ensures { kept.new ≡ option_or kept.old (Some value) }
 {
-    match token {
-        Token::Tag {
-            name: own,
-            value,
-            ..
-        } => {
-            if own.items() == name {
-                return Some(value.items());
-            }
-            None
-        }
-        _ => None,
+    if kept.is_none() {
+        *kept = Some(value);
     }
 }
 
-/// The value of the first tag pair of this name. Letters count with their case.
-pub fn value_of<'a>(name: &[u8], slice: &'a [Placed]) -> Option<&'a [u8]>
-    ensures { option_copied result ≡ tag_value name.now slice.now }
-{
-    for placed in slice {
-        match value_under(name, &placed.token) {
-            Some(value) => return Some(value),
-            None => {}
+impl TagValues {
+    /// No value.
+    pub fn new() -> TagValues
+        ensures { (result.variant ≡ None) × (result.fen ≡ None) × (result.termination ≡ None) }
+    {
+        TagValues {
+            variant: None,
+            fen: None,
+            termination: None,
         }
     }
-    None
+
+    /// Keeps what a tag pair says.
+    pub fn keep(&mut self, name: &[u8], value: Text)
+        ensures variant { self.new.variant ≡ option_or self.old.variant (if bytes_eq name.now (codes "Variant") then Some value else None) }
+        ensures fen { self.new.fen ≡ option_or self.old.fen (if bytes_eq name.now (codes "FEN") then Some value else None) }
+        ensures termination { self.new.termination ≡ option_or self.old.termination (if bytes_eq name.now (codes "Termination") then Some value else None) }
+    {
+        if name == b"Variant".as_slice() {
+            keep_first(&mut self.variant, value);
+            return;
+        }
+        if name == b"FEN".as_slice() {
+            keep_first(&mut self.fen, value);
+            return;
+        }
+        if name == b"Termination".as_slice() {
+            keep_first(&mut self.termination, value);
+        }
+    }
 }
 
 /// Whether the value of a tag pair is longer than what is kept of it.
 #[tactic(auto, unfolding(crate::specs::Fields::is_cut))]
-fn was_cut(token: &Token) -> bool
+pub fn was_cut(token: &Token) -> bool
     ensures { result ≡ is_cut token.now }
 {
     match token {
         Token::Tag { cut, .. } => *cut,
         _ => false,
     }
-}
-
-/// Whether some value is longer than what is kept of it.
-pub fn some_cut(slice: &[Placed]) -> bool
-    ensures { result ≡ list_any (λ t. is_cut t.token) slice.now }
-{
-    slice.iter().any(|placed| was_cut(&placed.token))
 }
 
 /// Whether two texts are the same but for the case of ASCII letters.
@@ -84,11 +93,11 @@ fn lost_on_time(value: &[u8]) -> bool
 }
 
 /// Whether the Termination tag says that the game was lost on time.
-pub fn forfeited(termination: Option<&[u8]>) -> bool
-    ensures { result ≡ passes says_forfeit (option_copied termination.entry) }
+pub fn forfeited(termination: &Option<Text>) -> bool
+    ensures { result ≡ passes says_forfeit termination.now }
 {
     match termination {
-        Some(value) => lost_on_time(value),
+        Some(value) => lost_on_time(value.items()),
         None => false,
     }
 }
@@ -105,22 +114,22 @@ fn means_chess(value: &[u8]) -> bool
 }
 
 /// Whether the Variant tag names another game than chess.
-pub fn other_game(variant: Option<&[u8]>) -> bool
-    ensures { result ≡ passes (λ value. not (says_chess value)) (option_copied variant.entry) }
+pub fn other_game(variant: &Option<Text>) -> bool
+    ensures { result ≡ passes (λ value. not (says_chess value)) variant.now }
 {
     match variant {
-        Some(value) => !means_chess(value),
+        Some(value) => !means_chess(value.items()),
         None => false,
     }
 }
 
 /// Where a game starts, by its FEN tag.
 #[tactic(auto, unfolding(crate::specs::Games::start_of))]
-pub fn started(fen: Option<&[u8]>) -> Position
-    ensures { result ≡ start_of (option_copied fen.entry) }
+pub fn started(fen: &Option<Text>) -> Position
+    ensures { result ≡ start_of fen.now }
 {
     match fen {
-        Some(value) => match read(value) {
+        Some(value) => match read(value.items()) {
             Ok(position) => position,
             Err(_) => first_position(),
         },
@@ -138,11 +147,11 @@ fn first_position() -> Position
 
 /// The fault of a FEN tag.
 #[tactic(auto, unfolding(crate::specs::Games::start_fault))]
-pub fn start_refused(fen: Option<&[u8]>) -> Option<GameFault>
-    ensures { result ≡ start_fault (option_copied fen.entry) }
+pub fn start_refused(fen: &Option<Text>) -> Option<GameFault>
+    ensures { result ≡ start_fault fen.now }
 {
     match fen {
-        Some(value) => match read(value) {
+        Some(value) => match read(value.items()) {
             Ok(_) => None,
             Err(fault) => Some(GameFault::BadStart(fault)),
         },

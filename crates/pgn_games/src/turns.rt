@@ -1,6 +1,7 @@
 //! What a token does to the game that is being read.
 
 ghost use Rattle.std.specs.Prelude.{◌≡◌, ◌+◌, ◌-◌, ◌^◌, ◌<◌, ◌≤◌};
+ghost use Rattle.pgn_lex.specs.declared.kinds.Token.TheVariants.{Word};
 ghost use Rattle.pgn_games.specs.Cutting.{mark_of, is_tag, depth_after, open_at, turn};
 
 use crate::marks::ResultMark;
@@ -28,25 +29,30 @@ pub enum Turn {
     Begins,
 }
 
+/// The result that a word tells.
+#[tactic(auto, unfolding(crate::specs::Cutting::mark_of))]
+pub fn word_mark(word: &[u8]) -> Option<ResultMark>
+    ensures { result ≡ mark_of (Word word.now) }
+{
+    if word == b"1-0".as_slice() {
+        return Some(ResultMark::WhiteWins);
+    }
+    if word == b"0-1".as_slice() {
+        return Some(ResultMark::BlackWins);
+    }
+    if word == b"1/2-1/2".as_slice() {
+        return Some(ResultMark::Draw);
+    }
+    None
+}
+
 /// The result that a word or a star tells.
 #[tactic(auto, unfolding(crate::specs::Cutting::mark_of))]
 pub fn mark(token: &Token) -> Option<ResultMark>
     ensures { result ≡ mark_of token.now }
 {
     match token {
-        Token::Word(word) => {
-            let word = word.items();
-            if word == b"1-0".as_slice() {
-                return Some(ResultMark::WhiteWins);
-            }
-            if word == b"0-1".as_slice() {
-                return Some(ResultMark::BlackWins);
-            }
-            if word == b"1/2-1/2".as_slice() {
-                return Some(ResultMark::Draw);
-            }
-            None
-        }
+        Token::Word(word) => word_mark(word.items()),
         Token::Star => Some(ResultMark::Unknown),
         _ => None,
     }

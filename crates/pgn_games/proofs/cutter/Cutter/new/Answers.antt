@@ -5,4 +5,4 @@ use Rattle.pgn_games.proofs.cutter.Cutter.new.Goals as goal
 
 pub returns-clause-open : goal.returns-clause-open
 returns-clause-open c =
-    opened _ _ _ _ _ (ap (λ (s : LexerState). s.fed) c.in_ok-lexer.ensures) (ap (λ (s : LexerState). s.ended) c.in_ok-lexer.ensures) c.new-2.ensures.items c.new-3.ensures.items c.new-4.ensures.items
+    opened _ _ _ _ _ (ap (λ (s : LexerState). s.fed) c.in_ok-lexer.ensures) (ap (λ (s : LexerState). s.ended) c.in_ok-lexer.ensures) c.new-2.ensures c.new-3.ensures.items c.new-4.ensures.items

@@ -1,0 +1,20 @@
+use Rattle.std.proofs.Common.{length, ◌||◌, ◌++◌, ◌∷◌, [], ap, ◌∙◌, arith}
+use Rattle.std.specs.Option.{option_or}
+use Rattle.pgn_games.proofs.Summed.{summed, values_next, few_words, shallow}
+use Rattle.pgn_games.proofs.summary.Summary.take.Goals as goal
+
+pub deeper-depth-requires : goal.deeper-depth-requires
+deeper-depth-requires c = omega (arith, shallow c.self.inside.told _ c.self.invariant.0.depth_is, ap length c.self.view_is, c.requires)
+
+pub keep_texts-requires : goal.keep_texts-requires
+keep_texts-requires c = few_words c.self.inside.told _ c.self.invariant.0.words_is
+
+pub invariant_of-self-2 : goal.invariant_of-self-2
+invariant_of-self-2 c =
+    let told = c.push.ensures ∙ ap (λ t. c.self.inside.told ++ t ∷ []) c.of-told.ensures in
+    let kept = c.in_ok-keep_texts.ensures in (
+      summed c.self.inside.told _ c.args.placed _ _ _ _ _ _ _ _ _ _ _ _ _ c.self.invariant.0 told c.deeper-depth.ensures.value
+          (c.or-bad.ensures ∙ ap (λ o. option_or c.self.inside.bad o) c.bad_outside.ensures) (ap (λ b. c.self.inside.unclosed || b) c.unclosed.ensures) (ap (λ b. c.self.inside.cut || b) c.was_cut.ensures)
+          (c.or-recorded.ensures ∙ ap (λ o. option_or c.self.inside.recorded o) c.mark_outside.ensures) kept.words,
+      values_next c.self.inside.told _ c.args.placed _ _ _ _ _ _ c.self.invariant.1 told kept.variant kept.fen kept.termination,
+    )

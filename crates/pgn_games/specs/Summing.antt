@@ -1,0 +1,37 @@
+-- What is kept of the tokens of a game.
+use Rattle.std.specs.Prelude.{◌≡◌, ℕ, ◌==◌, Bool, if◌then◌else◌, List, [], ◌∷◌, ◌++◌, length, take, filter_map, Option, Some, None, slice_get, codes}
+use Rattle.std.specs.List.{list_any}
+use Rattle.pgn_lex.specs.declared.kinds.Token.{Token}
+use Rattle.pgn_lex.specs.declared.kinds.Placed.{Placed}
+use Rattle.pgn_games.specs.declared.marks.ResultMark.{ResultMark}
+use Rattle.pgn_games.specs.Cutting.{mark_of}
+use Rattle.pgn_games.specs.Fields.{outside, depth_at_end, tag_value, move_word, move_words, first_bad, is_unclosed, is_cut}
+
+-- the move word of a token, where so many variations are open
+abbrev pub word_outside : ℕ → Token → Option (List ℕ)
+word_outside depth token = if depth == 0 then move_word token else None
+
+-- words, and maybe one more
+abbrev pub with_word : List (List ℕ) → Option (List ℕ) → List (List ℕ)
+with_word words None = words
+with_word words (Some word) = words ++ word ∷ []
+
+-- the first result outside variations
+abbrev pub first_mark : List Placed → Option ResultMark
+first_mark told = slice_get (filter_map (λ t. mark_of t.token) (outside 0 told)) 0
+
+-- what is kept of the tag pairs of these tokens
+pub record HasValues (told : List Placed) (variant fen termination : Option (List ℕ)) : Type 0 where
+  pub variant_is : variant ≡ tag_value (codes "Variant") told
+  pub fen_is : fen ≡ tag_value (codes "FEN") told
+  pub termination_is : termination ≡ tag_value (codes "Termination") told
+
+-- what is kept of these tokens beside
+pub record IsSummary (told : List Placed) (empty : Bool) (depth : ℕ) (bad : Option ℕ) (unclosed cut : Bool) (recorded : Option ResultMark) (words : List (List ℕ)) : Type 0 where
+  pub empty_is : empty ≡ (length told == 0)
+  pub depth_is : depth ≡ depth_at_end told
+  pub bad_is : bad ≡ first_bad told
+  pub unclosed_is : unclosed ≡ list_any (λ t. is_unclosed t.token) told
+  pub cut_is : cut ≡ list_any (λ t. is_cut t.token) told
+  pub recorded_is : recorded ≡ first_mark told
+  pub words_is : words ≡ take 12001 (move_words told)

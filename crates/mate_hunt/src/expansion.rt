@@ -39,13 +39,15 @@ fn let_wait<W: Waiting>(
     }
 }
 
-/// Expands a node: a legal move that mates, or where there is none, the positions after its legal moves wait.
+/// Expands a node, after which so many are left to expand: a legal move that mates, or where there is none, the positions after
+/// its legal moves wait.
 pub fn expand<W: Waiting>(
     alloc: Global,
     store: &mut Store,
     name: u32,
     winner: Color,
     waiting: &W,
+    left: u32,
 ) -> Result<Option<Move>, NoMemory>
     requires { name < length store.old.nodes }
     ensures kept { Keeps store.old.nodes store.new.nodes }
@@ -55,6 +57,10 @@ pub fn expand<W: Waiting>(
     let position = store.position(name);
     if let Some(m) = mating_move(&position, winner) {
         return Ok(Some(m));
+    }
+    // What would wait is not taken.
+    if left == 0 {
+        return Ok(None);
     }
     let moves = legal(alloc, &position)?;
     for m in &moves {

@@ -58,7 +58,8 @@ fn search(
             return Ok(None);
         };
         expanded.push(name)?;
-        if let Some(last) = expand(alloc, &mut store, name, winner, &guided)? {
+        let left = most - 1 - turn;
+        if let Some(last) = expand(alloc, &mut store, name, winner, &guided, left)? {
             let line = line_to(alloc, &store, position, name, last, winner)?;
             let visited = Visited::new(alloc, store, &expanded)?;
             let shorter = shortened(alloc, position, winner, line, &visited)?;

@@ -28,7 +28,8 @@ fn shortest<W: Waiting>(
         if store.len() <= name {
             return Ok(None);
         }
-        if let Some(last) = expand(alloc, &mut store, name, winner, waiting)? {
+        let left = u32::MAX - 1 - name;
+        if let Some(last) = expand(alloc, &mut store, name, winner, waiting, left)? {
             let line = line_to(alloc, &store, position, name, last, winner)?;
             return Ok(Some(line));
         }

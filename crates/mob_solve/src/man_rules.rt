@@ -41,7 +41,20 @@ fn grow_pieces(ground: &Ground, reach: &mut Reach, origin: Square, side: Color) 
 }
 
 /// Adds what the rules ask for the man of an origin as a kind, and answers whether something is new.
+// Most men are on no square as most kinds.
 fn grow_row(ground: &Ground, reach: &mut Reach, origin: Square, side: Color, kind: Kind) -> bool
+    ensures change { Grew reach.old reach.new result }
+    ensures rules { result ≡ false → AreRules ground.now (sets_in reach.old) origin side kind }
+    ensures inside { (r : Sets) → AreRules ground.now r origin side kind → IsWithin (sets_in reach.old) r → IsWithin (sets_in reach.new) r }
+{
+    if reach.row(origin, kind).is_empty() {
+        return false;
+    }
+    grow_filled(ground, reach, origin, side, kind)
+}
+
+/// The same, where the man is on some square as the kind.
+fn grow_filled(ground: &Ground, reach: &mut Reach, origin: Square, side: Color, kind: Kind) -> bool
     ensures change { Grew reach.old reach.new result }
     ensures rules { result ≡ false → AreRules ground.now (sets_in reach.old) origin side kind }
     ensures inside { (r : Sets) → AreRules ground.now r origin side kind → IsWithin (sets_in reach.old) r → IsWithin (sets_in reach.new) r }

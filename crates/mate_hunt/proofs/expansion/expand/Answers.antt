@@ -30,3 +30,9 @@ loop-m-preserved g c = record {
 
 pub returns-clause-none : goal.returns-clause-none
 returns-clause-none g c = no_mate_after c.args.store.now.nodes c.args.name c.args.winner c.position-position.result c.position-position.ensures (none_mates _ _ c.in_default.ensures.none)
+
+pub returns-then-left-eq0-clause-kept : goal.returns-then-left-eq0-clause-kept
+returns-then-left-eq0-clause-kept g c = keeps_same _ _ refl
+
+pub returns-then-left-eq0-clause-none : goal.returns-then-left-eq0-clause-none
+returns-then-left-eq0-clause-none g c = no_mate_after c.args.store.now.nodes c.args.name c.args.winner c.position-position.result c.position-position.ensures (none_mates _ _ c.in_default.ensures.none)

@@ -41,6 +41,7 @@ lib: libcha.a libcha.so
 
 $(LIBRARY): kit
 	@tools/prove.py cha_c
+	@cd crates/cha_c && rt lib > /dev/null
 
 libcha.a: $(LIBRARY)
 	@rm -f $@

@@ -14,7 +14,7 @@ use Rattle.helpmate.specs.declared.answers.RoundDone.{RoundDone}
 use Rattle.helpmate.specs.Rounds.{RoundCalls}
 use Rattle.root_workers.specs.Ends.{RoundsCalls}
 use Rattle.root_workers.specs.declared.answers.RoundsDone.{RoundsDone}
-use Rattle.cha_verdict.specs.Bounds.{Bounds}
+use Rattle.cha_limits.specs.Bounds.{Bounds}
 use Rattle.cha_verdict.specs.declared.verdicts.Verdict.{Verdict}
 use Rattle.cha_verdict.specs.declared.decisions.Decision.{Decision}
 use Rattle.cha_verdict.specs.Sound.{verdict_on}
@@ -36,6 +36,14 @@ module _ {S : Type 0} (made : S → List Entry → S → Type 0) (joined : (a b 
     entries = [];
     entered = none;
     asked = λ v is. (let P : Result Verdict NoMemory → Type 0 = λ x. IsErr x in let h = subst P is refused in cc);
+  }
+
+  -- nor of a side
+  pub decided_nothing : (s : S) (q : Board) (result : Result Decision NoMemory) → made s [] s → IsErr result → Asked made s s q result
+  decided_nothing s q result none refused = record {
+    entries = [];
+    entered = none;
+    asked = λ d is. (let P : Result Decision NoMemory → Type 0 = λ x. IsErr x in let h = subst P is refused in cc);
   }
 
   -- the rounds, and then the exploration

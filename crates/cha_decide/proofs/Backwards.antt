@@ -10,7 +10,7 @@ use Rattle.cha_verdict.specs.declared.decisions.Decision.{Decision}
 use Rattle.cha_verdict.specs.declared.scans.EarlierCerts.{EarlierCerts}
 use Rattle.cha_verdict.specs.declared.scans.Edge.{Edge}
 use Rattle.cha_verdict.specs.declared.scans.Edge.TheVariants.{Start, Live, Unclear}
-use Rattle.cha_verdict.specs.Bounds.{Bounds}
+use Rattle.cha_limits.specs.Bounds.{Bounds}
 use Rattle.cha_verdict.specs.Verdicts.{is_winnable, is_skipped, IsPrintable}
 use Rattle.cha_verdict.specs.Sound.{IsSound}
 use Rattle.cha_verdict.specs.Scans.{IsEarlier, IsOpenEdge, HasEdge}

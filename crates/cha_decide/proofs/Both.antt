@@ -5,7 +5,7 @@ use Rattle.cha_board.specs.declared.men.Color.TheVariants.{White, Black}
 use Rattle.cha_board.specs.Men.{other_color}
 use Rattle.cha_board.specs.Board.{Board}
 use Rattle.cha_verdict.specs.declared.verdicts.Verdict.{Verdict}
-use Rattle.cha_verdict.specs.Bounds.{Bounds}
+use Rattle.cha_limits.specs.Bounds.{Bounds}
 use Rattle.cha_verdict.specs.Verdicts.{is_winnable, is_skipped}
 use Rattle.cha_verdict.specs.declared.decisions.Decision.{Decision}
 use Rattle.cha_verdict.specs.Sound.{IsTrueOf, IsSound, verdict_on}

@@ -12,7 +12,7 @@ use Rattle.cha_cert.specs.declared.nodes.Part.{Part}
 use Rattle.cha_cert.specs.declared.nodes.Part.TheVariants.{Leaf, Small, Lone}
 use Rattle.cha_cert.specs.Certificates.{AllValid, PartHolds, NodeHolds, IsValidCert}
 use Rattle.mob_small.specs.Small.{IsSmallUnwinnable}
-use Rattle.mob_lone.specs.Lone.{IsLoneUnwinnable}
+use Rattle.mob_small.specs.Lone.{IsLoneUnwinnable}
 use Rattle.cha_verdict.specs.AtOnce.{IsShownAtOnce, BySets, BySmallMaterial, ByLoneMen}
 
 module _ (q : Board) (w : Color) (part : Part) (valid : IsValid q) where

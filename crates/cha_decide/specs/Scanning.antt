@@ -1,5 +1,5 @@
 -- What is found on the way back through a game.
-use Rattle.std.specs.Prelude.{◌≡◌, ℕ, ◌<◌, ◌||◌, Bool, if◌then◌else◌, List, Option, Some, None, slice_get, MatchOption}
+use Rattle.std.specs.Prelude.{◌≡◌, ◌<◌, ◌||◌, Bool, if◌then◌else◌, List, Option, Some, None, slice_get, MatchOption}
 use Rattle.cha_board.specs.declared.men.Color.{Color}
 use Rattle.cha_board.specs.Board.{Board}
 use Rattle.cha_verdict.specs.declared.verdicts.Verdict.{Verdict}
@@ -8,7 +8,7 @@ use Rattle.cha_verdict.specs.declared.scans.EarlierCerts.{EarlierCerts}
 use Rattle.cha_verdict.specs.declared.scans.Edge.{Edge}
 use Rattle.cha_verdict.specs.declared.scans.Edge.TheVariants.{Live, Unclear}
 use Rattle.cha_verdict.specs.declared.scans.Scan.{Scan}
-use Rattle.cha_verdict.specs.Bounds.{Bounds}
+use Rattle.cha_limits.specs.Bounds.{Bounds}
 use Rattle.cha_verdict.specs.Scans.{AreValidCerts, ArePrintable, IsEarlier, IsOpenEdge, IsSoundScan, IsPrintableScan}
 use Rattle.cha_decide.specs.declared.scanning.Before.{Before}
 use Rattle.cha_decide.specs.declared.scanning.Before.TheVariants.{Dead, Open}

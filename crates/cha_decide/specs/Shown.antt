@@ -1,5 +1,5 @@
 -- What is found about one side.
-use Rattle.std.specs.Prelude.{◌≡◌, ◌≤◌, ◌⊎◌, true, false, List, [], ◌∷◌, length, Result, Ok, ⊤}
+use Rattle.std.specs.Prelude.{◌≡◌, ◌≤◌, false, List, [], ◌∷◌, length, Result, Ok, ⊤}
 use Rattle.cha_list.specs.declared.memory.NoMemory.{NoMemory}
 use Rattle.cha_board.specs.declared.men.Color.{Color}
 use Rattle.cha_board.specs.Board.{Board}
@@ -9,7 +9,7 @@ use Rattle.cha_fact.specs.Entries.{Entry, HasProbe}
 use Rattle.cha_verdict.specs.declared.verdicts.Verdict.{Verdict}
 use Rattle.cha_verdict.specs.declared.verdicts.Verdict.TheVariants.{Winnable, Unwinnable, Undecided, Skipped}
 use Rattle.cha_verdict.specs.declared.decisions.Decision.{Decision}
-use Rattle.cha_verdict.specs.Bounds.{Bounds}
+use Rattle.cha_limits.specs.Bounds.{Bounds}
 use Rattle.cha_verdict.specs.Verdicts.{is_skipped, IsPrintable}
 use Rattle.cha_verdict.specs.Sound.{IsTrueOf, verdict_on}
 

@@ -4,12 +4,17 @@ ghost use Rattle.std.specs.Prelude.{◌≡◌, IfOk};
 ghost use Rattle.cha_board.specs.declared.men.Color.{Color as Side};
 ghost use Rattle.cha_verdict.specs.Verdicts.{is_winnable as can_mate, is_skipped, IsPrintable};
 ghost use Rattle.cha_verdict.specs.Sound.{IsTrueOf, IsSound, IsComplete, verdict_on};
+ghost use Rattle.mob_sets.specs.Rows.{sets_of};
+ghost use Rattle.mob_solve.specs.Least.{IsLeast};
 ghost use Rattle.cha_decide.specs.Shown.{Asked, AskedFor};
 
 use crate::sides::examine;
 use cha_board::{Color, Position};
+use cha_limits::Limits;
 use cha_list::NoMemory;
-use cha_verdict::{Decision, Limits, Verdict, is_winnable};
+use cha_verdict::{Decision, Verdict, is_winnable};
+use mob_sets::Sets;
+use mob_solve::least;
 use root_workers::{Crew, Gate};
 use std::alloc::Global;
 
@@ -46,12 +51,14 @@ pub fn decide_by<C: Crew>(
     ensures calls { Asked C.made crew.old crew.new position.now result }
 {
     position.known();
-    let examined = examine(alloc, position, first, limits, crew, gate)?;
+    let sets = least(alloc, position)?;
+    let examined = examine(alloc, position, first, &sets, limits, crew, gate)?;
     let other = examine_other(
         alloc,
         position,
         first.other(),
         &examined,
+        &sets,
         limits,
         crew,
         gate,
@@ -68,16 +75,18 @@ pub fn decide_by<C: Crew>(
     }
 }
 
-/// The verdict on the side that is examined second, by that on the first.
+/// The verdict on the side that is examined second, by that on the first and by the least closed sets of the position.
 fn examine_other<C: Crew>(
     alloc: Global,
     position: &Position,
     side: Color,
     first: &Verdict,
+    sets: &Sets,
     limits: &Limits,
     crew: &mut C,
     gate: &(dyn Gate + Sync),
 ) -> Result<Verdict, NoMemory>
+    requires least { IsLeast position.now (sets_of sets.now) }
     requires ready { C.ready crew.old }
     ensures stays_ready { C.ready crew.new }
     ensures holds { IfOk result (λ verdict. IsTrueOf position.now side limits.now verdict) }
@@ -88,5 +97,5 @@ fn examine_other<C: Crew>(
     if is_winnable(first) {
         return Ok(Verdict::Skipped);
     }
-    examine(alloc, position, side, limits, crew, gate)
+    examine(alloc, position, side, sets, limits, crew, gate)
 }

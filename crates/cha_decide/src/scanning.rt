@@ -8,8 +8,9 @@ ghost use Rattle.cha_decide.specs.Scanning.{IsFoundAt, IsShownAt, IsOpenAt, IsRe
 
 use crate::deciding::decide_by;
 use cha_board::{Color, Position};
+use cha_limits::Limits;
 use cha_list::NoMemory;
-use cha_verdict::{Decision, EarlierCerts, Edge, Limits, Scan, Verdict, are_dead, is_winnable};
+use cha_verdict::{Decision, EarlierCerts, Edge, Scan, Verdict, are_dead, is_winnable};
 use root_workers::{Crew, Gate};
 use std::alloc::Global;
 

@@ -6,18 +6,18 @@ ghost use Rattle.mob_law.specs.Closed.{IsClosed};
 ghost use Rattle.mob_law.specs.Static.{IsStaticallyUnwinnable};
 ghost use Rattle.mob_law.specs.Threats.{HasNoMate};
 ghost use Rattle.mob_sets.specs.Rows.{sets_of};
+ghost use Rattle.mob_solve.specs.Least.{IsLeast};
 ghost use Rattle.mob_small.specs.Small.{IsSmallUnwinnable};
-ghost use Rattle.mob_lone.specs.Lone.{IsLoneUnwinnable};
+ghost use Rattle.mob_small.specs.Lone.{IsLoneUnwinnable};
 ghost use Rattle.cha_verdict.specs.AtOnce.{IsShownAtOnce};
 ghost use Rattle.cha_decide.specs.Shown.{IsShownUnwinnable};
 
 use cha_board::{Color, Position};
 use cha_cert::{Cert, Checked, Node, Part, check};
 use cha_list::NoMemory;
-use mob_lone::lone_verdict;
 use mob_sets::Sets;
-use mob_small::small_verdict;
-use mob_solve::static_verdict;
+use mob_small::{lone_verdict, small_verdict};
+use mob_solve::least_show;
 use std::alloc::Global;
 
 /// The certificate of one node.
@@ -90,17 +90,21 @@ pub fn checked(
     }
 }
 
-/// The static verdict with its certificate: closed mobility sets in which no mate by the side can arise, if there are any.
+/// The static verdict with its certificate: the least closed mobility sets, where no mate by the side can arise in them.
 fn shown_by_sets(
     alloc: Global,
     position: &Position,
     winner: Color,
+    sets: &Sets,
 ) -> Result<Option<Cert>, NoMemory>
+    requires { IsLeast position.now (sets_of sets.now) }
     ensures { IfOk result (λ found. MatchOption found (IsStaticallyUnwinnable position.now winner → ⊥) (λ cert. IsShownUnwinnable position.now winner cert)) }
 {
-    match static_verdict(alloc, position, winner)? {
-        Some(sets) => Ok(Some(certified(alloc, position, winner, sets)?)),
-        None => Ok(None),
+    if least_show(position, winner, sets) {
+        let own = sets.copy(alloc)?;
+        Ok(Some(certified(alloc, position, winner, own)?))
+    } else {
+        Ok(None)
     }
 }
 
@@ -122,16 +126,19 @@ fn shown_by_material(
     Ok(None)
 }
 
-/// The certificate that a side cannot mate, where that is shown without a search: by closed mobility sets, or by the men alone.
+/// The certificate that a side cannot mate, where that is shown without a search: by the least closed mobility sets, or by the men
+/// alone.
 #[tactic(auto, using(crate::proofs::Leaves::not_at_once))]
 pub fn shown_at_once(
     alloc: Global,
     position: &Position,
     winner: Color,
+    sets: &Sets,
 ) -> Result<Option<Cert>, NoMemory>
+    requires { IsLeast position.now (sets_of sets.now) }
     ensures { IfOk result (λ found. MatchOption found (IsShownAtOnce position.now winner → ⊥) (λ cert. IsShownUnwinnable position.now winner cert)) }
 {
-    match shown_by_sets(alloc, position, winner)? {
+    match shown_by_sets(alloc, position, winner, sets)? {
         Some(cert) => Ok(Some(cert)),
         None => match shown_by_material(alloc, position, winner)? {
             Some(cert) => Ok(Some(cert)),

@@ -9,8 +9,9 @@ ghost use Rattle.cha_decide.specs.Shown.{Asked};
 
 use crate::deciding::decide_by;
 use cha_board::{Color, Position};
+use cha_limits::Limits;
 use cha_list::NoMemory;
-use cha_verdict::{Decision, Limits};
+use cha_verdict::Decision;
 use root_workers::{Gate, Many, Worker};
 use shard_table::Table;
 use std::alloc::Global;

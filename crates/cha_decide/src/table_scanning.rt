@@ -7,9 +7,10 @@ ghost use Rattle.cha_decide.specs.Shown.{MadeSome};
 
 use crate::scanning::scan_by;
 use cha_board::Color;
+use cha_limits::Limits;
 use cha_list::NoMemory;
 use cha_moves::Positions;
-use cha_verdict::{Decision, Limits, Scan};
+use cha_verdict::{Decision, Scan};
 use root_workers::{Gate, Many, Worker};
 use shard_table::Table;
 use std::alloc::Global;

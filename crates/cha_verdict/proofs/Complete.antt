@@ -8,13 +8,13 @@ use Rattle.cha_moves.specs.Lines.{HasPositions}
 use Rattle.mob_law.proofs.Exploring.{explored_positions}
 use Rattle.mob_law.proofs.Law.{static_bounded}
 use Rattle.mob_small.proofs.Keeping.{small_bounded}
-use Rattle.mob_lone.proofs.Keeping.{lone_bounded}
+use Rattle.mob_small.proofs.LoneKeeping.{lone_bounded}
 use Rattle.cha_cert.proofs.Bounded.{valid_is_unwinnable}
 use Rattle.cha_verdict.specs.declared.verdicts.Verdict.{Verdict}
 use Rattle.cha_verdict.specs.declared.verdicts.Verdict.TheVariants.{Winnable, Unwinnable, Undecided, Skipped}
 use Rattle.cha_verdict.specs.declared.decisions.Decision.{Decision}
 use Rattle.cha_verdict.specs.AtOnce.{IsShownAtOnce, BySets, BySmallMaterial, ByLoneMen}
-use Rattle.cha_verdict.specs.Bounds.{Bounds}
+use Rattle.cha_limits.specs.Bounds.{Bounds}
 use Rattle.cha_verdict.specs.Verdicts.{is_winnable, is_unwinnable, is_undecided, is_skipped}
 use Rattle.cha_verdict.specs.Sound.{IsTrueOf, IsSound, IsComplete, verdict_on}
 

@@ -14,7 +14,7 @@ use Rattle.cha_verdict.specs.declared.scans.Edge.{Edge}
 use Rattle.cha_verdict.specs.declared.scans.Edge.TheVariants.{Start, Live, Unclear}
 use Rattle.cha_verdict.specs.declared.scans.EarlierCerts.{EarlierCerts}
 use Rattle.cha_verdict.specs.declared.scans.Scan.{Scan}
-use Rattle.cha_verdict.specs.Bounds.{Bounds}
+use Rattle.cha_limits.specs.Bounds.{Bounds}
 use Rattle.cha_verdict.specs.Verdicts.{is_winnable}
 use Rattle.cha_verdict.specs.Sound.{IsTrueOf, IsSound}
 use Rattle.cha_verdict.specs.Scans.{AreValidCerts, IsEarlier, HasEdge, IsSoundScan, ShowsDead}

@@ -3,7 +3,7 @@ use Rattle.cha_board.specs.declared.men.Color.{Color}
 use Rattle.cha_board.specs.Board.{Board}
 use Rattle.mob_law.specs.Static.{IsStaticallyUnwinnable}
 use Rattle.mob_small.specs.Small.{IsSmallUnwinnable}
-use Rattle.mob_lone.specs.Lone.{IsLoneUnwinnable}
+use Rattle.mob_small.specs.Lone.{IsLoneUnwinnable}
 
 -- a side is shown unable to mate without a search
 pub data IsShownAtOnce (q : Board) (winner : Color) : Type 0 where

@@ -1,5 +1,4 @@
 pub mod AtOnce
-pub mod Bounds
 pub mod Verdicts
 pub mod Sound
 pub mod Scans

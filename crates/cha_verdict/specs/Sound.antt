@@ -13,7 +13,7 @@ use Rattle.cha_verdict.specs.declared.verdicts.Verdict.{Verdict}
 use Rattle.cha_verdict.specs.declared.verdicts.Verdict.TheVariants.{Winnable, Unwinnable, Undecided, Skipped}
 use Rattle.cha_verdict.specs.declared.decisions.Decision.{Decision}
 use Rattle.cha_verdict.specs.AtOnce.{IsShownAtOnce}
-use Rattle.cha_verdict.specs.Bounds.{Bounds}
+use Rattle.cha_limits.specs.Bounds.{Bounds}
 use Rattle.cha_verdict.specs.Verdicts.{is_winnable, is_unwinnable, is_undecided, is_skipped}
 
 -- The whole budget was spent: that many distinct positions were expanded and no mate was met. Nor is there a mate within some

@@ -6,7 +6,7 @@ ghost use Rattle.cha_board.specs.Board.{Board, IsValid};
 ghost use Rattle.cha_verdict.specs.declared.decisions.Decision.{Decision};
 ghost use Rattle.cha_moves.specs.Dead.{IsDead, ArePlayed};
 ghost use Rattle.cha_verdict.specs.declared.scans.Scan.{Scan};
-ghost use Rattle.cha_verdict.specs.Bounds.{Bounds};
+ghost use Rattle.cha_limits.specs.Bounds.{Bounds};
 ghost use Rattle.cha_verdict.specs.Sound.{IsSound, IsComplete, verdict_on};
 ghost use Rattle.cha_verdict.specs.Scans.{IsSoundScan, ShowsDead};
 

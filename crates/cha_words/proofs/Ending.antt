@@ -5,7 +5,7 @@ use Rattle.std.proofs.lemmas.List.{take_all}
 use Rattle.cha_words.specs.declared.settings.Setting.{Setting}
 use Rattle.cha_words.specs.declared.settings.Setting.TheVariants.{Budget, Workers, Depth, Entries}
 use Rattle.cha_words.specs.declared.given.Given.{Given}
-use Rattle.cha_verdict.specs.Bounds.{Bounds}
+use Rattle.cha_limits.specs.Bounds.{Bounds}
 use Rattle.cha_words.specs.declared.orders.Order.{Order}
 use Rattle.cha_words.specs.declared.orders.Order.TheVariants.{AdjudicateGames, JudgePositions, CheckCert, GenGames}
 use Rattle.cha_words.specs.declared.commands.Command.{Command}

@@ -1,8 +1,7 @@
 -- What the words behind `mates` read so far have given, and what the rest makes of it.
-use Rattle.std.specs.Prelude.{◌≡◌, ℕ, ◌≤◌, List, [], ◌∷◌, filter, filter_map, Option, Some, None, MatchOption, ⊤}
+use Rattle.std.specs.Prelude.{◌≡◌, ℕ, List, [], ◌∷◌, filter, filter_map, Option, Some, None, MatchOption}
 use Rattle.cha_board.specs.declared.men.Color.{Color}
 use Rattle.cha_words.specs.declared.orders.Order.{Order}
-use Rattle.cha_words.specs.declared.settings.Setting.{Setting}
 use Rattle.cha_words.specs.declared.settings.Setting.TheVariants.{Workers, Depth}
 use Rattle.cha_words.specs.declared.mates.Wanted.{Wanted}
 use Rattle.cha_words.specs.declared.mates.Reading.{Reading}

@@ -1,6 +1,6 @@
 -- What the words read so far have given, and what the rest makes of it.
 use Rattle.std.specs.Prelude.{◌≡◌, ℕ, ◌≤◌, true, false, Bool, List, [], ◌∷◌, filter, filter_map, Option, Some, None, MatchOption, ⊤}
-use Rattle.cha_verdict.specs.Bounds.{Bounds}
+use Rattle.cha_limits.specs.Bounds.{Bounds}
 use Rattle.cha_words.specs.declared.orders.Order.{Order}
 use Rattle.cha_words.specs.declared.orders.Order.TheVariants.{AdjudicateGames, JudgePositions}
 use Rattle.cha_words.specs.declared.commands.Command.{Command}

@@ -11,12 +11,8 @@ mod given;
 mod mates;
 mod numbers;
 mod orders;
-#[cfg(test)]
-mod random_rows;
 mod reading;
 mod settings;
-#[cfg(test)]
-mod tests;
 
 pub use faults::{UsageFault, usage_fault};
 pub use orders::{Order, games_are_some, mates_are_bounded, parse};

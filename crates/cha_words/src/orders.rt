@@ -1,7 +1,7 @@
 //! What the words order.
 
 ghost use Rattle.std.specs.Prelude.{◌≡◌, ◌≤◌, ℕ, List, Some, [], map, string_bytes, unwrap_or};
-ghost use Rattle.cha_verdict.specs.Bounds.{Bounds};
+ghost use Rattle.cha_limits.specs.Bounds.{Bounds};
 ghost use Rattle.cha_words.specs.Language.{least_of, most_of, limits_in, order, order_by, order_of};
 ghost use Rattle.cha_words.specs.Reading.{HasRanges, limits_from, order_from, value_in};
 ghost use Rattle.cha_words.specs.declared.commands.Command.TheVariants.{Check, Gen};
@@ -14,7 +14,7 @@ use crate::mates::mates_by;
 use crate::reading::given_by;
 use crate::settings::Setting;
 use cha_board::Color;
-use cha_verdict::Limits;
+use cha_limits::Limits;
 
 /// What the words order.
 #[derive(Clone, Copy, Debug, PartialEq, Eq)]

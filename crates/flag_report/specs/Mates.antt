@@ -1,5 +1,5 @@
 -- The texts that are printed for the shortest mates (this project).
-use Rattle.std.specs.Prelude.{ℕ, Bool, true, false, if◌then◌else◌, List, [], ◌∷◌, ◌++◌, length, codes, decimal}
+use Rattle.std.specs.Prelude.{ℕ, Bool, if◌then◌else◌, List, [], ◌∷◌, ◌++◌, length, codes, decimal}
 use Rattle.cha_board.specs.Board.{Board}
 use Rattle.cha_fen.specs.Written.{fen_text}
 use Rattle.cha_moves.specs.Step.{Move}

@@ -1,5 +1,5 @@
 -- The text that says from where on a game was dead (this project).
-use Rattle.std.specs.Prelude.{◌≡◌, ℕ, ◌-◌, ◌≤◌, Bool, List, [], ◌++◌, Option, Some, None, codes, ⊤}
+use Rattle.std.specs.Prelude.{◌≡◌, ℕ, ◌-◌, ◌≤◌, Bool, List, [], ◌++◌, Option, Some, None, codes}
 use Rattle.cha_board.specs.declared.men.Color.TheVariants.{White, Black}
 use Rattle.cha_verdict.specs.declared.verdicts.Verdict.TheVariants.{Unwinnable}
 use Rattle.cha_verdict.specs.declared.scans.Edge.{Edge}

@@ -15,7 +15,7 @@ use Rattle.cha_board.specs.SquareSets.{set_of, has_square, set_common, has_no_sq
 use Rattle.cha_board.proofs.SetLaws.{has-set_of}
 use Rattle.cha_board.proofs.Scans.{any_square_at}
 use Rattle.cha_board.proofs.Contents.{some_square}
-use Rattle.mob_steps.specs.Grounds.{has_own}
+use Rattle.mob_check.specs.Grounds.{has_own}
 use Rattle.mob_law.specs.Threats.{KingOn, NonKingOn, HasAtMostOneMan, MayStandNear}
 use Rattle.mob_sets.specs.Rows.{Row, SetRows, is_entry, has_entry, sets_of}
 use Rattle.cha_board.proofs.Identity.{same_kind_self, same_kind_equal}

@@ -1,20 +1,17 @@
 -- Which rings keep a king in: how what is left to it is filled, and where the other king then stands.
-use Rattle.std.proofs.Common.{◌≡◌, ◌≢◌, ℕ, ◌<◌, Bool, true, false, not, ◌&&◌, ◌||◌, ◌==◌, if◌then◌else◌, List, length, leb, Option, Some, refl, ap, sym, subst, ◌∙◌, inl, inr}
+use Rattle.std.proofs.Common.{◌≡◌, ◌≢◌, ℕ, ◌<◌, Bool, true, false, not, ◌&&◌, ◌||◌, ◌==◌, List, length, leb, Option, Some, ap, sym, ◌∙◌}
 use Rattle.std.specs.List.{list_any}
-use Rattle.std.proofs.lemmas.Bool.{and_parts, and_from, or_cases, or_left, or_right, both_ways, cases_Bool, not-true, eq-eqb, eqb-true, ne_eqb, eqb-false, le-leb, leb-true, false_from_ne_true}
+use Rattle.std.proofs.lemmas.Bool.{and_parts, and_from, not-true, ne_eqb, eqb-false, le-leb, leb-true}
 use Rattle.cha_board.specs.declared.men.Color.{Color}
 use Rattle.cha_board.specs.declared.men.Kind.{Kind}
 use Rattle.cha_board.specs.Men.{other_color}
-use Rattle.cha_board.specs.Squares.{squares, aims_at, steps_apart}
-use Rattle.cha_board.specs.Aims.{aims_over, is_open as is_seen}
+use Rattle.cha_board.specs.Squares.{steps_apart}
 use Rattle.cha_board.specs.Board.{Board}
-use Rattle.mob_law.proofs.Geometry.{aims_at_self}
-use Rattle.mob_steps.specs.Grounds.{has_own}
-use Rattle.cha_board.specs.SquareSets.{set_of, has_square, squares_in, is_subset}
+use Rattle.cha_board.specs.SquareSets.{has_square, squares_in, is_subset}
 use Rattle.cha_board.proofs.SetLaws.{has-set_of}
 use Rattle.cha_board.proofs.Scans.{any_square_at}
 use Rattle.mob_sets.specs.Mobility.{Sets}
-use Rattle.mob_law.specs.Threats.{KingOn, NonKingOn, HasAtMostOneMan, Checks, Attacks, ends_check, MayStandNear, Covered, Blocked, NextToKing, Attacked, Threat, HasNoMate}
+use Rattle.mob_law.specs.Threats.{KingOn, NonKingOn, ends_check, MayStandNear, Threat}
 use Rattle.cha_board.proofs.Contents.{some_square, subset_at, subset_from}
 use Rattle.mob_sets.specs.Rows.{SetRows, kinds, sets_of}
 use Rattle.mob_sets.proofs.KindTests.{any_kind_at, some_kind}
@@ -22,12 +19,10 @@ use Rattle.mob_check.specs.declared.scene.Scene.{Scene}
 use Rattle.mob_check.specs.declared.ring.Ring.{Ring}
 use Rattle.mob_check.specs.Nearness.{next_to}
 use Rattle.mob_check.specs.Reaches.{origins_of}
-use Rattle.mob_check.specs.Scenes.{squares_as, has_at_most_one, scene_of}
-use Rattle.mob_check.specs.Mates.{checks_as, checks_from, has_check, seen_through, strikes, struck_by, strikes_as, strikes_from, struck, is_left, left_squares, is_filled, shuts_from, may_shut, stays_as, stays_on, ring_of_one, mates_with_all, mates_as, mates_from, mates_with_one, men_near, mates_among, may_mate_on, may_mate}
-use Rattle.mob_check.proofs.Choices.{chosen, chosen_first, chosen_second}
+use Rattle.mob_check.specs.Scenes.{squares_as, scene_of}
+use Rattle.mob_check.specs.Mates.{is_left, left_squares, is_filled, shuts_from, may_shut, stays_as, stays_on, men_near}
 use Rattle.mob_check.proofs.Counting.{squares_apart, listed_in, in_listed, counts, given}
-use Rattle.mob_check.proofs.Seeing.{open_is, through_is}
-use Rattle.mob_check.proofs.MenInReach.{squares_as_is, king_gives, king_from, man_gives, man_from, any_gives, any_from, near_gives, near_from, small_of, one_from, several_not_one}
+use Rattle.mob_check.proofs.MenInReach.{squares_as_is, king_gives, king_from, man_gives, man_from, near_gives, near_from, small_of}
 
 pub apart_from : (a b : ℕ) → a ≢ b → not (a == b) ≡ true
 apart_from a b ne = ap not (ne_eqb a b ne)

@@ -18,10 +18,10 @@ use Rattle.cha_board.proofs.Identity.{on_board, some_inj}
 use Rattle.mob_sets.specs.Mobility.{Sets}
 use Rattle.mob_sets.specs.Rows.{SetRows, kinds, sets_of}
 use Rattle.mob_sets.proofs.KindTests.{any_kind_at, some_kind, all_kinds_at, each_kind}
-use Rattle.mob_steps.specs.declared.ground.Ground.{Ground}
-use Rattle.mob_steps.specs.Grounds.{reaches_from, is_reached}
-use Rattle.mob_steps.specs.Rules.{comes_on, ends_on, is_freed, AreRules, ManRules, AllRules}
-use Rattle.mob_steps.proofs.RowRules.{comes_inside, ends_inside, rules_from, each_promotion}
+use Rattle.mob_check.specs.declared.ground.Ground.{Ground}
+use Rattle.mob_check.specs.Grounds.{reaches_from, is_reached}
+use Rattle.mob_check.specs.Rules.{comes_on, ends_on, is_freed, AreRules, ManRules, AllRules}
+use Rattle.mob_check.proofs.RowRules.{comes_inside, ends_inside, rules_from, each_promotion}
 use Rattle.mob_check.specs.declared.groups.Group.TheVariants.{MenOf}
 use Rattle.mob_check.specs.Reaches.{reaches, reach_of}
 use Rattle.mob_check.specs.Closing.{row_of, promoted, row_holds, man_holds, holds_at}

@@ -1,18 +1,22 @@
 -- The squares that men attack, as sets.
-use Rattle.std.proofs.Common.{◌≡◌, ℕ, ◌<◌, Bool, true, false, not, ◌&&◌, ◌==◌, List, sym, ap, ◌∙◌, inl, inr}
+use Rattle.std.proofs.Common.{◌≡◌, ℕ, ◌<◌, ◌≤◌, Bool, true, false, not, ◌&&◌, ◌==◌, List, sym, ap, ◌∙◌, arith, inl, inr}
 use Rattle.std.specs.List.{list_any}
 use Rattle.std.proofs.lemmas.Bool.{and_parts, and_left, cases_Bool}
 use Rattle.cha_board.specs.declared.men.Color.{Color}
 use Rattle.cha_board.specs.declared.men.Kind.{Kind}
 use Rattle.cha_board.specs.Aims.{aims_over, aimed}
-use Rattle.cha_board.specs.Squares.{steps_apart}
-use Rattle.cha_board.specs.SquareSets.{set_of, empty_set, has_square, set_without, set_common}
-use Rattle.cha_board.proofs.SetLaws.{has-set_of, same_set}
+use Rattle.cha_board.specs.Squares.{squares, steps_apart}
+use Rattle.cha_board.specs.SquareSets.{set_of, empty_set, has_square, set_without, set_common, is_subset}
+use Rattle.cha_board.proofs.SetLaws.{length-set_of, has-set_of, same_set, same_squares}
+use Rattle.cha_board.proofs.Contents.{some_square, same_test, subset_at}
+use Rattle.cha_board.proofs.Scans.{any_square_at}
 use Rattle.mob_sets.specs.Rows.{kinds}
+use Rattle.mob_sets.proofs.KindTests.{some_kind}
+use Rattle.mob_check.proofs.Gathering.{Gathers}
 use Rattle.mob_check.specs.declared.scene.Scene.{Scene}
 use Rattle.mob_check.specs.Nearness.{next_to}
 use Rattle.mob_check.specs.Scenes.{squares_as, all_in_reach}
-use Rattle.mob_check.specs.Mates.{strikes, struck_by, strikes_as, strikes_from}
+use Rattle.mob_check.specs.Mates.{strikes, struck_by, strikes_as, strikes_from, struck}
 use Rattle.mob_check.proofs.NextTo.{near_has}
 use Rattle.mob_check.proofs.Unreached.{no_strike_as}
 
@@ -50,3 +54,23 @@ from_none scene seen ks n u small none =
           ap (λ b. b && list_any (strikes_as scene seen ks n u) kinds) apart ∙ no_strike_as scene seen ks n u small gone)
       | inr same ↦ ap (λ b. b && list_any (strikes_as scene seen ks n u) kinds) same
     ]
+
+-- what is attacked is next to the king
+near_of : (scene : Scene) (seen : List Bool) (ks n u : ℕ) → strikes_from scene seen ks n u ≡ true → (steps_apart ks n == 1) ≡ true
+unfolding strikes_from strikes_as strikes
+near_of scene seen ks n u h =
+    let both = and_parts (not (u == ks)) (list_any (strikes_as scene seen ks n u) kinds) h in
+    let as_kind = some_kind (strikes_as scene seen ks n u) both.1 in
+    let hit = and_parts (has_square (squares_as scene.men as_kind.0) u) (strikes scene.winner seen ks u as_kind.0 n) as_kind.1 in
+    (and_parts (steps_apart ks n == 1) (aims_over scene.winner as_kind.0 u seen n) hit.1).0
+
+-- where the first squares give all that is next to the king, the others give no more
+pub all_struck : (scene : Scene) (seen : List Bool) (ks : ℕ) (set : List Bool) (i : ℕ) → Gathers (λ (u n : ℕ). strikes_from scene seen ks n u) set i → i ≤ 64 → is_subset (next_to ks) set ≡ true → set ≡ struck scene seen ks
+unfolding struck
+all_struck scene seen ks set i g below full =
+    let test = λ (n : ℕ). list_any (strikes_from scene seen ks n) squares in
+    same_squares set (set_of test) g.width (length-set_of test) (λ n small.
+    same_test (has_square set n) (has_square (set_of test) n)
+    (λ h. let k = g.some n small h in has-set_of test n small ∙ any_square_at (strikes_from scene seen ks n) k.0 (omega (arith, k.1, below)) k.2)
+    (λ h. let k = some_square (strikes_from scene seen ks n) (sym (has-set_of test n small) ∙ h) in
+    subset_at (next_to ks) set full n small (near_has ks n small ∙ near_of scene seen ks n k.0 k.2)))

@@ -9,8 +9,8 @@ use Rattle.cha_board.specs.Board.{Board, man_at}
 use Rattle.cha_board.specs.SquareSets.{set_of, set_common, is_subset}
 use Rattle.mob_sets.specs.Mobility.{Sets}
 use Rattle.mob_sets.specs.Rows.{SetRows, kinds, sets_of}
-use Rattle.mob_steps.specs.declared.ground.Ground.{Ground}
-use Rattle.mob_steps.specs.Rules.{comes_on, ends_on, is_freed}
+use Rattle.mob_check.specs.declared.ground.Ground.{Ground}
+use Rattle.mob_check.specs.Rules.{comes_on, ends_on, is_freed}
 
 -- the squares on which the man of o is in reach as a k, and as each kind that a pawn may become
 abbrev pub row_of : Sets → ℕ → Kind → List Bool

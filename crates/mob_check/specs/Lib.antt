@@ -1,4 +1,8 @@
--- Public contracts cite none of these: they say what mob_law defines. Tests that loops and lemmas use:
+-- what public contracts say, beside what mob_law defines
+pub mod Grounds
+pub mod Rules
+pub mod Steps
+-- what only loops and lemmas use
 pub mod Reaches
 pub mod Closing
 pub mod Nearness

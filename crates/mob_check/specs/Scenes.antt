@@ -5,9 +5,9 @@ use Rattle.cha_board.specs.declared.men.Kind.{Kind}
 use Rattle.cha_board.specs.declared.men.Kind.TheVariants.{Pawn, Knight, Bishop, Rook, Queen, King}
 use Rattle.cha_board.specs.Men.{other_color}
 use Rattle.cha_board.specs.Board.{Board}
-use Rattle.cha_board.specs.SquareSets.{set_of, squares_in, set_joined}
+use Rattle.cha_board.specs.SquareSets.{set_of, squares_in, empty_set, set_joined}
 use Rattle.mob_law.specs.Reach.{is_fixed}
-use Rattle.mob_steps.specs.Grounds.{has_own}
+use Rattle.mob_check.specs.Grounds.{has_own}
 use Rattle.mob_sets.specs.Rows.{Row, SetRows, sets_of}
 use Rattle.mob_check.specs.declared.groups.Group.TheVariants.{KingOf, MenOf, MenAs}
 use Rattle.mob_check.specs.declared.scene.Reach.{Reach}
@@ -26,6 +26,19 @@ squares_as r King = r.kings
 -- the squares on which men are in reach, whatever they may be there
 unfoldable pub all_in_reach : Reach → List Bool
 all_in_reach r = set_joined (set_joined (set_joined (set_joined (set_joined r.pawns r.knights) r.bishops) r.rooks) r.queens) r.kings
+
+-- no man is in reach anywhere
+abbrev pub reach_nowhere : Reach
+reach_nowhere = record { pawns = empty_set; knights = empty_set; bishops = empty_set; rooks = empty_set; queens = empty_set; kings = empty_set }
+
+-- on more squares a man is in reach as a kind
+abbrev pub reach_with : Reach → Kind → List Bool → Reach
+reach_with r Pawn more = record { pawns = set_joined r.pawns more; knights = r.knights; bishops = r.bishops; rooks = r.rooks; queens = r.queens; kings = r.kings }
+reach_with r Knight more = record { pawns = r.pawns; knights = set_joined r.knights more; bishops = r.bishops; rooks = r.rooks; queens = r.queens; kings = r.kings }
+reach_with r Bishop more = record { pawns = r.pawns; knights = r.knights; bishops = set_joined r.bishops more; rooks = r.rooks; queens = r.queens; kings = r.kings }
+reach_with r Rook more = record { pawns = r.pawns; knights = r.knights; bishops = r.bishops; rooks = set_joined r.rooks more; queens = r.queens; kings = r.kings }
+reach_with r Queen more = record { pawns = r.pawns; knights = r.knights; bishops = r.bishops; rooks = r.rooks; queens = set_joined r.queens more; kings = r.kings }
+reach_with r King more = record { pawns = r.pawns; knights = r.knights; bishops = r.bishops; rooks = r.rooks; queens = r.queens; kings = set_joined r.kings more }
 
 unfoldable pub reach_by_kind : Board → List Row → Color → Reach
 reach_by_kind p rows c = record {

@@ -56,12 +56,17 @@ fn hits(scene: &Scene, king: Square, from: Square, kind: Kind) -> bool
 
 /// The squares next to the king that some man of the winner may attack; `seen` has the fixed squares without the king's, which
 /// is not in the way of what attacks the squares behind it.
+// In most sets a few men attack them all.
 pub fn struck(scene: &Scene, seen: SquareSet, king: Square) -> SquareSet
     ensures { result ≡ struck_set scene.now seen king }
 {
     let men = somewhere(&scene.men).without(king);
+    let near = squares_near(king);
     let mut squares = SquareSet::empty();
     for index in 0..64 {
+        if near.within(squares) {
+            return squares;
+        }
         let from = Square::at(index);
         if men.has(from) {
             squares = squares.joined(struck_somehow(scene, seen, king, from));

@@ -5,13 +5,15 @@ ghost use Rattle.std.specs.List.{list_all};
 ghost use Rattle.cha_board.specs.Squares.{squares};
 ghost use Rattle.mob_law.specs.Closed.{IsClosed};
 ghost use Rattle.mob_sets.specs.Rows.{kinds, sets_of};
-ghost use Rattle.mob_steps.specs.Grounds.{ground_of as ground_by};
+ghost use Rattle.mob_check.specs.Grounds.{ground_of as ground_by};
 ghost use Rattle.mob_check.specs.Closing.{promoted as promoted_in, row_holds as holds_as, holds_at};
 
+use crate::frees::freed;
+use crate::goes::{comes, ends};
+use crate::ground::Ground;
 use crate::groups::{Group, squares_of};
 use cha_board::{Color, Kind, Position, Square, SquareSet};
 use mob_sets::Sets;
-use mob_steps::{Ground, comes, ends, freed};
 
 /// Whether mobility sets are closed for a position (this project): whatever legal moves may come, each man stays in reach.
 /// Entries whose origin has no man are looked at by no rule. It takes no memory.

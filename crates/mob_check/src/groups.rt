@@ -1,9 +1,12 @@
 //! The squares on which some man of a group is in reach.
 
 ghost use Rattle.std.specs.Prelude.{◌≡◌};
+ghost use Rattle.cha_board.specs.Board.{man_at};
+ghost use Rattle.cha_board.specs.Men.{is_non_king};
 ghost use Rattle.mob_check.specs.Reaches.{is_row_of, is_row_on, reach_of, origins_of};
 
-use cha_board::{Color, Kind, Position, SquareSet, is_man_of, is_man_other_than_king};
+use crate::ground::own_squares;
+use cha_board::{Color, Kind, Position, SquareSet, is_man_of};
 use mob_sets::SetRow;
 
 /// Some entries of mobility sets.
@@ -56,10 +59,19 @@ fn is_on(position: &Position, side: Color, on: SquareSet, row: SetRow) -> bool
 fn is_of(position: &Position, group: Group, row: SetRow) -> bool
     ensures { result ≡ is_row_of position.now group row }
 {
-    let man = position.man(row.origin);
     match group {
-        Group::KingOf(side) => row.kind.is(Kind::King) && is_man_of(man, side, Kind::King),
-        Group::MenOf(side) => is_man_other_than_king(man, side),
-        Group::MenAs(side, kind) => row.kind.is(kind) && is_man_other_than_king(man, side),
+        Group::KingOf(side) => {
+            row.kind.is(Kind::King) && is_man_of(position.man(row.origin), side, Kind::King)
+        }
+        Group::MenOf(side) => is_own(position, side, row),
+        Group::MenAs(side, kind) => row.kind.is(kind) && is_own(position, side, row),
     }
+}
+
+/// Whether a row is of a side's man other than the king.
+pub fn is_own(position: &Position, side: Color, row: SetRow) -> bool
+    ensures { result ≡ is_non_king side (man_at position.now.men row.origin) }
+{
+    let _origin = row.origin.index();
+    own_squares(position, side).has(row.origin)
 }

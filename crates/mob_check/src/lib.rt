@@ -1,18 +1,33 @@
 //! Mobility sets, checked against a position: whether they are closed, and whether they leave a mate in reach.
 //!
-//! `closing` has the test of closed sets; `mates` the search for a mate, with `scene`, `attacks`, `near` and `ring`; `bound`
-//! both together, and `groups` entries of sets.
+//! The rules of closed sets stand as steps of sets of squares: `ground` has what the rules look at, `steps` where men aim by one
+//! step or a jump, `ranks` where pawns are promoted, `goes` where men of a kind go from a set of squares, as far as fixed and
+//! guarded squares let them, `frees` which origins become loose, and `rules` the law that these are the rules of closed sets.
+//!
+//! The checks: `closing` has the test of closed sets; `mates` the search for a mate, with `scene`, `attacks`, `near` and `ring`;
+//! `bound` both together, and `groups` entries of sets.
 #![tactic(auto)]
 
 mod attacks;
 mod bound;
 mod closing;
+mod frees;
+mod goes;
+mod ground;
 mod groups;
 mod mates;
 mod near;
+mod ranks;
 mod ring;
+mod rules;
 mod scene;
+mod steps;
 
 pub use bound::proves_unwinnable;
 pub use closing::closed;
+pub use frees::freed;
+pub use goes::{comes, ends};
+pub use ground::{Ground, SideGround, own_squares};
 pub use mates::no_mate;
+pub use rules::rules_on_the_ground;
+pub use steps::spread;

@@ -8,8 +8,8 @@ ghost use Rattle.mob_check.specs.Mates.{is_filled, stays_as, stays_on, ring_of_o
 
 use crate::attacks::struck_from;
 use crate::scene::{Scene, reach_as};
+use crate::steps::spread;
 use cha_board::{Color, Kind, Square, SquareSet, squares_between};
-use mob_steps::spread;
 
 /// What keeps a king from the squares next to it, besides the other king.
 #[derive(Clone, Copy, Debug, PartialEq, Eq)]

@@ -4,13 +4,13 @@ ghost use Rattle.std.specs.Prelude.{◌≡◌};
 ghost use Rattle.cha_board.specs.SquareSets.{set_of};
 ghost use Rattle.mob_law.specs.Reach.{is_fixed};
 ghost use Rattle.mob_sets.specs.Rows.{sets_of};
-ghost use Rattle.mob_steps.specs.Grounds.{has_own};
-ghost use Rattle.mob_check.specs.Scenes.{squares_as, all_in_reach, reach_by_kind, has_at_most_one, scene_of};
+ghost use Rattle.mob_check.specs.Grounds.{has_own};
+ghost use Rattle.mob_check.specs.Scenes.{squares_as, all_in_reach, reach_nowhere, reach_with, reach_by_kind, has_at_most_one, scene_of};
 
-use crate::groups::{Group, squares_of};
+use crate::ground::own_squares;
+use crate::groups::{Group, is_own, squares_of};
 use cha_board::{Color, Kind, Position, SquareSet};
 use mob_sets::{SetRow, Sets};
-use mob_steps::own_squares;
 
 /// The squares on which men of a side other than its king are in reach, by what they may be there.
 #[derive(Debug, Drop)]
@@ -42,6 +42,37 @@ pub struct Scene {
     pub loser_men: SquareSet,
     /// Where they are, by what they may be there.
     pub losers: Reach,
+}
+
+impl Reach {
+    /// No man is in reach anywhere.
+    fn nowhere() -> Reach
+        ensures { result ≡ reach_nowhere }
+    {
+        let none = SquareSet::empty();
+        Reach {
+            pawns: none,
+            knights: none,
+            bishops: none,
+            rooks: none,
+            queens: none,
+            kings: none,
+        }
+    }
+
+    /// Adds squares on which a man is in reach as a kind.
+    fn join(&mut self, kind: Kind, squares: SquareSet)
+        ensures { self.new ≡ reach_with self.old kind squares }
+    {
+        match kind {
+            Kind::Pawn => self.pawns = self.pawns.joined(squares),
+            Kind::Knight => self.knights = self.knights.joined(squares),
+            Kind::Bishop => self.bishops = self.bishops.joined(squares),
+            Kind::Rook => self.rooks = self.rooks.joined(squares),
+            Kind::Queen => self.queens = self.queens.joined(squares),
+            Kind::King => self.kings = self.kings.joined(squares),
+        }
+    }
 }
 
 /// Where men are in reach as a kind.
@@ -109,16 +140,14 @@ fn one_man(position: &Position, side: Color) -> bool
 }
 
 /// Where the men of a side other than its king are in reach.
-#[tactic(auto, unfolding(crate::specs::Scenes::reach_by_kind))]
 fn reach_kinds(position: &Position, rows: &[SetRow], side: Color) -> Reach
     ensures { result ≡ reach_by_kind position.now rows.now side }
 {
-    Reach {
-        pawns: squares_of(position, rows, Group::MenAs(side, Kind::Pawn)),
-        knights: squares_of(position, rows, Group::MenAs(side, Kind::Knight)),
-        bishops: squares_of(position, rows, Group::MenAs(side, Kind::Bishop)),
-        rooks: squares_of(position, rows, Group::MenAs(side, Kind::Rook)),
-        queens: squares_of(position, rows, Group::MenAs(side, Kind::Queen)),
-        kings: squares_of(position, rows, Group::MenAs(side, Kind::King)),
+    let mut reach = Reach::nowhere();
+    for row in rows {
+        if is_own(position, side, *row) {
+            reach.join(row.kind, row.squares);
+        }
     }
+    reach
 }

@@ -7,8 +7,6 @@
 mod one_spelling;
 mod rows;
 mod sets;
-#[cfg(test)]
-mod tests;
 mod tidy_rows;
 
 pub use one_spelling::sets_tell_rows;

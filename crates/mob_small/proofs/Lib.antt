@@ -1,8 +1,15 @@
 pub mod Places
 pub mod Flights
 pub mod Scene
-pub mod Replies
+pub mod Holes
+pub mod Answering
 pub mod NoMate
 pub mod Keeping
 pub mod Witnesses
 pub mod Exactness
+pub mod Sets
+pub mod Colors
+pub mod Uncovering
+pub mod Knights
+pub mod Bishops
+pub mod LoneKeeping

@@ -1,47 +1,28 @@
 -- A lone knight or bishop does not mate a bare king, nor beside a queen, nor a bishop beside a rook.
-use Rattle.std.proofs.Common.{◌≡◌, ℕ, ◌<◌, Bool, true, false, ◌⊎◌, List, Option, Some, None, refl, sym, subst, ◌∙◌, inl, inr}
-use Rattle.std.proofs.lemmas.Bool.{and_from, both_ways, eqb-true}
+use Rattle.std.proofs.Common.{◌≡◌, ℕ, ◌<◌, true, false, ◌⊎◌, List, Option, Some, None, refl, sym, subst, ◌∙◌, inl, inr}
+use Rattle.std.proofs.lemmas.Bool.{both_ways, eqb-true}
 use Rattle.cha_board.specs.declared.men.Color.{Color}
 use Rattle.cha_board.specs.declared.men.Color.TheVariants.{White}
 use Rattle.cha_board.specs.declared.men.Kind.{Kind}
-use Rattle.cha_board.specs.declared.men.Kind.TheVariants.{Pawn, Knight, Bishop, Rook, Queen, King}
+use Rattle.cha_board.specs.declared.men.Kind.TheVariants.{Knight, Bishop, Rook, Queen}
 use Rattle.cha_board.specs.declared.men.Man.{Man}
-use Rattle.cha_board.specs.Men.{other_color, same_kind, is_non_king}
+use Rattle.cha_board.specs.Men.{other_color, is_man, is_non_king}
 use Rattle.cha_board.specs.Squares.{steps_apart, aims_at, between}
 use Rattle.cha_board.specs.Board.{Board, man_at, is_empty, is_clear, IsValid}
-use Rattle.cha_board.proofs.Identity.{man_of, on_board}
-use Rattle.cha_moves.specs.Moves.{goes, promotes_well}
+use Rattle.cha_board.proofs.Identity.{man_of, on_board, empty_is_none}
+use Rattle.cha_board.proofs.ManTests.{is_non_king_from}
+use Rattle.cha_moves.specs.Moves.{may_enter, moved}
 use Rattle.cha_moves.specs.Ends.{IsMated}
-use Rattle.mob_law.proofs.Geometry.{aims_at_self}
+use Rattle.cha_moves.proofs.Clearing.{clear_at}
+use Rattle.cha_moves.proofs.Made.{moved_to}
 use Rattle.mob_law.proofs.Standing.{all_weaker}
 use Rattle.mob_small.specs.Small.{HasOnlyKing, HasOneBeside, HasBeside}
 use Rattle.mob_small.specs.Table.{is_free}
 use Rattle.mob_small.proofs.Places.{flight_tables, reply_tables, is_hole, along_rank, along_file, across, there}
 use Rattle.mob_small.proofs.Flights.{Flight, flight, not_both, Answer, answer}
-use Rattle.mob_small.proofs.Scene.{Shown, shown}
-use Rattle.mob_small.proofs.Replies.{hole_empty, answered}
-
--- rooks and queens
-unfoldable pub is_slider : Kind → Bool
-is_slider Rook = true
-is_slider Queen = true
-is_slider _ = false
-
--- how a rook or a queen moves
-pub record Slides (q : Board) (i : Kind) (n t : ℕ) : Type 0 where
-  pub way : goes q i n t ≡ true
-  pub well : promotes_well q.side i t None ≡ true
-  pub no_pawn : same_kind i Pawn ≡ false
-  pub no_king : same_kind i King ≡ false
-
-pub slides : (q : Board) (i : Kind) (n t : ℕ) → is_slider i ≡ true → aims_at White i n t ≡ true → is_clear q.men n t ≡ true → Slides q i n t
-unfolding is_slider goes promotes_well aims_at
-slides q Rook n t slider aims clear = record { way = and_from (aims_at q.side Rook n t) (is_clear q.men n t) aims clear; well = refl; no_pawn = refl; no_king = refl }
-slides q Queen n t slider aims clear = record { way = and_from (aims_at q.side Queen n t) (is_clear q.men n t) aims clear; well = refl; no_pawn = refl; no_king = refl }
-slides q Pawn n t slider aims clear = cc
-slides q Knight n t slider aims clear = cc
-slides q Bishop n t slider aims clear = cc
-slides q King n t slider aims clear = cc
+use Rattle.mob_small.proofs.Scene.{Shown, shown, non_king_man}
+use Rattle.mob_small.proofs.Holes.{hole_empty}
+use Rattle.mob_small.proofs.Answering.{is_slider, enter_enemy, not_by_king, stood_before, aims_apart, answered}
 
 -- At a mate by w, with its one man on the square of `one`:
 module _ (q : Board) (w : Color) (k : Kind) (valid : IsValid q) (mate : IsMated q (other_color w)) (one : HasOneBeside q.men w k) (sh : Shown q w k one.square) where
@@ -51,22 +32,38 @@ module _ (q : Board) (w : Color) (k : Kind) (valid : IsValid q) (mate : IsMated 
   never_answers i n t slider lo stands a =
       let place : n ≡ lo.square = lo.alone n stands in
       let other : (u : ℕ) → is_non_king (other_color w) (man_at q.men u) ≡ true → u ≡ n = λ u h. lo.alone u h ∙ sym place in
-      let m = man_of (man_at q.men lo.square) (other_color w) i lo.stands in
-      let P : ℕ → Type 0 = λ x. man_at q.men x ≡ Some m.man in
-      let found : man_at q.men n ≡ Some m.man = subst P (sym place) m.found in
-      let small : n < 64 = rw valid.size at (on_board q.men n m.man found) in
-      let clear : is_clear q.men n t ≡ true = all_weaker (is_hole sh.ks one.square n) (λ u. is_empty q.men u) (between n t) (hole_empty q w k valid mate one sh n other) a.over in
-      let go = slides q i n t slider a.aims clear in
-      answered q w k valid mate one sh n other t i m.man found m.color m.kind small (record {
+      let P : ℕ → Type 0 = λ x. is_man (other_color w) i (man_at q.men x) ≡ true in
+      let placed : is_man (other_color w) i (man_at q.men n) ≡ true = subst P (sym place) lo.stands in
+      let m = man_of (man_at q.men n) (other_color w) i placed in
+      let small : n < 64 = rw valid.size at (on_board q.men n m.man m.found) in
+      let hole = hole_empty q w k valid one sh n other in
+      let arrived : man_at (moved q.men n t (man_at q.men n)) t ≡ man_at q.men n = moved_to q.men n t (man_at q.men n) (rw valid.size a.small) in
+      let full : is_empty (moved q.men n t (man_at q.men n)) t ≡ false = rw (arrived, m.found) refl in
+      answered q w valid mate sh.ks sh.ks_small sh.loser n t i (record {
+        from = small;
         to = a.small;
-        way = go.way;
-        well = go.well;
-        no_pawn = go.no_pawn;
-        no_king = go.no_king;
-        apart = λ e. (
-            let A : ℕ → Type 0 = λ x. aims_at White i n x ≡ true in
-            both_ways (aims_at White i n n) (aims_at_self White i n small) (subst A (sym e) a.aims));
-        onto = a.onto;
+        stands = placed;
+        slider = slider;
+        aims = a.aims;
+        clear = all_weaker (is_hole sh.ks one.square n) (λ u. is_empty q.men u) (between n t) hole a.over;
+        enter =
+            elim a.onto [
+              | inl e ↦ (
+                  let E : ℕ → Type 0 = λ x. may_enter (other_color w) (man_at q.men x) ≡ true in
+                  subst E (sym e) (enter_enemy w (man_at q.men one.square) (non_king_man (man_at q.men one.square) w k one.stands one.no_king)))
+              | inr x ↦ (let none = empty_is_none (man_at q.men t) (hole t x.0) in rw none refl)
+            ];
+        safe = λ u small' attacker. (
+            let st = stood_before q w sh.ks n t u i valid small a.small (aims_apart i n t small a.aims) placed attacker in
+            let none = not_by_king q w sh.ks sh.wk u attacker.man valid sh.ks_small sh.wk_small small' sh.winner sh.far st.found attacker.own attacker.aims in
+            let same : u ≡ one.square = one.alone u (rw st.found (is_non_king_from w attacker.man attacker.own none)) in
+            elim a.onto [
+              | inl e ↦ st.not_to (same ∙ sym e)
+              | inr x ↦ (
+                  let C : ℕ → Type 0 = λ y. is_clear (moved q.men n t (man_at q.men n)) y sh.ks ≡ true in
+                  both_ways (is_empty (moved q.men n t (man_at q.men n)) t) full
+                  (clear_at (moved q.men n t (man_at q.men n)) one.square sh.ks t (subst C same attacker.clear) a.small x.1))
+            ]);
       })
 
   -- on one of the two squares towards the checker the loser has a man of its own

@@ -1,2 +1,5 @@
+-- what public contracts say
 pub mod Small
+pub mod Lone
+-- what only the crate's own functions and lemmas use
 pub mod Table

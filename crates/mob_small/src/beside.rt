@@ -35,7 +35,7 @@ pub(crate) fn kind_beside(position: &Position, of: Color) -> Result<Option<Kind>
 }
 
 /// The squares of a side's men other than kings.
-fn non_kings(position: &Position, of: Color) -> SquareSet
+pub(crate) fn non_kings(position: &Position, of: Color) -> SquareSet
     ensures { result ≡ set_of (λ u. is_non_king of (man_at position.now.men u)) }
 {
     let men = position.placement();

@@ -7,9 +7,9 @@ use Rattle.cha_board.specs.SquareSets.{set_of, has_square, set_joined, is_subset
 use Rattle.cha_board.proofs.SetLaws.{has-set_of}
 use Rattle.cha_board.proofs.Scans.{any_square_at}
 use Rattle.cha_board.proofs.Contents.{some_square, in_set_of, in_joined, joined_left, subset_at}
-use Rattle.mob_steps.specs.declared.ground.Ground.{Ground}
-use Rattle.mob_steps.specs.Steps.{stays}
-use Rattle.mob_steps.specs.Rules.{goes_on, is_entered, comes_on, StaysIn}
+use Rattle.mob_check.specs.declared.ground.Ground.{Ground}
+use Rattle.mob_check.specs.Steps.{stays}
+use Rattle.mob_check.specs.Rules.{goes_on, is_entered, comes_on, StaysIn}
 use Rattle.mob_solve.specs.Filled.{IsFilled}
 
 -- the squares that are entered from a set as what they are

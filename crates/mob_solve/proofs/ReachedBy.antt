@@ -9,7 +9,7 @@ use Rattle.cha_board.proofs.SetLaws.{has-set_of}
 use Rattle.cha_board.specs.Board.{Board, man_at}
 use Rattle.mob_sets.specs.Mobility.{Sets}
 use Rattle.mob_sets.specs.Rows.{kinds}
-use Rattle.mob_steps.specs.Grounds.{reaches_from, has_own}
+use Rattle.mob_check.specs.Grounds.{reaches_from, has_own}
 
 pub reached_by : (p : Board) (s : Sets) (c : Color) (t o i : ℕ) (rows : List Bool) → o ≡ i → t < 64 → rows ≡ set_of (λ u. list_any (λ k. s.has o k u) kinds) → has_own p c o ≡ true
     → has_square rows t ≡ reaches_from p s c t i

@@ -1,17 +1,20 @@
 -- The rules for an origin and a kind, once its row is filled.
-use Rattle.std.proofs.Common.{◌≡◌, ℕ, ◌<◌, Bool, true, ◌&&◌, List, Some, sym, subst, ◌∙◌}
-use Rattle.std.proofs.lemmas.Bool.{and_parts}
+use Rattle.std.proofs.Common.{◌≡◌, ℕ, ◌<◌, ◌==◌, Bool, true, false, not, ◌&&◌, List, Some, ap, sym, subst, ◌∙◌}
+use Rattle.std.proofs.lemmas.Bool.{and_parts, both_ways}
 use Rattle.cha_board.specs.declared.men.Color.{Color}
 use Rattle.cha_board.specs.declared.men.Kind.{Kind}
+use Rattle.cha_board.specs.declared.men.Kind.TheVariants.{Pawn}
 use Rattle.cha_board.specs.declared.men.Man.{Man}
+use Rattle.cha_board.specs.Men.{same_kind}
+use Rattle.cha_board.specs.Squares.{rank_of}
 use Rattle.cha_board.specs.SquareSets.{has_square}
 use Rattle.cha_board.proofs.Contents.{some_square}
-use Rattle.cha_moves.specs.Moves.{is_promotion}
+use Rattle.cha_moves.specs.Moves.{last_rank, is_promotion}
 use Rattle.mob_sets.specs.Mobility.{Sets}
-use Rattle.mob_steps.specs.declared.ground.Ground.{Ground}
-use Rattle.mob_steps.specs.Steps.{stays}
-use Rattle.mob_steps.specs.Rules.{goes_on, is_entered, comes_on, ends_on, is_freed, AreRules, ManRules}
-use Rattle.mob_steps.proofs.RowRules.{rules_from}
+use Rattle.mob_check.specs.declared.ground.Ground.{Ground}
+use Rattle.mob_check.specs.Steps.{stays}
+use Rattle.mob_check.specs.Rules.{goes_on, is_entered, comes_on, ends_on, is_freed, AreRules, ManRules}
+use Rattle.mob_check.proofs.RowRules.{rules_from}
 use Rattle.mob_solve.specs.declared.reach.Reach.{Reach}
 use Rattle.mob_solve.specs.Reaching.{sets_in}
 use Rattle.mob_solve.specs.Filled.{IsFilled}
@@ -39,6 +42,14 @@ module _ (g : Ground) (o : ℕ) (c : Color) (k : Kind) (row : List Bool) where
   row_rules before s small-o is filled come become free =
       rules_from g o c k row s small-o (λ u small here. filled.more u small (sym (is u) ∙ here))
       (λ t small h. come t small (comes_within before filled t small h)) become free
+
+-- a man that is no pawn stays of its kind
+pub ends_nowhere : (g : Ground) (c : Color) (k : Kind) (set : List Bool) (t : ℕ) → same_kind k Pawn ≡ false → ends_on g c k set t ≡ true → ⊥
+unfolding ends_on stays
+ends_nowhere g c k set t piece h =
+    let both = and_parts (is_entered g c k set t) (not (not (same_kind k Pawn && (rank_of t == last_rank c)))) h in
+    let none : not (not (same_kind k Pawn && (rank_of t == last_rank c))) ≡ false = ap (λ b. not (not (b && (rank_of t == last_rank c)))) piece in
+    both_ways (not (not (same_kind k Pawn && (rank_of t == last_rank c)))) none both.1
 
 -- rules of sets hold of equal ones
 pub rules_before : (old new : Reach) (g : Ground) (o : ℕ) (c : Color) (k : Kind) → new ≡ old → AreRules g (sets_in new) o c k → AreRules g (sets_in old) o c k

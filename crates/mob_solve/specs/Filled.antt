@@ -3,8 +3,8 @@ use Rattle.std.specs.Prelude.{◌≡◌, ℕ, ◌<◌, Bool, true, List}
 use Rattle.cha_board.specs.declared.men.Color.{Color}
 use Rattle.cha_board.specs.declared.men.Kind.{Kind}
 use Rattle.cha_board.specs.SquareSets.{has_square}
-use Rattle.mob_steps.specs.declared.ground.Ground.{Ground}
-use Rattle.mob_steps.specs.Rules.{StaysIn}
+use Rattle.mob_check.specs.declared.ground.Ground.{Ground}
+use Rattle.mob_check.specs.Rules.{StaysIn}
 
 -- the least squares that hold a set and all to which a k of c goes from them, as a k
 pub record IsFilled (g : Ground) (c : Color) (k : Kind) (set filled : List Bool) : Type 0 where

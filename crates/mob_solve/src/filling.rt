@@ -3,7 +3,7 @@
 ghost use Rattle.mob_solve.specs.Filled.{IsFilled};
 
 use cha_board::{Color, Kind, SquareSet};
-use mob_steps::{Ground, comes};
+use mob_check::{Ground, comes};
 
 /// The squares that a man may come to from some squares as long as it stays of its kind.
 pub fn filled(ground: &Ground, side: Color, kind: Kind, from: SquareSet) -> SquareSet

@@ -2,7 +2,7 @@
 //!
 //! `reach` has the sets as they grow, `reached` the ground that they make, `filling` squares filled by steps, `man_rules`
 //! the rules for a man, `passes` all of them in turn, `closure` the least closed sets, `entries` how they are handed out, and
-//! `verdicts` the static verdict.
+//! `verdicts` what they show.
 #![tactic(auto)]
 
 mod closure;
@@ -15,4 +15,4 @@ mod reached;
 mod verdicts;
 
 pub use closure::least;
-pub use verdicts::static_verdict;
+pub use verdicts::{least_show, static_verdict};

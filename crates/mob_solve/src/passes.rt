@@ -7,13 +7,13 @@ ghost use Rattle.cha_board.specs.Board.{man_at};
 ghost use Rattle.mob_sets.specs.Mobility.{Sets, IsWithin};
 ghost use Rattle.mob_law.specs.Closed.{IsClosed};
 ghost use Rattle.mob_solve.specs.Reaching.{sets_in, Grew};
-ghost use Rattle.mob_steps.specs.Rules.{ManRules};
+ghost use Rattle.mob_check.specs.Rules.{ManRules};
 
 use crate::man_rules::grow_man;
 use crate::reach::Reach;
 use crate::reached::ground_of;
 use cha_board::{Position, Square};
-use mob_steps::Ground;
+use mob_check::Ground;
 
 /// Adds what all the rules ask, as far as what is fixed when the pass begins is concerned, and answers whether something
 /// is new. Where nothing is, the sets are closed.

@@ -4,12 +4,12 @@ ghost use Rattle.std.specs.Prelude.{◌≡◌};
 ghost use Rattle.std.specs.List.{list_any};
 ghost use Rattle.cha_board.specs.SquareSets.{set_of};
 ghost use Rattle.mob_sets.specs.Rows.{kinds};
-ghost use Rattle.mob_steps.specs.Grounds.{is_reached, ground_of as ground_by};
+ghost use Rattle.mob_check.specs.Grounds.{is_reached, ground_of as ground_by};
 ghost use Rattle.mob_solve.specs.Reaching.{sets_in};
 
 use crate::reach::Reach;
 use cha_board::{Color, Kind, Position, Square, SquareSet};
-use mob_steps::{Ground, own_squares};
+use mob_check::{Ground, own_squares};
 
 /// The ground that sets as they grow make of a position.
 pub fn ground_of(position: &Position, reach: &Reach) -> Ground

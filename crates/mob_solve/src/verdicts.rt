@@ -1,5 +1,6 @@
-//! The static verdict.
+//! What the least closed sets show, and the static verdict.
 
+ghost use Rattle.std.specs.Bool.{OnTrue, OnFalse};
 ghost use Rattle.std.specs.Prelude.{◌↔◌, IfOk, IfSome, IfNone};
 ghost use Rattle.cha_moves.specs.Ends.{IsUnwinnable};
 ghost use Rattle.mob_law.specs.Closed.{IsClosed};
@@ -15,6 +16,18 @@ use mob_check::no_mate;
 use mob_sets::Sets;
 use std::alloc::Global;
 
+/// Whether the least closed sets of a position show that a winner cannot win, whatever legal moves may come: whether they have no
+/// mate for it. Where they have one, so have all closed sets, which leaves the question open (this project). It takes no memory.
+pub fn least_show(position: &Position, winner: Color, sets: &Sets) -> bool
+    requires { IsLeast position.now (sets_of sets.now) }
+    ensures no_mate { OnTrue result (HasNoMate position.now (sets_of sets.now) winner) }
+    ensures law { OnTrue result (IsUnwinnable position.now winner) }
+    ensures open { OnFalse result (IsStaticallyUnwinnable position.now winner → ⊥) }
+{
+    position.known();
+    no_mate(position, winner, sets)
+}
+
 /// Mobility sets that are closed for a position and have no mate for a winner, so that it cannot win whatever legal
 /// moves may come; or None where no closed sets are without a mate for it, which leaves the question open (this project).
 /// The sets are the least closed ones. `NoMemory` means that the allocator refused memory, and says nothing of the position.
@@ -29,9 +42,8 @@ pub fn static_verdict(
     ensures law { IfOk result (λ o. IfSome o (λ s. IsUnwinnable position.now winner)) }
     ensures none { IfOk result (λ o. IfNone o (IsStaticallyUnwinnable position.now winner → ⊥)) }
 {
-    position.known();
     let sets = least(alloc, position)?;
-    if no_mate(position, winner, &sets) {
+    if least_show(position, winner, &sets) {
         Ok(Some(sets))
     } else {
         Ok(None)

@@ -6,7 +6,7 @@ use Rattle.cha_list.specs.declared.memory.NoMemory.{NoMemory}
 use Rattle.cha_board.specs.declared.men.Color.{Color}
 use Rattle.cha_board.specs.Board.{Board}
 use Rattle.cha_moves.specs.Step.{Move}
-use Rattle.cha_verdict.specs.Bounds.{Bounds}
+use Rattle.cha_limits.specs.Bounds.{Bounds}
 use Rattle.cha_fact.specs.Entries.{Entry}
 use Rattle.shard_table.specs.Makes.{Makes}
 use Rattle.shard_table.specs.Making.{makes_none}

@@ -11,7 +11,7 @@ use Rattle.cha_moves.specs.Moves.{after, legal}
 use Rattle.cha_moves.specs.Ends.{IsMatingLine, IsUnwinnable}
 use Rattle.cha_moves.specs.Lines.{HasLines}
 use Rattle.cha_moves.proofs.Contained.{Contains-cons_here}
-use Rattle.cha_verdict.specs.Bounds.{Bounds}
+use Rattle.cha_limits.specs.Bounds.{Bounds}
 use Rattle.cha_fact.specs.declared.fact.Fact.{Fact}
 use Rattle.cha_fact.specs.declared.fact.Fact.TheVariants.{Mate as MateFact, NoneWithin as NoneFact}
 use Rattle.cha_fact.specs.declared.calls.Probe.{Probe}

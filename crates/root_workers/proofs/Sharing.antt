@@ -6,6 +6,7 @@ use Rattle.std.proofs.lemmas.List.Elements.{Contains-append_left, Contains-appen
 use Rattle.std.proofs.lemmas.Option.{slice_get_within, slice_get_read, get_or_from_slice_get, same_Some, none-some}
 use Rattle.cha_list.specs.declared.memory.NoMemory.{NoMemory}
 use Rattle.cha_list.specs.Distinct.{AreDistinct}
+use Rattle.cha_list.proofs.Distinct.{none_apart, push_apart}
 use Rattle.cha_board.specs.Board.{Board}
 use Rattle.cha_moves.specs.Step.{Move}
 use Rattle.cha_moves.specs.Moves.{after, legal}
@@ -20,7 +21,6 @@ use Rattle.helpmate.specs.declared.answers.RoundAnswer.TheVariants.{Mate, NoneWi
 use Rattle.helpmate.specs.declared.answers.RoundDone.{RoundDone}
 use Rattle.helpmate.specs.Lines.{AreUnits}
 use Rattle.helpmate.specs.Rounds.{IsAnswer, IsAllowed, RoundCalls}
-use Rattle.cha_moves.proofs.Apart.{none_apart, one_more_apart, joined_apart}
 use Rattle.helpmate.proofs.Counting.{Begins, HasLinesFrom, from_one_more}
 use Rattle.root_workers.specs.declared.task.Task.{Task}
 use Rattle.root_workers.specs.declared.work.RootMate.{RootMate}
@@ -108,13 +108,6 @@ pub lines_here : (task : Task) (moves : List Move) (number count index u v : ℕ
 lines_here task moves number count index u v m work begun units inside at listed sum =
     from_one_more task.position (task.depth - 1) work.units u v moves index m begun.lines units inside at listed sum
 
-only_new : (xs : List ℕ) (k : ℕ) → ((i : ℕ) → Contains xs i → i < k) → AreDistinct xs → AreDistinct (xs ++ k ∷ [])
-only_new xs k below once =
-    joined_apart xs (k ∷ []) once (one_more_apart k [] (not_in_nothing k) (none_apart ℕ)) (λ i here there. elim (Contains-cons_cases k [] i there) [
-      | inl e ↦ (let less = below i here in omega arith)
-      | inr none ↦ not_in_nothing i none
-    ])
-
 cleared_here : (task : Task) (moves : List Move) (index : ℕ) (m : Move) → index < length moves → m ≡ get_or moves index m → HasNoMateWithin (after task.position m) task.winner (task.depth - 1) → IsCleared task moves index
 unfolding IsCleared
 cleared_here task moves index m inside at none k is =
@@ -142,7 +135,7 @@ begun_more task moves number count index u m left work new begun some is few uni
         | inl h ↦ (let less = begun.below i h in omega (arith, some))
         | inr e ↦ omega (arith, some, e)
       ];
-      once = subst (λ (xs : List ℕ). AreDistinct xs) (sym pushed) (only_new work.cleared.items index begun.below begun.once);
+      once = subst (λ (xs : List ℕ). AreDistinct xs) (sym pushed) (push_apart work.cleared.items index begun.once (λ there. let less = begun.below index there in omega arith));
       whole = λ i within less own. subst (λ (xs : List ℕ). Contains xs i) (sym pushed) (elim (before_or_here i index count number some begun.own own less) [
         | inl h ↦ Contains-append_left work.cleared.items (index ∷ []) i (begun.whole i within h own)
         | inr e ↦ subst (λ (k : ℕ). Contains (work.cleared.items ++ index ∷ []) k) (sym e) (Contains-push work.cleared.items index)

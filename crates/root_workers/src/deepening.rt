@@ -19,9 +19,9 @@ use crate::task::Task;
 use crate::workers::Crew;
 use cha_board::{Color, Position};
 use cha_fact::{Fact, Key, Probe, Proved};
+use cha_limits::Limits;
 use cha_list::NoMemory;
 use cha_moves::{Move, legal};
-use cha_verdict::Limits;
 use helpmate::{RoundAnswer, decided};
 use std::alloc::Global;
 

@@ -15,14 +15,12 @@ mod many;
 mod share;
 mod table_rounds;
 mod task;
-#[cfg(test)]
-mod tests;
 mod work;
 mod workers;
 
 pub use alone::Alone;
 pub use answers::{RoundsDone, RoundsEnd};
-pub use cha_verdict::Limits;
+pub use cha_limits::Limits;
 pub use deepening::rounds_by;
 pub use gate::{Gate, OpenGate};
 pub use gather::gathered;

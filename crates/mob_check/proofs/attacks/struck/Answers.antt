@@ -1,12 +1,12 @@
 use Rattle.std.proofs.Common.{◌≡◌, ◌<◌, ◌≤◌, ℕ, Bool, List, sym, ap, ◌∙◌, arith}
 use Rattle.std.specs.List.{list_any}
-use Rattle.cha_board.specs.SquareSets.{has_square, set_without}
+use Rattle.cha_board.specs.SquareSets.{has_square, set_without, is_subset}
 use Rattle.cha_board.proofs.SetLaws.{has-set_of}
 use Rattle.mob_sets.specs.Rows.{kinds}
-use Rattle.mob_steps.proofs.Gathering.{gathers_none, gathers_joined, gathers_skipped, gathers_all}
+use Rattle.mob_check.proofs.Gathering.{gathers_none, gathers_joined, gathers_skipped, gathers_all}
 use Rattle.mob_check.specs.Scenes.{all_in_reach}
 use Rattle.mob_check.specs.Mates.{strikes_as, strikes_from, struck}
-use Rattle.mob_check.proofs.StruckSets.{from_man, from_none}
+use Rattle.mob_check.proofs.StruckSets.{from_man, from_none, all_struck}
 use Rattle.mob_check.proofs.attacks.struck.Goals as goal
 use Rattle.mob_check.proofs.attacks.struck.Goals.{then-has, else-has}
 
@@ -30,6 +30,12 @@ loop-index-preserved c =
           (w.squares-is ∙ w.joined-squares.ensures)
       | else-has w ↦ gathers_skipped f c.loop-index.squares c.if-has.squares i c.loop-index.invariant (λ n inside. from_none scene seen ks n i small (here ∙ w.if-has.false)) w.squares-is
     ]
+
+pub returns-then-within : goal.returns-then-within
+returns-then-within c =
+    let below : c.loop-index.index ≤ 64 = omega arith in
+    let full = ap (λ near. is_subset near c.loop-index.squares) (sym c.squares_near-near.ensures) ∙ sym c.within.ensures ∙ c.if-within.true in
+    all_struck c.args.scene.now c.args.seen c.args.king c.loop-index.squares c.loop-index.index c.loop-index.invariant below full
 
 pub returns : goal.returns
 unfolding struck

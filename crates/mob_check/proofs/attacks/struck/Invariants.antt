@@ -1,5 +1,5 @@
 use Rattle.std.proofs.Common.{ℕ}
-use Rattle.mob_steps.proofs.Gathering.{Gathers}
+use Rattle.mob_check.proofs.Gathering.{Gathers}
 use Rattle.mob_check.specs.Mates.{strikes_from}
 use Rattle.mob_check.proofs.attacks.struck.Given as goal
 

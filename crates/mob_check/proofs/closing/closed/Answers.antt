@@ -1,8 +1,8 @@
 use Rattle.std.proofs.Common.{sym, ◌∙◌}
 use Rattle.mob_sets.specs.Rows.{sets_of}
-use Rattle.mob_steps.specs.Grounds.{ground_of}
-use Rattle.mob_steps.proofs.Closing.{rules_close}
-use Rattle.mob_steps.proofs.Grounded.{all_forced}
+use Rattle.mob_check.specs.Grounds.{ground_of}
+use Rattle.mob_check.proofs.RulesClose.{rules_close}
+use Rattle.mob_check.proofs.Grounded.{all_forced}
 use Rattle.mob_check.proofs.RulesHold.{rules_given, tests_hold}
 use Rattle.mob_check.proofs.closing.closed.Goals as goal
 

@@ -1,7 +1,7 @@
 use Rattle.std.proofs.Common.{◌∙◌}
 use Rattle.cha_board.proofs.Contents.{set_is}
 use Rattle.mob_sets.specs.Rows.{sets_of}
-use Rattle.mob_steps.proofs.Grounds.{fixed_are}
+use Rattle.mob_check.proofs.Grounds.{fixed_are}
 use Rattle.mob_check.proofs.scene.fixed_squares.Goals as goal
 
 pub returns : goal.returns

@@ -7,7 +7,7 @@ use Rattle.mob_sets.specs.Rows.{SetRows, sets_of}
 use Rattle.mob_sets.specs.Mobility.{IsWithin}
 use Rattle.mob_solve.specs.Reaching.{sets_in}
 use Rattle.mob_solve.proofs.Entered.{nothing_within, loosened_grows, loosened_has, loosened_inside, origin_small}
-use Rattle.mob_steps.proofs.RowRules.{shown}
+use Rattle.mob_check.proofs.RowRules.{shown}
 use Rattle.mob_solve.proofs.entries.entered_sets.Goals as goal
 use Rattle.mob_solve.proofs.entries.entered_sets.Goals.{then-has, else-has}
 

@@ -2,8 +2,8 @@ use Rattle.std.proofs.Common.{◌∙◌}
 use Rattle.cha_board.specs.declared.men.Kind.{Kind}
 use Rattle.cha_board.specs.declared.men.Kind.TheVariants.{Knight, Bishop, Rook, Queen, King}
 use Rattle.mob_solve.specs.Reaching.{sets_in}
-use Rattle.mob_steps.specs.Rules.{AreRules}
-use Rattle.mob_steps.proofs.RowRules.{each_piece}
+use Rattle.mob_check.specs.Rules.{AreRules}
+use Rattle.mob_check.proofs.RowRules.{each_piece}
 use Rattle.mob_solve.proofs.RowRules.{rules_before}
 use Rattle.mob_solve.proofs.man_rules.grow_pieces.Goals as goal
 

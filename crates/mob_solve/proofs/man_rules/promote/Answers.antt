@@ -1,11 +1,16 @@
-use Rattle.std.proofs.Common.{◌≡◌, ◌∙◌, true, refl}
+use Rattle.std.proofs.Common.{◌≡◌, ◌∙◌, true, sym, refl}
 use Rattle.cha_board.specs.declared.men.Kind.{Kind}
 use Rattle.cha_board.specs.declared.men.Kind.TheVariants.{Knight, Bishop, Rook, Queen}
 use Rattle.mob_solve.specs.Reaching.{sets_in}
-use Rattle.mob_steps.specs.Rules.{ends_on}
+use Rattle.mob_check.specs.Rules.{ends_on}
 use Rattle.mob_solve.proofs.Reaches.{has_before}
-use Rattle.mob_steps.proofs.RowRules.{shown, shows, each_promotion}
+use Rattle.mob_solve.proofs.RowRules.{ends_nowhere}
+use Rattle.mob_check.proofs.RowRules.{shown, shows, each_promotion}
 use Rattle.mob_solve.proofs.man_rules.promote.Goals as goal
+
+pub returns-then-not-is-clause-rules : goal.returns-then-not-is-clause-rules
+returns-then-not-is-clause-rules c = λ still j promotion t small ends.
+    absurd (ends_nowhere c.args.ground.now c.args.side c.args.kind c.args.row t (sym c.is.ensures ∙ c.if-not-is.true) ends)
 
 pub returns-then-bishop-clause-inside : goal.returns-then-bishop-clause-inside
 returns-then-bishop-clause-inside c = λ r given within.

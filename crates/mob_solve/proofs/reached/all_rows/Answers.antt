@@ -1,6 +1,6 @@
 use Rattle.cha_board.specs.declared.men.Kind.TheVariants.{Pawn, Knight, Bishop, Rook, Queen, King}
 use Rattle.mob_solve.specs.Reaching.{row_of}
-use Rattle.mob_steps.proofs.Grounds.{six_joined}
+use Rattle.mob_check.proofs.Grounds.{six_joined}
 use Rattle.mob_solve.proofs.reached.all_rows.Goals as goal
 
 pub returns : goal.returns

@@ -1,9 +1,9 @@
 use Rattle.std.proofs.Common.{◌≡◌, ◌<◌, ◌≤◌, ℕ, Bool, sym, ap, ◌∙◌, arith}
 use Rattle.cha_board.specs.SquareSets.{has_square}
 use Rattle.cha_board.proofs.SetLaws.{has-set_of}
-use Rattle.mob_steps.specs.Grounds.{reaches_from, is_reached, has_own}
+use Rattle.mob_check.specs.Grounds.{reaches_from, is_reached, has_own}
 use Rattle.mob_solve.specs.Reaching.{sets_in}
-use Rattle.mob_steps.proofs.Gathering.{gathers_none, gathers_joined, gathers_skipped, gathers_all}
+use Rattle.mob_check.proofs.Gathering.{gathers_none, gathers_joined, gathers_skipped, gathers_all}
 use Rattle.mob_solve.proofs.ReachedBy.{reached_by, reached_not}
 use Rattle.mob_solve.proofs.reached.reached_squares.Goals as goal
 use Rattle.mob_solve.proofs.reached.reached_squares.Goals.{then-has, else-has}

@@ -1,6 +1,6 @@
 use Rattle.std.proofs.Common.{sym, ◌∙◌}
 use Rattle.cha_fact.specs.declared.fact.Fact.TheVariants.{NoneWithin}
-use Rattle.helpmate.proofs.Saying.{true_of_asked}
+use Rattle.cha_fact.proofs.Searching.{true_of_asked}
 use Rattle.root_workers.proofs.deepening.known_plies.Goals as goal
 
 pub returns-in-NoneWithin-clause-none : goal.returns-in-NoneWithin-clause-none

@@ -1,7 +1,0 @@
-use Rattle.mob_steps.specs.Grounds.{side_ground_of}
-use Rattle.mob_steps.proofs.ground.side_ground.Goals as goal
-
-pub returns : goal.returns
-unfolding side_ground_of
-returns c = λ s fixed reach.
-    λ i. record { men = c.own_squares.ensures i; reach = reach i; guards = c.guarded_squares.ensures s fixed i; target = c.target_squares.ensures i }

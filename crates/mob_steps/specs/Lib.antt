@@ -1,4 +1,0 @@
--- What public contracts say.
-pub mod Grounds
-pub mod Rules
-pub mod Steps

@@ -23,7 +23,7 @@ def counted(crate):
     text = open(root, encoding="utf-8").read() if os.path.exists(root) else ""
     tests = {os.path.join(folder, "src", name + ".rt") for name in re.findall(r"#\[cfg\(test\)\]\nmod (\w+);", text)}
     sources = set(glob.glob(os.path.join(folder, "src", "**", "*.rt"), recursive=True))
-    if crate == "cha_acceptance":
+    if tests and not re.search(r"(?m)^(?!#\[cfg\(test\)\]$).*\n(pub )?mod ", text):
         tests = sources
     return (
         lines(sources - tests),

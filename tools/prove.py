@@ -3,7 +3,8 @@
 
     tools/prove.py CRATE [--jobs N]
 
-Without --jobs there are as many at a time as there are processors, and as memory for each, of which a proof takes up to 4 GB.
+Without --jobs there are twice as many lanes as processors, where there is memory for 2.5 GB each, of which a proof takes 1 to 3: a
+crate holds its lane while it waits for those below it.
 What was proved before is kept by `rt`, so that a second call takes seconds. The work of the gate is not done here: no test, no
 must-fail edit.
 """
@@ -14,7 +15,7 @@ import sys
 import time
 
 TOP = os.path.dirname(os.path.dirname(os.path.abspath(__file__)))
-BYTES_A_PROOF = 4 << 30
+BYTES_A_PROOF = 5 << 29
 
 
 def below(crates, crate, seen):
@@ -27,9 +28,9 @@ def below(crates, crate, seen):
 
 
 def at_once():
-    """How many crates are proved at a time."""
+    """How many crates are proved at a time or wait for others to be."""
     free = re.search(r"MemAvailable:\s+(\d+)", open("/proc/meminfo").read())
-    return max(1, min(len(os.sched_getaffinity(0)), int(free[1]) * 1024 // BYTES_A_PROOF))
+    return max(1, min(2 * len(os.sched_getaffinity(0)), int(free[1]) * 1024 // BYTES_A_PROOF))
 
 
 def main():
@@ -40,7 +41,7 @@ def main():
     if not words or words[0] not in crates:
         sys.exit("usage: tools/prove.py CRATE [--jobs N]")
     total, done, log, began = len(below(crates, words[0], set())), 0, [], time.time()
-    print(f"proving {total} crates, {lanes} at a time; from nothing that takes a quarter of an hour and more, later seconds", flush=True)
+    print(f"proving {total} crates in {lanes} lanes; from nothing that takes a quarter of an hour and more, later seconds", flush=True)
     # One call for all of them: calls for single crates would wait for one another.
     call = ["rt", "all", "check", "--jobs", str(lanes)]
     folder = f"{TOP}/crates/{words[0]}"

@@ -57,7 +57,7 @@ fn check_apart<R: Threads + Sync>(
     let Some(first) = nodes.first() else {
         return Ok(Checked::Fails(0));
     };
-    if !same_position(&first.position, position) {
+    if !same_position(&first.position.position(), position) {
         return Ok(Checked::Fails(0));
     }
     let index = Index::of_shared(alloc, cert)?;

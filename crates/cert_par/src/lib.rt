@@ -6,8 +6,6 @@
 mod checkers;
 mod checking;
 mod nodes;
-#[cfg(test)]
-mod tests;
 
 pub use checkers::{Checker, OneThread, SeveralThreads};
 pub use checking::check_par;

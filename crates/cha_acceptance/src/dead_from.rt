@@ -8,7 +8,7 @@ use std::test::Fail;
 type Ended = (&'static str, &'static str);
 
 /// Two bare kings, and what was left before.
-const KINGS: [Ended; 9] = [
+const KINGS: &[Ended] = &[
     // Bare kings from the start.
     (
         "[FEN \"4k3/8/8/8/8/8/8/4K3 w - -\"]\n1. Kd2 Kd7 2. Kd3 *",
@@ -57,7 +57,7 @@ const KINGS: [Ended; 9] = [
 ];
 
 /// One light piece, and bishops of one colour.
-const MINORS: [Ended; 9] = [
+const MINORS: &[Ended] = &[
     (
         "[FEN \"8/8/8/4k3/8/8/8/4KB2 w - -\"]\n1. Bg2 Kf4 *",
         "dead from: ply 0\nresult: * -> 1/2-1/2 by 5.2.2\n",
@@ -104,7 +104,7 @@ const MINORS: [Ended; 9] = [
 ];
 
 /// Walls of pawns that no king passes.
-const WALLS: [Ended; 6] = [
+const WALLS: &[Ended] = &[
     // The pawns guard every free square of their two ranks.
     (
         "[FEN \"4k3/8/8/p1p1p1p1/P1P1P1P1/8/8/4K3 w - -\"]\n1. Kd2 Kd7 *",
@@ -139,7 +139,7 @@ const WALLS: [Ended; 6] = [
 
 #[test]
 fn games_were_dead_from_the_ply_on(rt: HostRuntime) -> Result<(), Fail> {
-    let tables: [&[Ended]; 3] = [&KINGS, &MINORS, &WALLS];
+    let tables: [&[Ended]; 3] = [KINGS, MINORS, WALLS];
     for rows in tables {
         for (game, lines) in rows {
             let found = run_on(&rt, rt.alloc(), "adjudicate", game)?;

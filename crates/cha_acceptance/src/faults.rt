@@ -1,10 +1,13 @@
 //! Sources and sinks that fail, and words that are not in the language.
 
 use crate::checks::FORCED;
-use crate::running::{run_on, run_over};
+use crate::running::{InPieces, Ran, run_in_pieces, run_on, run_over};
 use adjudicate::Status;
-use cha_outside::{Bytes, Pieces};
+use cha_outside::Bytes;
+use std::alloc::Global;
+use std::sync::Wait;
 use std::test::Fail;
+use std::thread::Threads;
 
 const LINES: &str = "4k3/8/8/8/8/8/8/4K3 w - -\r\nhello\r\n";
 
@@ -17,7 +20,7 @@ const BLOCK: &str =
     "game 1\nfen: rnb1kbnr/pppp1ppp/8/4p3/6Pq/5P2/PPPPP2P/RNBQKBNR w KQkq -\nwhite: skipped\nblack: winnable in 0\nstatus: checkmate\nresult: 0-1 -> 0-1 by 5.1.1\n";
 
 /// Words and input, with the sizes of the pieces in which it is read, and the output.
-const PIECES: [(&str, &str, [u32; 2], &str); 5] = [
+const PIECES: &[(&str, &str, [u32; 2], &str)] = &[
     ("position", LINES, [1, 1], REPORT),
     ("position", LINES, [26, 1], REPORT),
     ("position", LINES, [12, 30], REPORT),
@@ -28,15 +31,17 @@ const PIECES: [(&str, &str, [u32; 2], &str); 5] = [
 #[test]
 fn pieces_of_any_size_are_read_alike(rt: HostRuntime) -> Result<(), Fail> {
     for (words, input, sizes, output) in PIECES {
-        let alloc = rt.alloc();
-        let mut source = Pieces::new(
-            input.as_bytes().to_vec(alloc)?,
-            sizes.to_vec(alloc)?,
-            Vec::new(alloc),
-        );
-        let found = run_over(&rt, alloc, words, &mut source, 4096, Vec::new(alloc))?;
+        let asked = InPieces {
+            line: *words,
+            input: *input,
+            sizes,
+            read: 0,
+            room: 4096,
+            write: 0,
+        };
+        let found = run_in_pieces(&rt, rt.alloc(), &asked)?;
         assert_eq!(rt; found.status, Status::Done);
-        assert_eq!(rt; found.text(), output);
+        assert_eq!(rt; found.text(), *output);
     }
     Ok(())
 }
@@ -49,11 +54,15 @@ const REACHED: &str = "\nfen: r1bqk2r/pppp1ppp/2n2n2/2b1p3/2B1P3/5N2/PPPP1PPP/RN
 #[test]
 fn a_marked_text_is_read_alike_in_pieces(rt: HostRuntime) -> Result<(), Fail> {
     for size in [1, 2, 3, 7] {
-        let alloc = rt.alloc();
-        let sizes = [size].to_vec(alloc)?;
-        let mut source = Pieces::new(MARKED.as_bytes().to_vec(alloc)?, sizes, Vec::new(alloc));
-        let words = "adjudicate --budget 1 --depth 2";
-        let found = run_over(&rt, alloc, words, &mut source, 4096, Vec::new(alloc))?;
+        let asked = InPieces {
+            line: "adjudicate --budget 1 --depth 2",
+            input: MARKED,
+            sizes: &[size],
+            read: 0,
+            room: 4096,
+            write: 0,
+        };
+        let found = run_in_pieces(&rt, rt.alloc(), &asked)?;
         assert_eq!(rt; found.status, Status::Done);
         assert!(rt; found.text().contains(REACHED), "pieces of {size}");
     }
@@ -62,7 +71,7 @@ fn a_marked_text_is_read_alike_in_pieces(rt: HostRuntime) -> Result<(), Fail> {
 
 /// Words and input, of which pieces of 64 bytes are read, the numbers of the read and of the write that fail, the room of the
 /// sink, and what is left: a status, and what was written. No call has the number 0.
-const FAULTS: [(&str, &str, u32, u32, u32, Status, &str); 6] = [
+const FAULTS: &[(&str, &str, u32, u32, u32, Status, &str)] = &[
     ("check", FORCED, 3, 0, 4096, Status::ReadFault, ""),
     ("check", FORCED, 0, 0, 8, Status::WriteFault, "accepted"),
     // The game is settled in the first piece.
@@ -76,27 +85,44 @@ const FAULTS: [(&str, &str, u32, u32, u32, Status, &str); 6] = [
 #[test]
 fn a_fault_ends_the_run(rt: HostRuntime) -> Result<(), Fail> {
     for (words, input, read, write, room, status, written) in FAULTS {
-        let alloc = rt.alloc();
-        let reads = [read].to_vec(alloc)?;
-        let mut source = Pieces::new(input.as_bytes().to_vec(alloc)?, [64].to_vec(alloc)?, reads);
-        let writes = [write].to_vec(alloc)?;
-        let found = run_over(&rt, alloc, words, &mut source, room, writes)?;
-        assert_eq!(rt; found.text(), written, "{words}");
-        assert_eq!(rt; found.status, status, "{words}");
+        let asked = InPieces {
+            line: *words,
+            input: *input,
+            sizes: &[64],
+            read: *read,
+            room: *room,
+            write: *write,
+        };
+        let found = run_in_pieces(&rt, rt.alloc(), &asked)?;
+        assert_eq!(rt; found.text(), *written, "{words}");
+        assert_eq!(rt; found.status, *status, "{words}");
     }
     Ok(())
+}
+
+/// A run over an input that comes byte by byte, of which a read fails.
+fn run_to_a_fault<R: Threads + Wait + Sync>(
+    rt: &R,
+    alloc: Global,
+    line: &str,
+    input: &str,
+    read: u32,
+) -> Result<Ran, Fail> {
+    let asked = InPieces {
+        line,
+        input,
+        sizes: &[],
+        read,
+        room: 4096,
+        write: 0,
+    };
+    run_in_pieces(rt, alloc, &asked)
 }
 
 #[test]
 fn any_failing_read_ends_the_run(rt: HostRuntime) -> Result<(), Fail> {
     for call in 1..36 {
-        let alloc = rt.alloc();
-        let mut source = Pieces::new(
-            LINES.as_bytes().to_vec(alloc)?,
-            Vec::new(alloc),
-            [call].to_vec(alloc)?,
-        );
-        let found = run_over(&rt, alloc, "position", &mut source, 4096, Vec::new(alloc))?;
+        let found = run_to_a_fault(&rt, rt.alloc(), "position", LINES, call)?;
         assert_eq!(rt; found.written.len(), 0);
         assert_eq!(rt; found.status, Status::ReadFault, "call {call}");
     }
@@ -107,13 +133,7 @@ fn any_failing_read_ends_the_run(rt: HostRuntime) -> Result<(), Fail> {
 #[test]
 fn no_block_comes_before_its_game_is_settled(rt: HostRuntime) -> Result<(), Fail> {
     for call in 1..26 {
-        let alloc = rt.alloc();
-        let mut source = Pieces::new(
-            GAME.as_bytes().to_vec(alloc)?,
-            Vec::new(alloc),
-            [call].to_vec(alloc)?,
-        );
-        let found = run_over(&rt, alloc, "adjudicate", &mut source, 4096, Vec::new(alloc))?;
+        let found = run_to_a_fault(&rt, rt.alloc(), "adjudicate", GAME, call)?;
         let written = if call <= 24 { "" } else { BLOCK };
         assert_eq!(rt; found.text(), written, "call {call}");
         assert_eq!(rt; found.status, Status::ReadFault, "call {call}");
@@ -122,7 +142,7 @@ fn no_block_comes_before_its_game_is_settled(rt: HostRuntime) -> Result<(), Fail
 }
 
 /// Words, input and the whole output.
-const WHOLE: [(&str, &str, &str); 2] = [
+const WHOLE: &[(&str, &str, &str)] = &[
     ("position", LINES, REPORT),
     (
         "adjudicate",
@@ -131,14 +151,23 @@ const WHOLE: [(&str, &str, &str); 2] = [
     ),
 ];
 
+/// A run whose sink has this room.
+fn run_with_room<R: Threads + Wait + Sync>(
+    rt: &R,
+    alloc: Global,
+    line: &str,
+    input: &str,
+    room: u32,
+) -> Result<Ran, Fail> {
+    let mut source = Bytes::new(input.as_bytes().to_vec(alloc)?);
+    run_over(rt, alloc, line, &mut source, room, Vec::new(alloc))
+}
+
 #[test]
 fn a_full_sink_ends_the_run(rt: HostRuntime) -> Result<(), Fail> {
     for (words, input, whole) in WHOLE {
         for room in 0..=300u32 {
-            let alloc = rt.alloc();
-            let mut source = Bytes::new(input.as_bytes().to_vec(alloc)?);
-            let none = Vec::new(alloc);
-            let found = run_over(&rt, alloc, words, &mut source, room, none)?;
+            let found = run_with_room(&rt, rt.alloc(), words, input, room)?;
             let fits = whole.len().min(room as usize);
             assert_eq!(rt; found.written.as_slice(), &whole.as_bytes()[..fits]);
             assert_eq!(rt; found.status == Status::Done, fits == whole.len());
@@ -149,7 +178,7 @@ fn a_full_sink_ends_the_run(rt: HostRuntime) -> Result<(), Fail> {
 }
 
 /// Words that are not in the language.
-const OTHER_WORDS: [&str; 21] = [
+const OTHER_WORDS: &[&str] = &[
     "",
     " ",
     "solve",

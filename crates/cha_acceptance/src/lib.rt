@@ -1,22 +1,15 @@
-//! Whole runs over sources and sinks in memory, compared with known outputs, and tests of the prover's crates on positions
-//! that FEN says.
+//! Whole runs over sources and sinks in memory, compared with known outputs.
 //!
 //! `running` makes one run. `tables` goes through tables of whole outputs: `positions`, `games`, `printed` and `checks`.
 //! `mates` has runs that list the shortest mates, those of `published` problems among them. `dead_from` has games that were dead from some ply on. `faults` has sources and
 //! sinks that fail. `known` goes through the tables of positions with known verdicts: `walls`,
-//! `walls_men`, `bishops`, `knights`, `pawns` and `ends`; `printed` checks what is printed of them. `closed_sets` and
-//! `mates_in_reach` put sets, which `written_sets` reads, to the checker; `least_sets` and `static_verdicts` have answers of
-//! the solver, and `certificates` those of the check of certificates.
+//! `walls_men`, `bishops`, `knights`, `pawns` and `ends`; `printed` checks what is printed of them.
 #![tactic(auto)]
 
 #[cfg(test)]
 mod bishops;
 #[cfg(test)]
-mod certificates;
-#[cfg(test)]
 mod checks;
-#[cfg(test)]
-mod closed_sets;
 #[cfg(test)]
 mod dead_from;
 #[cfg(test)]
@@ -30,11 +23,7 @@ mod knights;
 #[cfg(test)]
 mod known;
 #[cfg(test)]
-mod least_sets;
-#[cfg(test)]
 mod mates;
-#[cfg(test)]
-mod mates_in_reach;
 #[cfg(test)]
 mod pawns;
 #[cfg(test)]
@@ -46,12 +35,8 @@ mod published;
 #[cfg(test)]
 mod running;
 #[cfg(test)]
-mod static_verdicts;
-#[cfg(test)]
 mod tables;
 #[cfg(test)]
 mod walls;
 #[cfg(test)]
 mod walls_men;
-#[cfg(test)]
-mod written_sets;

@@ -1,13 +1,14 @@
 //! Whole runs that list the shortest mates.
 
 use crate::published::PUBLISHED;
-use crate::running::{run_on, words_of};
+use crate::running::{Ran, run_on, words_of};
 use adjudicate::{Status, run_alone};
 use cha_outside::{Bytes, Kept};
+use std::alloc::Global;
 use std::test::Fail;
 
 /// Words, an input, and the whole output.
-const ROWS: [(&str, &str, &str); 6] = [
+const ROWS: &[(&str, &str, &str)] = &[
     (
         "mates w",
         "4rkr1/4p1p1/8/8/8/8/8/4K2R w K -",
@@ -37,7 +38,7 @@ const ROWS: [(&str, &str, &str); 6] = [
 ];
 
 /// The same with other numbers of workers.
-const WORKERS: [&str; 4] = ["", " --workers 1", " --workers 2", " --workers=16"];
+const WORKERS: &[&str] = &["", " --workers 1", " --workers 2", " --workers=16"];
 
 #[test]
 fn shortest_mates_are_listed_with_any_number_of_workers(rt: HostRuntime) -> Result<(), Fail> {
@@ -46,47 +47,72 @@ fn shortest_mates_are_listed_with_any_number_of_workers(rt: HostRuntime) -> Resu
         for workers in WORKERS {
             let line = format!(in alloc; "{words}{workers}")?;
             let found = run_on(&rt, alloc, line.as_str(), input)?;
-            assert_eq!(rt; found.text(), output, "{line}");
+            assert_eq!(rt; found.text(), *output, "{line}");
             assert_eq!(rt; found.status, Status::Done, "{line}");
         }
     }
     Ok(())
 }
 
+/// A run without a thread, where nothing fails and there is room.
+fn ran_alone(alloc: Global, line: &str, input: &str) -> Result<Ran, Fail> {
+    let words = words_of(alloc, line)?;
+    let mut source = Bytes::new(input.as_bytes().to_vec(alloc)?);
+    let mut sink = Kept::new(alloc, 1_000_000, Vec::new(alloc))?;
+    let status = run_alone(alloc, words.as_slice(), &mut source, &mut sink);
+    let written = sink.bytes().to_vec(alloc)?;
+    Ok(Ran { status, written })
+}
+
 #[test]
 fn shortest_mates_are_listed_without_a_thread(rt: HostRuntime) -> Result<(), Fail> {
-    let alloc = rt.alloc();
     for (words, input, output) in ROWS {
-        let list = words_of(alloc, words)?;
-        let mut source = Bytes::new(input.as_bytes().to_vec(alloc)?);
-        let mut sink = Kept::new(alloc, 1_000_000, Vec::new(alloc))?;
-        let status = run_alone(alloc, list.as_slice(), &mut source, &mut sink);
-        assert!(rt; sink.bytes() == output.as_bytes(), "{words}");
-        assert_eq!(rt; status, Status::Done, "{words}");
+        let found = ran_alone(rt.alloc(), words, input)?;
+        assert_eq!(rt; found.text(), *output, "{words}");
+        assert_eq!(rt; found.status, Status::Done, "{words}");
     }
     Ok(())
 }
 
-#[test]
-fn published_problems_have_their_published_solutions(rt: HostRuntime) -> Result<(), Fail> {
-    let alloc = rt.alloc();
-    let mut input = String::new(alloc);
-    let mut wanted = String::new(alloc);
-    for (fen, plies, solutions, _) in PUBLISHED {
-        input.push_str(fen)?;
-        input.push('\n')?;
-        let line = format!(in alloc; "plies: {plies}, lines: {solutions}\n")?;
-        wanted.push_str(line.as_str())?;
+/// The published positions, one on each line.
+fn published_lines(alloc: Global) -> Result<String, Fail> {
+    let mut lines = String::new(alloc);
+    for (fen, _, _, _) in PUBLISHED {
+        lines.push_str(fen)?;
+        lines.push('\n')?;
     }
-    let found = run_on(&rt, alloc, "mates w --depth 6", input.as_str())?;
+    Ok(lines)
+}
+
+/// The lines that say how many plies and solutions were published.
+fn published_counts(alloc: Global) -> Result<String, Fail> {
     let mut counts = String::new(alloc);
-    for line in found.text().lines() {
+    for (_, plies, solutions, _) in PUBLISHED {
+        let line = format!(in alloc; "plies: {plies}, lines: {solutions}\n")?;
+        counts.push_str(line.as_str())?;
+    }
+    Ok(counts)
+}
+
+/// The lines of a report that say how many plies and solutions there are.
+fn counts_in(alloc: Global, report: &str) -> Result<String, Fail> {
+    let mut counts = String::new(alloc);
+    for line in report.lines() {
         if line.starts_with("plies: ") {
             counts.push_str(line)?;
             counts.push('\n')?;
         }
     }
-    assert_eq!(rt; counts.as_str(), wanted.as_str());
+    Ok(counts)
+}
+
+#[test]
+fn published_problems_have_their_published_solutions(rt: HostRuntime) -> Result<(), Fail> {
+    let alloc = rt.alloc();
+    let input = published_lines(alloc)?;
+    let found = run_on(&rt, alloc, "mates w --depth 6", input.as_str())?;
+    let counts = counts_in(alloc, found.text())?;
+    assert_eq!(rt; counts.as_str(), published_counts(alloc)?.as_str());
     Ok(())
 }
 

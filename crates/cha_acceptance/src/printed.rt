@@ -1,11 +1,13 @@
 //! Certificates as `--certs` prints them.
 
-use crate::known::{TABLES, lines_of};
+use crate::known::{Row as Known, TABLES, lines_of};
 use crate::running::run_on;
 use crate::tables::Row;
 use adjudicate::Status;
 use std::alloc::Global;
+use std::sync::Wait;
 use std::test::Fail;
+use std::thread::Threads;
 
 /// Two bare kings: each may stand anywhere.
 const BARE_KINGS: &str = "\
@@ -237,25 +239,42 @@ fn line_on(certificate: &str) -> &'static str {
     }
 }
 
+/// Whether `check` accepts a certificate.
+fn is_accepted<R: Threads + Wait + Sync>(
+    rt: &R,
+    alloc: Global,
+    certificate: &str,
+) -> Result<bool, Fail> {
+    let found = run_on(rt, alloc, "check", certificate)?;
+    Ok(found.status == Status::Done && found.text() == line_on(certificate))
+}
+
+/// The certificates of a report, of which there is one for each side that is unwinnable.
+fn printed_in(alloc: Global, report: &str) -> Result<Vec<String>, Fail> {
+    let certificates = certificates_in(alloc, report)?;
+    if certificates.len() != report.matches(": unwinnable\n").count() {
+        Err("not as many certificates as sides")?;
+    }
+    Ok(certificates)
+}
+
+/// The certificates that are printed for a table of positions.
+fn printed_for<R: Threads + Wait + Sync>(
+    rt: &R,
+    alloc: Global,
+    rows: &[Known],
+) -> Result<Vec<String>, Fail> {
+    let lines = lines_of(alloc, rows)?;
+    let words = "position --certs --budget 3000 --depth 2";
+    let printed = run_on(rt, alloc, words, &lines)?;
+    printed_in(alloc, printed.text())
+}
+
 #[test]
 fn printed_certificates_are_accepted(rt: HostRuntime) -> Result<(), Fail> {
-    let alloc = rt.alloc();
-    for (theme, rows) in TABLES {
-        let lines = lines_of(alloc, rows)?;
-        let printed = run_on(
-            &rt,
-            alloc,
-            "position --certs --budget 3000 --depth 2",
-            &lines,
-        )?;
-        let report = printed.text();
-        let certificates = certificates_in(alloc, report)?;
-        let sides = report.matches(": unwinnable\n").count();
-        assert_eq!(rt; certificates.len(), sides, "{theme}");
-        for certificate in &certificates {
-            let found = run_on(&rt, alloc, "check", certificate)?;
-            assert_eq!(rt; found.status, Status::Done, "{certificate}");
-            assert_eq!(rt; found.text(), line_on(certificate), "{certificate}");
+    for (_, rows) in TABLES {
+        for certificate in &printed_for(&rt, rt.alloc(), rows)? {
+            assert!(rt; is_accepted(&rt, rt.alloc(), certificate)?, "{certificate}");
         }
     }
     Ok(())
@@ -263,12 +282,10 @@ fn printed_certificates_are_accepted(rt: HostRuntime) -> Result<(), Fail> {
 
 #[test]
 fn a_lone_knight_has_a_certificate_of_one_node(rt: HostRuntime) -> Result<(), Fail> {
-    let alloc = rt.alloc();
     let line = "8/8/8/4k3/3q4/7q/8/4KN2 w - -\n";
-    let printed = run_on(&rt, alloc, "position --certs", line)?;
+    let printed = run_on(&rt, rt.alloc(), "position --certs", line)?;
     assert!(rt; printed.text().contains("\nwhite: unwinnable\ncha-cert 2\n"));
-    let certificates = certificates_in(alloc, printed.text())?;
-    assert!(rt; certificates.len() == 1);
-    assert_eq!(rt; certificates[0].as_str(), LONE_KNIGHT);
+    let certificates = certificates_in(rt.alloc(), printed.text())?;
+    assert!(rt; certificates.len() == 1 && certificates[0].as_str() == LONE_KNIGHT);
     Ok(())
 }

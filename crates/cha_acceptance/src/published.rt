@@ -4,7 +4,7 @@
 
 /// Positions, in how few plies White can mate, in how many ways, and their authors and sources.
 #[rattlefmt::skip]
-pub const PUBLISHED: [(&str, u8, usize, &str); 58] = [
+pub const PUBLISHED: &[(&str, u8, usize, &str)] = &[
     ("2B5/3Qb3/3nPn2/1b3k2/3K4/8/8/8 b - -", 4, 1, "P. Benkő, Zaszlonk, 1942"),
     ("4nK2/3k1P2/3pN3/3P4/8/8/8/8 b - -", 4, 1, "P. Benkő, Magyar Sakkszövetség, 1970-04-15"),
     ("4b3/3kpP2/4N3/4PB2/3K4/3P4/8/8 b - -", 4, 1, "P. Benkő, Magyar Sakkszövetség, 1970-05-27"),

@@ -1,7 +1,7 @@
 //! One run over bytes in memory.
 
 use adjudicate::{OpenGate, Status, run};
-use cha_outside::{Bytes, Kept, Source};
+use cha_outside::{Bytes, Kept, Pieces, Source};
 use std::alloc::Global;
 use std::sync::Wait;
 use std::test::Fail;
@@ -58,4 +58,38 @@ pub fn run_on<R: Threads + Wait + Sync>(
 ) -> Result<Ran, Fail> {
     let mut source = Bytes::new(input.as_bytes().to_vec(alloc)?);
     run_over(rt, alloc, line, &mut source, 1_000_000, Vec::new(alloc))
+}
+
+/// A run whose input comes in pieces.
+#[derive(Clone, Copy)]
+pub struct InPieces<'a> {
+    /// The words.
+    pub line: &'a str,
+    pub input: &'a str,
+    /// The sizes of the pieces, again and again.
+    pub sizes: &'a [u32],
+    /// The number of the read that fails. No call has the number 0.
+    pub read: u32,
+    /// The room of the sink.
+    pub room: u32,
+    /// The number of the write that fails.
+    pub write: u32,
+}
+
+fn pieces_of(alloc: Global, asked: &InPieces) -> Result<Pieces, Fail> {
+    let bytes = asked.input.as_bytes().to_vec(alloc)?;
+    let sizes = asked.sizes.to_vec(alloc)?;
+    let reads = [asked.read].to_vec(alloc)?;
+    Ok(Pieces::new(bytes, sizes, reads))
+}
+
+/// A run over an input in pieces.
+pub fn run_in_pieces<R: Threads + Wait + Sync>(
+    rt: &R,
+    alloc: Global,
+    asked: &InPieces,
+) -> Result<Ran, Fail> {
+    let mut source = pieces_of(alloc, asked)?;
+    let writes = [asked.write].to_vec(alloc)?;
+    run_over(rt, alloc, asked.line, &mut source, asked.room, writes)
 }

@@ -71,7 +71,7 @@ struct Long {
 
 /// Lines of a position may have 4,096 bytes, games 12,000 moves, and tag values 4,096 bytes. The last input begins with a byte
 /// order mark and castles with zeros. A game of bare kings that is played on for 300 plies was dead from the capture on.
-const LONG: [Long; 11] = [
+const LONG: &[Long] = &[
     Long {
         words: "position",
         before: "4k3/8/8/8/8/8/8/4K3 w - -",
@@ -175,7 +175,7 @@ fn input_of(alloc: Global, long: &Long) -> Result<String, Fail> {
 
 #[test]
 fn limits_are_kept(rt: HostRuntime) -> Result<(), Fail> {
-    for long in &LONG {
+    for long in LONG {
         let input = input_of(rt.alloc(), long)?;
         let found = run_on(&rt, rt.alloc(), long.words, &input)?;
         assert!(rt; found.text().contains(long.part), "{}", long.part);
@@ -185,7 +185,7 @@ fn limits_are_kept(rt: HostRuntime) -> Result<(), Fail> {
 }
 
 /// Words, so many spaces, the status, and the output.
-const SPACES: [(&str, u64, Status, &str); 4] = [
+const SPACES: &[(&str, u64, Status, &str)] = &[
     (
         "adjudicate",
         268_435_456,
@@ -206,10 +206,10 @@ const SPACES: [(&str, u64, Status, &str); 4] = [
 fn inputs_have_at_most_256_mebibytes(rt: HostRuntime) -> Result<(), Fail> {
     for (words, size, status, output) in SPACES {
         let alloc = rt.alloc();
-        let mut source = Repeat::new(b' ', size);
+        let mut source = Repeat::new(b' ', *size);
         let found = run_over(&rt, alloc, words, &mut source, 4096, Vec::new(alloc))?;
-        assert_eq!(rt; found.status, status, "{words}");
-        assert_eq!(rt; found.text(), output, "{words}");
+        assert_eq!(rt; found.status, *status, "{words}");
+        assert_eq!(rt; found.text(), *output, "{words}");
     }
     Ok(())
 }

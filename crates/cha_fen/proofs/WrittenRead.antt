@@ -14,6 +14,7 @@ use Rattle.cha_board.specs.Board.{Board, IsValid, has_one_king, has_pawn_at_end,
 use Rattle.cha_board.specs.Men.{other_color}
 use Rattle.cha_board.specs.Build.{build_fault, built, kept_rights, kept_target}
 use Rattle.cha_board.specs.Letters.{square_text}
+use Rattle.cha_board.proofs.Keeping.{small_target}
 use Rattle.cha_fen.specs.Fields.{fields_after, fields}
 use Rattle.cha_fen.specs.Fen.{parts_of, are_clocks, fen}
 use Rattle.cha_fen.specs.Written.{row_text_after, rank_men, ranks_text, side_text, rights_text, target_text, fen_text}
@@ -198,18 +199,6 @@ built_again q v =
     let rights = rights_again q.men q.rights (v.rights White) (v.rights Black) in
     let target = target_again q.men q.side q.target v.target in
     λ i. record { men = q.men; side = q.side; rights = rights i; target = target i }
-
-first_of_four : (a b c d : Bool) → (a && b && c && d) ≡ true → a ≡ true
-first_of_four true b c d h = refl
-first_of_four false b c d h = h
-
-fits_small : (men : List (Option Man)) (c : Color) (s : ℕ) → target_fits men c s ≡ true → s < 64
-unfolding target_fits
-fits_small men White s h = let e : s / 8 ≡ 5 = eqb-true (s / 8) 5 (first_of_four _ _ _ _ h) in omega arith
-fits_small men Black s h = let e : s / 8 ≡ 2 = eqb-true (s / 8) 2 (first_of_four _ _ _ _ h) in omega arith
-
-small_target : (q : Board) (s : ℕ) → IsValid q → q.target ≡ Some s → s < 64
-small_target q s v e = fits_small q.men q.side s (rw e at v.target)
 
 pub written_is_read : (q : Board) → IsValid q → fen (fen_text q) ≡ Ok q
 unfolding fen parts_of are_clocks

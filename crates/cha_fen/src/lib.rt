@@ -9,8 +9,6 @@ mod faults;
 mod fields;
 mod placement;
 mod reader;
-#[cfg(test)]
-mod tests;
 mod written;
 
 pub use faults::FenFault;

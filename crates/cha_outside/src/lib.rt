@@ -25,6 +25,3 @@ pub use repeat_source::Repeat;
 pub use std_reader::ReadFrom;
 pub use std_writer::WriteTo;
 pub use writing::{Sink, Wrote};
-
-#[cfg(test)]
-mod tests;

@@ -17,8 +17,6 @@ mod playing;
 mod reading;
 mod resolving;
 mod sources;
-#[cfg(test)]
-mod tests;
 
 pub use faults::{PlayFault, SanFault};
 pub use fitting::castles;

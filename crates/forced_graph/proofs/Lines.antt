@@ -5,15 +5,11 @@ use Rattle.std.proofs.lemmas.List.{length-append}
 use Rattle.std.proofs.lemmas.Option.{same_Some}
 use Rattle.cha_board.specs.declared.men.Color.{Color}
 use Rattle.cha_board.specs.Squares.{squares}
-use Rattle.cha_board.specs.Board.{Board, IsValid}
+use Rattle.cha_board.specs.Board.{Board}
 use Rattle.cha_board.proofs.Scans.{length_squares}
 use Rattle.cha_moves.specs.Step.{Move}
 use Rattle.cha_moves.specs.Moves.{after, legal, all_moves, moves_from, moves_between, is_legal_in}
 use Rattle.cha_moves.specs.Ends.{IsMatingLine}
-use Rattle.cha_fact.specs.declared.fact.Fact.{Fact}
-use Rattle.cha_fact.specs.Keys.{key_of}
-use Rattle.cha_fact.specs.Truths.{IsTrueOf}
-use Rattle.cha_fact.proofs.Searching.{keys_tell}
 use Rattle.node_store.specs.Nodes.{Node, IsAt, IsLine, IsPath}
 
 mates_behind : (p q : Board) (w : Color) (ms rest : List Move) → IsLine p ms q → IsMatingLine q w rest → IsMatingLine p w (ms ++ rest)
@@ -56,9 +52,3 @@ legal_few q =
     let size = length_squares in
     let pass = few_pass (is_legal_in q) (flat_map moves_from squares) in
     omega arith
-
--- what is true of a position and a side is true of those that were asked for by the same key
-pub true_of_asked : (copy a b : Board) (v w : Color) (f g : Fact) → IsValid copy → copy ≡ a → IsValid b → key_of a v ≡ key_of b w → IsTrueOf a v f → f ≡ g → IsTrueOf b w g
-true_of_asked copy a b v w f g valid copied asked same holds is =
-    let e = (keys_tell a b v w (subst IsValid copied valid) asked).0 same in
-    subst (λ (x : Board). IsTrueOf x w g) e.0 (subst (λ (x : Color). IsTrueOf a x g) e.1 (subst (IsTrueOf a v) is holds))

@@ -3,11 +3,12 @@ use Rattle.std.proofs.Common.{◌≡◌, ℕ, zero, suc, ◌<◌, ◌⊎◌, inl
 use Rattle.std.specs.List.{Contains}
 use Rattle.std.proofs.lemmas.List.Elements.{Contains-push_cases}
 use Rattle.cha_list.specs.Distinct.{AreDistinct}
+use Rattle.cha_list.proofs.Distinct.{push_apart}
 use Rattle.cha_board.specs.declared.men.Color.{Color}
 use Rattle.cha_board.specs.Men.{other_color}
 use Rattle.cha_board.specs.Board.{Board}
 use Rattle.cha_moves.specs.Ends.{IsMated}
-use Rattle.cha_moves.proofs.Contained.{not_in_nothing, Contains-cons_here, Contains-cons_there}
+use Rattle.cha_moves.proofs.Contained.{not_in_nothing}
 use Rattle.mob_law.specs.Static.{IsStaticallyUnwinnable}
 use Rattle.mob_law.specs.Explored.{ComesFrom, IsExplored}
 use Rattle.node_store.specs.Nodes.{Node}
@@ -19,17 +20,6 @@ pub get_keeps : {X : Type 0} (xs ys : List X) (i : ℕ) (z : X) → slice_get xs
 get_keeps [] ys i z at = cc
 get_keeps (x ∷ xs) ys zero z at = at
 get_keeps (x ∷ xs) ys (suc i) z at = get_keeps xs ys i z at
-
-push_apart : {X : Type 0} (xs : List X) (y : X) → AreDistinct xs → (Contains xs y → ⊥) → AreDistinct (xs ++ y ∷ [])
-unfolding AreDistinct
-push_apart [] y apart new = ((λ h. not_in_nothing y h), tt)
-push_apart (x ∷ xs) y apart new = (
-  (λ h. elim (Contains-push_cases xs y x h) [
-    | inl there ↦ apart.0 there
-    | inr is ↦ new (Contains-cons_here x xs y (sym is))
-  ]),
-  push_apart xs y apart.1 (λ h. new (Contains-cons_there x xs y h)),
-)
 
 comes_more : (members more : List Board) (before : ℕ) (w : Color) (q : Board) → ComesFrom members before w q → ComesFrom (members ++ more) before w q
 comes_more members more before w q c = record {

@@ -11,7 +11,7 @@ use Rattle.mob_law.specs.Static.{IsStaticallyUnwinnable}
 use Rattle.mob_sets.specs.Rows.{SetRows, sets_of}
 use Rattle.cha_cert.specs.declared.nodes.Part.TheVariants.{Leaf, Small, Lone}
 use Rattle.mob_small.specs.Small.{IsSmallUnwinnable}
-use Rattle.mob_lone.specs.Lone.{IsLoneUnwinnable}
+use Rattle.mob_small.specs.Lone.{IsLoneUnwinnable}
 use Rattle.cha_cert.specs.Certificates.{LeafHolds}
 use Rattle.node_store.specs.declared.origin.Origin.{Origin}
 use Rattle.node_store.specs.Nodes.{Node, origins, IsAt}

@@ -8,7 +8,7 @@ use Rattle.cha_moves.specs.Moves.{after, legal, is_zeroing}
 use Rattle.cha_moves.specs.Ends.{IsMated}
 use Rattle.mob_law.specs.Static.{IsStaticallyUnwinnable}
 use Rattle.mob_small.specs.Small.{IsSmallUnwinnable}
-use Rattle.mob_lone.specs.Lone.{IsLoneUnwinnable}
+use Rattle.mob_small.specs.Lone.{IsLoneUnwinnable}
 use Rattle.cha_cert.specs.declared.nodes.Node.{Node as CertNode}
 use Rattle.cha_cert.specs.declared.nodes.Part.{Part}
 use Rattle.cha_cert.specs.declared.nodes.Part.TheVariants.{Inner, Leaf, Small, Lone}

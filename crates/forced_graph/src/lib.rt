@@ -16,8 +16,6 @@ mod lasting;
 mod region;
 mod table_exploring;
 mod taking;
-#[cfg(test)]
-mod tests;
 
 pub use explored::Explored;
 pub use exploring::explore_in;

@@ -8,9 +8,10 @@ use Rattle.cha_moves.specs.Step.{Move}
 use Rattle.cha_moves.specs.Moves.{after, legal}
 use Rattle.cha_moves.proofs.Contained.{not_in_nothing, Contains-cons_cases, Contains-map_parts}
 use Rattle.cha_list.specs.Distinct.{AreDistinct}
+use Rattle.cha_list.proofs.Distinct.{none_apart, one_more_apart}
 use Rattle.cha_moves.specs.Lines.{IsLegalLine, HasLines}
 use Rattle.helpmate.specs.Lines.{AreUnits}
-use Rattle.cha_moves.proofs.Apart.{none_apart, one_more_apart, joined_apart, images_apart}
+use Rattle.cha_moves.proofs.Apart.{joined_apart, images_apart}
 use Rattle.cha_moves.proofs.LegalApart.{legal_apart}
 
 -- a line of at most d legal moves that begins with one of these moves

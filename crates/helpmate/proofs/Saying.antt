@@ -3,27 +3,14 @@ use Rattle.std.proofs.Common.{◌≡◌, ℕ, ◌-◌, ◌<◌, ◌≤◌, nat_l
 use Rattle.std.proofs.lemmas.Bool.Decides.{nat_tests}
 use Rattle.cha_list.specs.declared.memory.NoMemory.{NoMemory}
 use Rattle.cha_board.specs.declared.men.Color.{Color}
-use Rattle.cha_board.specs.Board.{Board, IsValid}
+use Rattle.cha_board.specs.Board.{Board}
 use Rattle.cha_moves.specs.Step.{Move}
 use Rattle.cha_moves.specs.Ends.{HasNoMateWithin}
 use Rattle.cha_fact.specs.declared.fact.Fact.{Fact}
 use Rattle.cha_fact.specs.declared.fact.Fact.TheVariants.{Mate as MateFact, NoneWithin as NoneFact}
-use Rattle.cha_fact.specs.Keys.{key_of}
-use Rattle.cha_fact.specs.Truths.{IsTrueOf}
-use Rattle.cha_fact.proofs.Searching.{keys_tell}
 use Rattle.helpmate.specs.declared.answers.RoundAnswer.{RoundAnswer}
 use Rattle.helpmate.specs.declared.answers.RoundAnswer.TheVariants.{Mate, NoneWithin, Spent}
 use Rattle.helpmate.specs.Rounds.{IsAnswer, decided_by}
-
--- what is true of a position and a side is true of those that were asked for by the same key
-pub true_of_asked : (copy a b : Board) (v w : Color) (f g : Fact) → IsValid copy → copy ≡ a → IsValid b → key_of a v ≡ key_of b w → IsTrueOf a v f → f ≡ g → IsTrueOf b w g
-true_of_asked copy a b v w f g valid copied valid' same holds is =
-    let V : Board → Type 0 = λ x. IsValid x in
-    let e = (keys_tell a b v w (subst V copied valid) valid').0 same in
-    let P : Board → Type 0 = λ x. IsTrueOf x w g in
-    let Q : Color → Type 0 = λ x. IsTrueOf a x g in
-    let R : Fact → Type 0 = λ x. IsTrueOf a v x in
-    subst P e.0 (subst Q e.1 (subst R is holds))
 
 -- an answer for a longest line is one for a longer one
 pub answer_longer : (q : Board) (w : Color) (d most more : ℕ) (a : RoundAnswer) → most ≤ more → IsAnswer q w d most a → IsAnswer q w d more a

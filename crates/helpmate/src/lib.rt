@@ -6,14 +6,10 @@
 
 mod answers;
 mod deciding;
-#[cfg(test)]
-mod known;
 mod last;
 mod rounds;
 mod search;
 mod table_rounds;
-#[cfg(test)]
-mod tests;
 
 pub use answers::{RoundAnswer, RoundDone};
 pub use deciding::decided;

@@ -8,14 +8,10 @@
 mod answers;
 mod first;
 mod gather;
-#[cfg(test)]
-mod known;
 mod leading;
 mod least;
 mod parts;
 mod spread;
-#[cfg(test)]
-mod tests;
 mod threads;
 
 pub use answers::{Lines, MOST_LINES, Shortest};

@@ -8,8 +8,6 @@ mod cutting;
 mod expansion;
 mod hunts;
 mod shortening;
-#[cfg(test)]
-mod tests;
 mod waiting;
 
 pub use hunts::hunt;

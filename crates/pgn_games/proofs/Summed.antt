@@ -3,7 +3,7 @@ use Rattle.std.proofs.Common.{◌≡◌, ℕ, zero, suc, ◌+◌, ◌≤◌, ◌
 use Rattle.std.specs.Prelude.{codes}
 use Rattle.std.specs.List.{filter_map, cons_option, slice_get, fold, list_any}
 use Rattle.std.specs.Option.{option_or}
-use Rattle.std.proofs.lemmas.List.{take_all, length-take}
+use Rattle.std.proofs.lemmas.List.{length-take}
 use Rattle.std.proofs.lemmas.List.Elements.{filter_map-append}
 use Rattle.std.proofs.lemmas.List.Folds.{list_any-append}
 use Rattle.std.proofs.lemmas.List.Sums.{fold_push}
@@ -79,10 +79,6 @@ cut_alike (suc n) (word ∷ all) more = ap (λ words. word ∷ words) (cut_alike
 kept_with : (all : List (List ℕ)) (o : Option (List ℕ)) → take 12001 (with_word (take 12001 all) o) ≡ take 12001 (with_word all o)
 kept_with all None = ap (take 12001) (sym (append-nil (take 12001 all))) ∙ cut_alike 12001 all [] ∙ ap (take 12001) (append-nil all)
 kept_with all (Some word) = cut_alike 12001 all (word ∷ [])
-
--- no word more, and one
-pub all_kept : (words : List (List ℕ)) → length words ≤ 12001 → words ≡ take 12001 words
-all_kept words few = sym (take_all 12001 words few)
 
 -- nothing is kept of no token
 nothing_yet : IsSummary [] true 0 None false false None [] × HasValues [] None None None

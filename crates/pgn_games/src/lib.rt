@@ -19,8 +19,6 @@ mod reading;
 mod settling;
 mod summary;
 mod tag_pairs;
-#[cfg(test)]
-mod tests;
 mod turns;
 mod whole;
 

@@ -22,8 +22,6 @@ mod settling;
 mod stages;
 mod tag_values;
 mod tags;
-#[cfg(test)]
-mod tests;
 mod words;
 
 pub use kinds::{Placed, Token};

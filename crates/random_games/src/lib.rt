@@ -5,8 +5,6 @@
 
 mod games;
 mod law;
-#[cfg(test)]
-mod tests;
 mod texts;
 mod words;
 

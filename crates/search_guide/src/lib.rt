@@ -16,8 +16,6 @@ mod guiding;
 mod hopeless;
 mod pawns;
 mod reach;
-#[cfg(test)]
-mod tests;
 
 pub use choice::Guide;
 pub use guiding::guide;

@@ -14,10 +14,6 @@ mod shard;
 mod step;
 mod table;
 mod table_place;
-#[cfg(test)]
-mod table_tests;
-#[cfg(test)]
-mod tests;
 mod turns;
 
 pub use law::{any_calls_leave_a_shard, keys_are_compared_whole};

@@ -16,6 +16,3 @@ mod views;
 
 pub use cells::{Pass, Still, TurnCell};
 pub use object::{Entry, Object};
-
-#[cfg(test)]
-mod tests;

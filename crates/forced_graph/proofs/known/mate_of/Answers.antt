@@ -2,7 +2,7 @@ use Rattle.std.proofs.Common.{List, sym, ◌∙◌, subst}
 use Rattle.cha_fact.specs.declared.fact.Fact.TheVariants.{Mate}
 use Rattle.cha_moves.specs.Step.{Move}
 use Rattle.cha_moves.specs.Ends.{IsMatingLine}
-use Rattle.forced_graph.proofs.Lines.{true_of_asked}
+use Rattle.cha_fact.proofs.Searching.{true_of_asked}
 use Rattle.forced_graph.proofs.known.mate_of.Goals as goal
 
 pub returns-in-Mate : goal.returns-in-Mate

@@ -2,7 +2,7 @@ use Rattle.std.proofs.Common.{sym, ◌∙◌, ap, subst, arith, length, List}
 use Rattle.cha_fact.specs.declared.fact.Fact.TheVariants.{Mate, NoneWithin}
 use Rattle.cha_moves.specs.Step.{Move}
 use Rattle.cha_moves.specs.Ends.{IsMatingLine}
-use Rattle.helpmate.proofs.Saying.{true_of_asked}
+use Rattle.cha_fact.proofs.Searching.{true_of_asked}
 use Rattle.helpmate.proofs.deciding.decided.Goals as goal
 
 pub returns-else-moves-gt-MOST_FOUND-clause-holds : goal.returns-else-moves-gt-MOST_FOUND-clause-holds

@@ -1,0 +1,112 @@
+//! Passes that take turns at a sum: in threads, with one still out, and split off and taken back many times.
+
+ghost use Rattle.std.specs.Prelude.{◌≡◌, ◌+◌, ◌^◌, ◌%◌};
+ghost use Rattle.turn_cell.specs.Passes.{number, splits, IsOf, IsFirst};
+
+use std::rt::HostRuntime;
+use std::sync::Wait;
+use std::thread;
+use turn_cell::{Object, Pass, Still, TurnCell};
+
+// A sum. A call adds a number, and the reply is the sum then.
+struct Sum {
+    total: u64,
+}
+
+impl Object for Sum {
+    type Call = u64;
+
+    type Reply = u64;
+
+    ghost step = { λ old call reply new. (new.total ≡ (old.total + call) % 2 ^ 64) × (reply ≡ new.total) };
+
+    fn apply(&mut self, call: u64) -> u64 {
+        self.total = self.total.wrapping_add(call);
+        self.total
+    }
+}
+
+impl Drop for Sum {
+    fn drop(self) {
+        let Sum { total: _ } = self;
+    }
+}
+
+// Adds one, a thousand times.
+fn add_a_thousand<R: Wait>(rt: &R, cell: &TurnCell<Sum>, mut pass: Pass<Sum>) -> Pass<Sum>
+    requires { IsOf cell.now pass }
+    ensures { IsOf cell.now result × (number result ≡ number pass) }
+{
+    for _ in 0..1000 {
+        cell.turn(rt, &mut pass, 1);
+    }
+    pass
+}
+
+// Splits a pass off, adds a number with it and takes it back, for each number from 0 to 99.
+fn split_and_join<R: Wait>(rt: &R, cell: &TurnCell<Sum>, mut first: Pass<Sum>) -> Pass<Sum>
+    requires { IsOf cell.now first × IsFirst first × (splits first ≡ 0) }
+    ensures { IsOf cell.now result × IsFirst result }
+{
+    for number in 0..100 {
+        let mut other = cell.split(&mut first);
+        cell.turn(rt, &mut other, number);
+        cell.join(&mut first, other);
+    }
+    first
+}
+
+#[test]
+fn two_threads_add_up_to_2000(rt: HostRuntime) {
+    let Ok((cell, mut first)) = TurnCell::new(rt.alloc(), Sum { total: 0 }) else {
+        panic!(rt; "no memory");
+    };
+    let second = cell.split(&mut first);
+    let (mut first, second) = thread::join(
+        &rt,
+        || add_a_thousand(&rt, &cell, first),
+        || add_a_thousand(&rt, &cell, second),
+    );
+    cell.join(&mut first, second);
+    match cell.close(first) {
+        Ok(sum) => assert_eq!(rt; sum.total, 2000),
+        Err(_) => panic!(rt; "a pass is still out"),
+    }
+}
+
+#[test]
+fn a_cell_with_a_pass_still_out_is_handed_back(rt: HostRuntime) {
+    let Ok((cell, mut first)) = TurnCell::new(rt.alloc(), Sum { total: 5 }) else {
+        panic!(rt; "no memory");
+    };
+    let mut second = cell.split(&mut first);
+    assert_eq!(rt; cell.turn(&rt, &mut second, 2), 7);
+    assert_eq!(rt; first.others(), 1);
+    let Err(still) = cell.close(first) else {
+        panic!(rt; "closed with a pass still out");
+    };
+    let Still {
+        cell,
+        pass: mut first,
+        passes,
+    } = still;
+    assert_eq!(rt; passes, 2);
+    cell.join(&mut first, second);
+    match cell.close(first) {
+        Ok(sum) => assert_eq!(rt; sum.total, 7),
+        Err(_) => panic!(rt; "a pass is still out"),
+    }
+}
+
+#[test]
+fn a_hundred_passes_come_and_go(rt: HostRuntime) {
+    let Ok((cell, first)) = TurnCell::new(rt.alloc(), Sum { total: 0 }) else {
+        panic!(rt; "no memory");
+    };
+    let first = split_and_join(&rt, &cell, first);
+    assert_eq!(rt; first.splits(), 100);
+    match cell.close(first) {
+        Ok(sum) => assert_eq!(rt; sum.total, 4950),
+        Err(_) => panic!(rt; "a pass is still out"),
+    }
+}

@@ -1,0 +1,135 @@
+//! Hunts in positions of which it is known whether and how they can be mated.
+
+use crate::places::place;
+use cha_board::Color;
+use cha_moves::replays;
+use mate_hunt::hunt;
+use search_guide::Guide;
+use std::alloc::Global;
+use std::test::Fail;
+
+/// Positions, the side that mates by its next move, and how.
+const NEXT: &[(&str, Color)] = &[
+    // the rook on the back rank
+    ("6k1/5ppp/8/8/8/8/8/R3K3 w - -", Color::White),
+    // the fool's mate
+    (
+        "rnbqkbnr/pppp1ppp/8/4p3/6P1/5P2/PPPPP2P/RNBQKBNR b KQkq g3",
+        Color::Black,
+    ),
+    // the scholar's mate
+    (
+        "r1bqkb1r/pppp1ppp/2n2n2/4p2Q/2B1P3/8/PPPP1PPP/RNB1K1NR w KQkq -",
+        Color::White,
+    ),
+    // a smothered king
+    ("6rk/6pp/8/4N3/8/8/8/6K1 w - -", Color::White),
+    // a pawn becomes a queen
+    ("7k/P7/6K1/8/8/8/8/8 w - -", Color::White),
+    // castling
+    ("8/8/8/8/8/8/7R/1k2K2R w K -", Color::White),
+];
+
+/// Positions and the side that a longer way leads to a mate for.
+const FAR: &[(&str, Color)] = &[
+    ("8/8/8/4k3/8/8/8/4KR2 w - -", Color::White),
+    ("8/8/8/4k3/8/8/4P3/4K3 b - -", Color::White),
+    ("4k3/8/8/8/3bn3/8/8/4K3 w - -", Color::Black),
+    // a bare king beside two knights, in whose corner it can be mated
+    ("8/8/8/4k3/8/8/8/NN2K3 w - -", Color::White),
+];
+
+/// The same, where the guide that takes squares away leads nowhere.
+const TO_A_CORNER: &[(&str, Color)] = &[
+    // a lone bishop, which mates where a pawn of the loser stands beside its king
+    ("8/8/8/4k3/7p/8/8/4KB2 w - -", Color::White),
+    (
+        "rnbqkbnr/pppppppp/8/8/8/8/PPPPPPPP/RNBQKBNR w KQkq -",
+        Color::Black,
+    ),
+];
+
+/// Positions and a side that no series of legal moves mates for.
+const NOWHERE: &[(&str, Color)] = &[
+    // stalemate
+    ("7k/5Q2/6K1/8/8/8/8/8 b - -", Color::White),
+    // mate for the other side
+    ("7k/6Q1/6K1/8/8/8/8/8 b - -", Color::Black),
+    // a bare king
+    ("8/8/8/4k3/3q4/8/8/4K3 w - -", Color::White),
+    // a lone knight against a bare king
+    ("8/8/8/4k3/8/8/8/4KN2 w - -", Color::White),
+    // the queen has to be taken
+    ("k7/1Q6/8/8/8/8/8/4K3 b - -", Color::White),
+];
+
+/// How many moves the line of a hunt has that replays, if there is one.
+fn found(
+    alloc: Global,
+    fen: &str,
+    winner: Color,
+    most: u32,
+    by: Guide,
+) -> Result<Option<usize>, Fail> {
+    let position = place(fen)?;
+    match hunt(alloc, &position, winner, most, by)? {
+        None => Ok(None),
+        Some(line) => {
+            if !replays(&position, winner, line.items()) {
+                Err("a line that does not replay")?;
+            }
+            Ok(Some(line.items().len()))
+        }
+    }
+}
+
+#[test]
+fn the_next_move_mates(rt: HostRuntime) -> Result<(), Fail> {
+    let alloc = rt.alloc();
+    for (fen, winner) in NEXT {
+        for by in [Guide::Corner, Guide::Flights] {
+            assert_eq!(rt; found(alloc, fen, *winner, 0, by)?, None, "{fen}");
+            assert_eq!(rt; found(alloc, fen, *winner, 1, by)?, Some(1), "{fen}");
+            assert_eq!(rt; found(alloc, fen, winner.other(), 1, by)?, None, "{fen}");
+        }
+    }
+    Ok(())
+}
+
+#[test]
+fn a_mate_on_the_board_is_found_at_once(rt: HostRuntime) -> Result<(), Fail> {
+    let mate = "7k/6Q1/6K1/8/8/8/8/8 b - -";
+    let none = found(rt.alloc(), mate, Color::White, 0, Guide::Corner)?;
+    assert_eq!(rt; none, Some(0));
+    Ok(())
+}
+
+#[test]
+fn a_mate_further_away_is_found(rt: HostRuntime) -> Result<(), Fail> {
+    let alloc = rt.alloc();
+    for (fen, winner) in FAR {
+        for by in [Guide::Corner, Guide::Flights] {
+            let line = found(alloc, fen, *winner, 20_000, by)?;
+            assert!(rt; line.is_some(), "{fen} {by:?}");
+        }
+        let first = found(alloc, fen, *winner, 1, Guide::Corner)?;
+        assert_eq!(rt; first, None, "{fen}");
+    }
+    for (fen, winner) in TO_A_CORNER {
+        let line = found(alloc, fen, *winner, 1_000, Guide::Corner)?;
+        assert!(rt; line.is_some(), "{fen}");
+    }
+    Ok(())
+}
+
+#[test]
+fn where_no_mate_is_none_is_found(rt: HostRuntime) -> Result<(), Fail> {
+    let alloc = rt.alloc();
+    for (fen, winner) in NOWHERE {
+        for by in [Guide::Corner, Guide::Flights] {
+            let line = found(alloc, fen, *winner, 300, by)?;
+            assert_eq!(rt; line, None, "{fen}");
+        }
+    }
+    Ok(())
+}

@@ -1,0 +1,40 @@
+//! Tests of what looks for mates, sets and certificates, on positions that FEN says.
+//!
+//! `places` reads positions. `least_sets` and `static_verdicts` have answers of the solver. `facts` has what is known of
+//! positions; `cells`, `shards` and `tables` have where it is kept. `rounds`, `crews` and `shortest` find the helpmates of
+//! `known_plies` and `known_counts`. `guides` and `hunts` have searches that are led, `stores` the positions of an exploration,
+//! and `explored` explorations.
+#![tactic(auto)]
+
+#[cfg(test)]
+mod cells;
+#[cfg(test)]
+mod crews;
+#[cfg(test)]
+mod explored;
+#[cfg(test)]
+mod facts;
+#[cfg(test)]
+mod guides;
+#[cfg(test)]
+mod hunts;
+#[cfg(test)]
+mod known_counts;
+#[cfg(test)]
+mod known_plies;
+#[cfg(test)]
+mod least_sets;
+#[cfg(test)]
+mod places;
+#[cfg(test)]
+mod rounds;
+#[cfg(test)]
+mod shards;
+#[cfg(test)]
+mod shortest;
+#[cfg(test)]
+mod static_verdicts;
+#[cfg(test)]
+mod stores;
+#[cfg(test)]
+mod tables;

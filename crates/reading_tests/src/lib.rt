@@ -1,0 +1,16 @@
+//! Tests of what turns bytes into games and plays them.
+//!
+//! `sources` has sources and sinks that fail, `tokens` texts with their tokens, `games` texts with their games, `played` words of
+//! SAN and games that are played to their ends, and `drawn` games that are drawn at random.
+#![tactic(auto)]
+
+#[cfg(test)]
+mod drawn;
+#[cfg(test)]
+mod games;
+#[cfg(test)]
+mod played;
+#[cfg(test)]
+mod sources;
+#[cfg(test)]
+mod tokens;

@@ -15,7 +15,7 @@ use Rattle.adjudicate.specs.declared.playing.GameBlock.{GameBlock}
 use Rattle.adjudicate.specs.declared.endings.Status.{Status}
 use Rattle.adjudicate.specs.declared.endings.Status.TheVariants.{Done, ReadFault, WriteFault, TooLong, NoMemory}
 use Rattle.adjudicate.specs.Statuses.{status_of_end}
-use Rattle.cha_verdict.specs.Bounds.{Bounds}
+use Rattle.cha_limits.specs.Bounds.{Bounds}
 use Rattle.cha_outside.specs.Faults.{Rose}
 use Rattle.cha_outside.specs.declared.gathering.ReadEnd.TheVariants as ends
 use Rattle.cha_words.specs.declared.orders.Order.{Order}

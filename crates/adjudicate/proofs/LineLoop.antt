@@ -2,7 +2,7 @@
 use Rattle.std.proofs.Common.{◌≡◌, ◌⊎◌, inl, inr, ℕ, ◌≤◌, Bool, List, [], ◌∷◌, take, Option, refl, sym, subst}
 use Rattle.std.specs.Io.KnownBytes.{Appends}
 use Rattle.cha_outside.specs.Faults.{Rose}
-use Rattle.cha_verdict.specs.Bounds.{Bounds}
+use Rattle.cha_limits.specs.Bounds.{Bounds}
 use Rattle.flag_report.specs.declared.totals.PositionTotals.{PositionTotals}
 use Rattle.flag_report.specs.Totals.{position_summary_text}
 use Rattle.adjudicate.specs.declared.judging.LineBlock.{LineBlock}

@@ -21,7 +21,7 @@ use Rattle.adjudicate.specs.Checks.{IsTextOf, IsUnwinnableAtFirst}
 use Rattle.adjudicate.specs.Report.{IsSummaryOn, last_of_games, HasWholeBlocks}
 use Rattle.flag_report.specs.declared.totals.GameTotals.{GameTotals}
 use Rattle.flag_report.specs.Totals.{game_summary_text}
-use Rattle.cha_verdict.specs.Bounds.{Bounds}
+use Rattle.cha_limits.specs.Bounds.{Bounds}
 use Rattle.random_games.specs.Made.{made}
 use Rattle.adjudicate.specs.Outcomes.{blocks, game_items, position_items}
 use Rattle.adjudicate.specs.MatesReport.{mates_items}

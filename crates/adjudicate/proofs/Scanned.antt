@@ -8,7 +8,7 @@ use Rattle.cha_verdict.specs.declared.decisions.Decision.{Decision}
 use Rattle.cha_verdict.specs.declared.scans.Edge.{Edge}
 use Rattle.cha_verdict.specs.declared.scans.Edge.TheVariants.{Unclear}
 use Rattle.cha_verdict.specs.declared.scans.Scan.{Scan}
-use Rattle.cha_verdict.specs.Bounds.{Bounds}
+use Rattle.cha_limits.specs.Bounds.{Bounds}
 use Rattle.cha_verdict.specs.Scans.{HasEdge, HasScan, IsPrintableScan}
 use Rattle.cha_verdict.specs.Sound.{IsSound}
 use Rattle.pgn_games.specs.declared.played.Game.{Game}

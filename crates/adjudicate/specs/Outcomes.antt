@@ -26,7 +26,7 @@ use Rattle.flag_report.specs.Blocks.{status_of, is_dead, position_text, refused_
 use Rattle.flag_report.specs.Games.{game_text, unreadable_text}
 use Rattle.cha_verdict.specs.declared.decisions.Decision.{Decision}
 use Rattle.cha_verdict.specs.declared.scans.Scan.{Scan}
-use Rattle.cha_verdict.specs.Bounds.{Bounds}
+use Rattle.cha_limits.specs.Bounds.{Bounds}
 use Rattle.cha_verdict.specs.Sound.{IsSound}
 use Rattle.cha_verdict.specs.Scans.{HasScan}
 use Rattle.adjudicate.specs.Lines.{lines}

@@ -3,7 +3,7 @@ use Rattle.std.specs.Prelude.{◌≡◌, ◌≢◌, ℕ, ◌+◌, ◌^◌, ◌<�
 use Rattle.cha_outside.specs.Faults.{Rose}
 use Rattle.flag_report.specs.declared.totals.GameTotals.{GameTotals}
 use Rattle.flag_report.specs.declared.totals.PositionTotals.{PositionTotals}
-use Rattle.cha_verdict.specs.Bounds.{Bounds}
+use Rattle.cha_limits.specs.Bounds.{Bounds}
 use Rattle.cha_board.specs.Board.{Board}
 use Rattle.pgn_games.specs.declared.played.Game.{Game}
 use Rattle.cha_verdict.specs.declared.decisions.Decision.{Decision}

@@ -30,7 +30,7 @@ pub fn check_cert<C: Checker, S: Source, K: Sink>(
     ensures { IsRun CheckCert result (outside (S.left source.old) (S.faults source.old) (K.written sink.old) (K.faults sink.old)) (outside (S.left source.new) (S.faults source.new) (K.written sink.new) (K.faults sink.new)) }
 {
     match read_all(alloc, source, MOST_BYTES) {
-        Ok(bytes) => write_answer(alloc, checker, bytes.as_slice(), sink),
+        Ok(bytes) => write_answer(alloc, checker, bytes, sink),
         Err(end) => Status::from(end),
     }
 }
@@ -39,11 +39,11 @@ pub fn check_cert<C: Checker, S: Source, K: Sink>(
 fn write_answer<C: Checker, K: Sink>(
     alloc: Global,
     checker: &C,
-    bytes: &[u8],
+    bytes: Vec<u8>,
     sink: &mut K,
 ) -> Status
     requires ready { C.ready checker.now }
-    ensures { IsWritten CheckCert bytes.now result (K.written sink.old) (K.faults sink.old) (K.written sink.new) (K.faults sink.new) }
+    ensures { IsWritten CheckCert bytes.items result (K.written sink.old) (K.faults sink.old) (K.written sink.new) (K.faults sink.new) }
 {
     let Ok(answer) = answer_to(alloc, checker, bytes) else {
         return Status::NoMemory;
@@ -73,12 +73,15 @@ struct Answer {
 }
 
 /// What is answered on a text.
-fn answer_to<C: Checker>(alloc: Global, checker: &C, bytes: &[u8]) -> Result<Answer, NoMemory>
+fn answer_to<C: Checker>(alloc: Global, checker: &C, bytes: Vec<u8>) -> Result<Answer, NoMemory>
     requires ready { C.ready checker.now }
-    ensures line { IfOk result (λ answer. IsAnswerTo (any_cert_of bytes.now) answer.line) }
-    ensures accepted { IfOk result (λ answer. IsTrue answer.accepted ↔ IsReadAs IsValidAtFirst bytes.now) }
+    ensures line { IfOk result (λ answer. IsAnswerTo (any_cert_of bytes.items) answer.line) }
+    ensures accepted { IfOk result (λ answer. IsTrue answer.accepted ↔ IsReadAs IsValidAtFirst bytes.items) }
 {
-    match read_any(alloc, bytes) {
+    let read = read_any(alloc, &bytes);
+    // The certificate is checked without its text, which may be as large.
+    drop(bytes);
+    match read {
         Ok(certificate) => answer_on(alloc, checker, &certificate),
         Err(fault) => {
             if fault.kind == CertKind::NoMemory {
@@ -104,9 +107,9 @@ fn answer_on<C: Checker>(
     ensures line { IfOk result (λ answer. IsAnswerTo (Ok (record { winner = certificate.now.winner; cert = expansion certificate.now.cert })) answer.line) }
     ensures accepted { IfOk result (λ answer. IsTrue answer.accepted ↔ IsValidAtFirst (record { winner = certificate.now.winner; cert = expansion certificate.now.cert })) }
 {
-    let nodes = certificate.cert.nodes();
+    let first = certificate.cert.nodes()[0].position.position();
     let winner = certificate.winner;
-    match checker.check(alloc, &nodes[0].position, winner, &certificate.cert)? {
+    match checker.check(alloc, &first, winner, &certificate.cert)? {
         Checked::Accepted => Ok(Answer {
             accepted: true,
             line: accepted_line(alloc, winner)?,

@@ -1,7 +1,7 @@
 //! What each order does.
 
 ghost use Rattle.std.specs.Prelude.{◌≡◌, ◌≤◌, ℕ, None, IsSome};
-ghost use Rattle.cha_verdict.specs.Bounds.{Bounds};
+ghost use Rattle.cha_limits.specs.Bounds.{Bounds};
 ghost use Rattle.cha_words.specs.declared.orders.Order.TheVariants.{GenGames, ListMates};
 ghost use Rattle.cha_board.specs.declared.men.Color.{Color as Side};
 ghost use Rattle.cha_words.specs.Language.{limits_in};

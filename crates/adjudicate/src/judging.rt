@@ -2,7 +2,7 @@
 
 ghost use Rattle.std.specs.Prelude.{◌≡◌, ◌||◌, Bool, IfOk};
 ghost use Rattle.cha_verdict.specs.Verdicts.{is_undecided as is_undecided_verdict};
-ghost use Rattle.cha_verdict.specs.Bounds.{Bounds};
+ghost use Rattle.cha_limits.specs.Bounds.{Bounds};
 ghost use Rattle.adjudicate.specs.Outcomes.{line_item};
 ghost use Rattle.adjudicate.specs.Outcomes.Item.{PositionLine, RefusedLine};
 ghost use Rattle.adjudicate.specs.Steps.{JudgesLine, LineRoom, line_counted_as};
@@ -10,9 +10,10 @@ ghost use Rattle.adjudicate.specs.Steps.{JudgesLine, LineRoom, line_counted_as};
 use cha_board::{Color, Position};
 use cha_decide::decide_by;
 use cha_fen::{FenFault, read};
+use cha_limits::Limits;
 use cha_list::{NoMemory, Text};
 use cha_moves::state;
-use cha_verdict::{Limits, Verdict, is_undecided};
+use cha_verdict::{Verdict, is_undecided};
 use flag_report::{PositionTotals, position_block, refused_block, status_of};
 use root_workers::{Crew, Gate};
 use std::alloc::Global;

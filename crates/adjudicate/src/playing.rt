@@ -8,17 +8,18 @@ ghost use Rattle.adjudicate.specs.Outcomes.{game_item, played_item, stopped_by, 
 ghost use Rattle.flag_report.specs.Reasons.{IsReason, IsNotWantOfMemory};
 ghost use Rattle.std.specs.Bool.{OnTrue, OnFalse};
 ghost use Rattle.cha_san.specs.Playing.{positions};
-ghost use Rattle.cha_verdict.specs.Bounds.{Bounds};
+ghost use Rattle.cha_limits.specs.Bounds.{Bounds};
 ghost use Rattle.adjudicate.specs.Outcomes.Item.{UnreadableGame};
 ghost use Rattle.adjudicate.specs.Steps.{JudgesGame, IsReported, GameRoom, game_counted_as};
 
 use crate::judging::some_undecided;
 use cha_board::Position;
 use cha_decide::{decide_by, scan_by};
+use cha_limits::Limits;
 use cha_list::{NoMemory, Text, text_of};
 use cha_moves::state;
 use cha_san::{PlayFault, SanFault, play};
-use cha_verdict::{Decision, Limits, Scan};
+use cha_verdict::{Decision, Scan};
 use flag_report::{
     GameTotals, Unreadable, changes_result, first_examined, game_block, ruling, unreadable_block,
 };

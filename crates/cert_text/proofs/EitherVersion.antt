@@ -42,6 +42,11 @@ pub second_ok : (bytes : List ℕ) (r : Result SharedCertificate CertFault) → 
 second_ok bytes (Ok read) second said = says_second bytes (Ok read) second said
 second_ok bytes (Err fault) second said = tt
 
+pub first_ok : (bytes : List ℕ) (r : Result SharedCertificate CertFault) → is_first_version bytes ≡ true → IfOk r (λ read. cert_of bytes ≡ Ok (record { winner = read.winner; cert = expansion read.cert }))
+    → IfOk r (λ read. any_cert_of bytes ≡ Ok (record { winner = read.winner; cert = expansion read.cert }))
+first_ok bytes (Ok read) first said = says_first bytes (Ok (record { winner = read.winner; cert = expansion read.cert })) first said
+first_ok bytes (Err fault) first said = tt
+
 pub second_err : (bytes : List ℕ) (r : Result SharedCertificate CertFault) → is_first_version bytes ≡ false → IfErr r (λ fault. fault.kind ≢ kinds.NoMemory → shared_cert_of bytes ≡ Err fault)
     → IfErr r (λ fault. fault.kind ≢ kinds.NoMemory → any_cert_of bytes ≡ Err fault)
 second_err bytes (Ok read) second said = tt

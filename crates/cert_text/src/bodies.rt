@@ -1,6 +1,7 @@
 //! The nodes of a text.
 
-ghost use Rattle.std.specs.Prelude.{◌≤◌, drop, length, ◌≡◌, [], IfOk};
+ghost use Rattle.std.specs.Prelude.{◌≤◌, ◌<◌, ◌^◌, drop, length, ◌≡◌, [], IfOk};
+ghost use Rattle.cha_cert.specs.Shared.{expansion};
 ghost use Rattle.cert_text.specs.Lines.{lines_of, tail_of};
 ghost use Rattle.cert_text.specs.Spelled.{IsInnerOrLeaf, AreInnerOrLeaves};
 ghost use Rattle.cert_text.specs.Texts.{inner_of, leaf_of, leaf_after, node_after, nodes_after};
@@ -12,7 +13,7 @@ use crate::lines::{misfit, next_line};
 use crate::rest::Left;
 use crate::spelled::{put_inner, put_leaf};
 use cha_board::Position;
-use cha_cert::{Cert, Node, Part};
+use cha_cert::{Node, Part, SharedCert, append};
 use cha_fen::read;
 use cha_list::{NoMemory, Text};
 use mob_sets::Sets;
@@ -107,19 +108,25 @@ fn node(alloc: Global, bytes: &[u8], left: Left) -> Result<(Node, Left), CertFau
     }
 }
 
-/// So many nodes. No memory is reserved for them before they are read.
-pub fn nodes(alloc: Global, count: u32, bytes: &[u8], left: Left) -> Result<(Cert, Left), CertFault>
+/// So many nodes, each leaf with sets of its own. No memory is reserved for them before they are read.
+pub fn nodes(
+    alloc: Global,
+    count: u32,
+    bytes: &[u8],
+    left: Left,
+) -> Result<(SharedCert, Left), CertFault>
     requires { left.at ≤ length bytes.now }
-    ensures said { Agrees (λ read. seen bytes.now read.0 read.1) result (nodes_after (tail_of (drop left.at bytes.now)) count [] left.number (lines_of (drop left.at bytes.now))) }
+    ensures said { Agrees (λ read. seen bytes.now (expansion read.0) read.1) result (nodes_after (tail_of (drop left.at bytes.now)) count [] left.number (lines_of (drop left.at bytes.now))) }
     ensures inside { IfOk result (λ read. read.1.at ≤ length bytes.now) }
     ensures tail { IfOk result (λ read. tail_of (drop read.1.at bytes.now) ≡ tail_of (drop left.at bytes.now)) }
-    ensures inner_or_leaf { IfOk result (λ read. AreInnerOrLeaves read.0) }
+    ensures inner_or_leaf { IfOk result (λ read. AreInnerOrLeaves (expansion read.0)) }
+    ensures sets { IfOk result (λ read. length read.0.sets < 2 ^ 32) }
 {
-    let mut cert = Cert::new(alloc);
+    let mut cert = SharedCert::new(alloc);
     let mut left = left;
     for _read in 0..count {
         let (node, rest) = node(alloc, bytes, left)?;
-        cert.push(node)?;
+        append(&mut cert, node)?;
         left = rest;
     }
     Ok((cert, left))

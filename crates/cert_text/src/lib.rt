@@ -19,8 +19,6 @@ mod shared_bodies;
 mod shared_reader;
 mod shared_spelled;
 mod spelled;
-#[cfg(test)]
-mod tests;
 mod versions;
 
 pub use faults::{CertFault, CertKind};

@@ -16,7 +16,7 @@ use crate::lines::{misfit, next_line};
 use crate::rest::Left;
 use crate::shared_spelled::{put_sets_count, put_shared_leaf};
 use crate::spelled::{put_lone, put_small};
-use cha_board::Position;
+use cha_board::{Kept, Position};
 use cha_cert::{SharedCert, SharedNode, SharedPart};
 use cha_fen::read;
 use cha_list::{Class, NoMemory, Text, run_of};
@@ -103,7 +103,7 @@ fn shared_leaf_named(alloc: Global, sets: u32, line: &[u8]) -> Result<Option<Sha
     put_shared_leaf(alloc, named, &position, &mut text)?;
     Ok(if line == text.items() {
         Some(SharedNode {
-            position,
+            position: Kept::of(&position),
             part: SharedPart::Leaf(named),
         })
     } else {
@@ -161,19 +161,19 @@ fn shared_node_named(alloc: Global, sets: u32, line: &[u8]) -> Result<Option<Sha
 {
     if let Some(position) = inner_named(alloc, line)? {
         return Ok(Some(SharedNode {
-            position,
+            position: Kept::of(&position),
             part: SharedPart::Inner,
         }));
     }
     if let Some(position) = small_named(alloc, line)? {
         return Ok(Some(SharedNode {
-            position,
+            position: Kept::of(&position),
             part: SharedPart::Small,
         }));
     }
     if let Some(position) = lone_named(alloc, line)? {
         return Ok(Some(SharedNode {
-            position,
+            position: Kept::of(&position),
             part: SharedPart::Lone,
         }));
     }

@@ -46,12 +46,13 @@ fn put_shared_node(alloc: Global, node: &SharedNode, text: &mut Text) -> Result<
     ensures text { OnOk result (text.new ≡ text.old ++ lines_text (shared_node_lines node.now)) }
     ensures valid { OnOk result (HasValidPosition node.now) }
 {
-    node.position.known();
+    let position = node.position.position();
+    position.known();
     match node.part {
-        SharedPart::Inner => put_inner(alloc, &node.position, text)?,
-        SharedPart::Leaf(number) => put_shared_leaf(alloc, number, &node.position, text)?,
-        SharedPart::Small => put_small(alloc, &node.position, text)?,
-        SharedPart::Lone => put_lone(alloc, &node.position, text)?,
+        SharedPart::Inner => put_inner(alloc, &position, text)?,
+        SharedPart::Leaf(number) => put_shared_leaf(alloc, number, &position, text)?,
+        SharedPart::Small => put_small(alloc, &position, text)?,
+        SharedPart::Lone => put_lone(alloc, &position, text)?,
     }
     text.push(b'\n')?;
     Ok(())

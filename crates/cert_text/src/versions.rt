@@ -9,7 +9,7 @@ ghost use Rattle.cert_text.specs.SharedTexts.{shared_cert_of};
 ghost use Rattle.cert_text.specs.Versions.{is_first_version, any_cert_of, IsMigrated};
 
 use crate::faults::CertFault;
-use crate::reader::read;
+use crate::reader::{read, read_spread};
 use crate::shared_reader::{SharedCertificate, read2};
 use crate::shared_spelled::write2;
 use cha_cert::share;
@@ -25,7 +25,7 @@ fn begins_as_first(bytes: &[u8]) -> bool
 }
 
 /// The shared certificate of a text of either version, told by its first line: of version 2 the one that it is the text of,
-/// of version 1 one whose expansion that is. A text whose first line is neither has its fault there.
+/// of version 1 one whose expansion that is, each leaf with sets of its own. A text whose first line is neither has its fault there.
 pub fn read_any(alloc: Global, bytes: &[u8]) -> Result<SharedCertificate, CertFault>
     ensures value { IfOk result (λ read. any_cert_of bytes.now ≡ Ok (record { winner = read.winner; cert = expansion read.cert })) }
     ensures fault { IfErr result (λ fault. fault.kind ≢ Wanting → any_cert_of bytes.now ≡ Err fault) }
@@ -41,6 +41,17 @@ pub fn read_any(alloc: Global, bytes: &[u8]) -> Result<SharedCertificate, CertFa
     if !begins_as_first(bytes) {
         return read2(alloc, bytes);
     }
+    read_spread(alloc, bytes)
+}
+
+/// The shared certificate of a text of version 1, in which equal sets stand once.
+fn read_once(alloc: Global, bytes: &[u8]) -> Result<SharedCertificate, CertFault>
+    ensures value { IfOk result (λ read. cert_of bytes.now ≡ Ok (record { winner = read.winner; cert = expansion read.cert })) }
+    ensures fault { IfErr result (λ fault. fault.kind ≢ Wanting → cert_of bytes.now ≡ Err fault) }
+    ensures some { IfOk result (λ read. 0 < length read.cert.nodes) }
+    ensures few { IfOk result (λ read. length read.cert.nodes < 2 ^ 32) }
+    ensures few_sets { IfOk result (λ read. length read.cert.sets < 2 ^ 32) }
+{
     let plain = read(alloc, bytes)?;
     let cert = share(alloc, &plain.cert)?;
     Ok(SharedCertificate {
@@ -57,7 +68,12 @@ pub fn migrate(alloc: Global, bytes: &[u8]) -> Result<Text, CertFault>
     ensures first_fault { IfErr result (λ fault. fault.kind ≢ Wanting → IsTrue (is_first_version bytes.now) → cert_of bytes.now ≡ Err fault) }
     ensures second_fault { IfErr result (λ fault. fault.kind ≢ Wanting → IsTrue (not (is_first_version bytes.now)) → shared_cert_of bytes.now ≡ Err fault) }
 {
-    let found = read_any(alloc, bytes)?;
-    let text = write2(alloc, found.winner, &found.cert)?;
+    if begins_as_first(bytes) {
+        let found = read_once(alloc, bytes)?;
+        let text = write2(alloc, found.winner, &found.cert)?;
+        return Ok(text);
+    }
+    let same = read2(alloc, bytes)?;
+    let text = write2(alloc, same.winner, &same.cert)?;
     Ok(text)
 }

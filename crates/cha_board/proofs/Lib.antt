@@ -13,9 +13,11 @@ pub mod Betweens
 pub mod Firsts
 pub mod Tidiness
 mod Moving
+mod Showing
 pub mod Tables
 pub mod Sliding
 pub mod Striking
 mod Examples
 pub mod Beginning
 pub mod PackedWords
+pub mod Keeping

@@ -85,7 +85,7 @@ color_tells Black Black e = refl
 color_tells White Black e = absurd (omega (arith, e))
 color_tells Black White e = absurd (omega (arith, e))
 
-color_small : (c : Color) → color_code c < 2
+pub color_small : (c : Color) → color_code c < 2
 color_small White = omega arith
 color_small Black = omega arith
 
@@ -95,7 +95,7 @@ bit_tells false false e = refl
 bit_tells true false e = absurd (omega (arith, e))
 bit_tells false true e = absurd (omega (arith, e))
 
-bit_small : (b : Bool) → bit_of b < 2
+pub bit_small : (b : Bool) → bit_of b < 2
 bit_small true = omega arith
 bit_small false = omega arith
 
@@ -112,7 +112,7 @@ rights_same : (r s : Rights) → r.white_king ≡ s.white_king → r.white_queen
 rights_same r s e f g h = λ i. record { white_king = e i; white_queen = f i; black_king = g i; black_queen = h i }
 
 -- the number of the rest tells the rest
-state_tells : (c d : Color) (r s : Rights) (t u : Option ℕ) → state_number c r t ≡ state_number d s u → (c ≡ d) × (r ≡ s) × (t ≡ u)
+pub state_tells : (c d : Color) (r s : Rights) (t u : Option ℕ) → state_number c r t ≡ state_number d s u → (c ≡ d) × (r ≡ s) × (t ≡ u)
 unfolding state_number
 state_tells c d r s t u e =
     let one = halves _ _ _ _ (color_small c) (color_small d) e in

@@ -26,12 +26,6 @@ pub man_at-men_in : (a : Inside) (s : ℕ) → s < 64 → man_at (men_in a) s �
 unfolding squares
 man_at-men_in a s small = get_or-map-range_with_len (man_in a) 0 64 s s None small (zero-add s)
 
-pub man_in_is : (a : Inside) (s : ℕ) → man_in a s
-    ≡ man_of (has_square a.white s) (has_square a.black s)
-    (first_kind (has_square a.pawns s) (has_square a.knights s) (has_square a.bishops s) (has_square a.rooks s) (has_square a.queens s))
-unfolding man_in
-man_in_is a s = refl
-
 -- what a square shows, by what is asked of the man on it
 shown : Option Man → Option Man
 shown o =

@@ -1,5 +1,5 @@
 -- Positions as five words of 64 bits (this project).
-use Rattle.std.specs.Prelude.{ℕ, ◌+◌, ◌*◌, Bool, ◌||◌, List, [], ◌∷◌, Option, Some, None, if◌then◌else◌}
+use Rattle.std.specs.Prelude.{◌≡◌, length, ℕ, ◌+◌, ◌*◌, ◌/◌, ◌%◌, ◌^◌, slice_index, Bool, ◌||◌, List, [], ◌∷◌, Option, Some, None, if◌then◌else◌}
 use Rattle.cha_board.specs.declared.men.Color.{Color}
 use Rattle.cha_board.specs.declared.men.Color.TheVariants.{White, Black}
 use Rattle.cha_board.specs.declared.men.Kind.{Kind}
@@ -41,3 +41,21 @@ words_of q =
     bits_where (is_of Black) q.men ∷ bits_where (is_of_three Pawn Bishop Queen) q.men
     ∷ bits_where (is_of_three Knight Bishop King) q.men ∷ bits_where (is_of_three Rook Queen King) q.men
     ∷ state_number q.side q.rights q.target ∷ []
+
+-- Four sets show these men: the squares of Black's, and those where the first, the second and the third bit of the kind's number
+-- is 1.
+pub record AreShown (black first second third : List Bool) (men : List (Option Man)) : Type 0 where
+  pub size : length men ≡ 64
+  pub black_men : black ≡ set_of (λ s. is_of Black (man_at men s))
+  pub first_bit : first ≡ set_of (λ s. is_of_three Pawn Bishop Queen (man_at men s))
+  pub second_bit : second ≡ set_of (λ s. is_of_three Knight Bishop King (man_at men s))
+  pub third_bit : third ≡ set_of (λ s. is_of_three Rook Queen King (man_at men s))
+
+-- a number with one word more: a product by an odd number whose bits are spread, its own upper half, and the word
+unfoldable pub stirred_with : ℕ → ℕ → ℕ
+stirred_with number word = (((number * 11400714819323198485) % 2 ^ 64 + number / 2 ^ 32) % 2 ^ 64 + word) % 2 ^ 64
+
+-- five words as one number
+unfoldable pub mixed_of : List ℕ → ℕ
+mixed_of words =
+    stirred_with (stirred_with (stirred_with (stirred_with (slice_index words 0) (slice_index words 1)) (slice_index words 2)) (slice_index words 3)) (slice_index words 4)

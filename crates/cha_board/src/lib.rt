@@ -5,12 +5,13 @@
 //! by the tables of `leaps` and `rays`, `strikes` what men attack by it, and `sight` the same by a plain walk over
 //! a list of men. `position` has the valid positions, `build` how one is made, `castling` what a side
 //! needs for castling, and `opening` the opening position.
-//! `packed` has positions as five words, by which they are compared and found.
+//! `packed` has positions as five words, by which they are compared and found, and `kept` positions in the room of these.
 #![tactic(auto)]
 
 mod aim;
 mod build;
 mod castling;
+mod kept;
 mod leaps;
 mod letters;
 mod men;
@@ -25,14 +26,13 @@ mod shifts;
 mod sight;
 mod squares;
 mod strikes;
-#[cfg(test)]
-mod tests;
 
 pub use aim::{
     aims_at, diagonal, files_between, in_line, rank_ahead, ranks_between, steps_between, straight,
 };
 pub use build::BuildFault;
 pub use castling::{home, long_right, short_right};
+pub use kept::Kept;
 pub use men::{Color, Kind, Man, is_man_of, is_man_other_than_king, is_of_kind, is_of_side};
 pub use opening::OPENING_MEN;
 pub use over::{aims, aims_alone, squares_between};

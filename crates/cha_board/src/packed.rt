@@ -3,7 +3,7 @@
 ghost use Rattle.std.specs.Prelude.{◌≡◌, ◌≤◌, ◌↔◌, IsTrue};
 ghost use Rattle.cha_board.specs.Board.{Board, man_at, IsValid};
 ghost use Rattle.cha_board.specs.SquareSets.{set_of};
-ghost use Rattle.cha_board.specs.Packing.{is_of_three, color_code, bit_of, target_code, state_number, words_of};
+ghost use Rattle.cha_board.specs.Packing.{is_of_three, color_code, bit_of, target_code, state_number, words_of, stirred_with, mixed_of};
 
 use crate::men::{Color, Kind};
 use crate::placement::Men;
@@ -17,6 +17,32 @@ use crate::squares::Square;
 #[derive(Clone, Copy, Debug, PartialEq, Eq, PartialOrd, Ord, Hash)]
 pub struct Packed {
     pub words: [u64; 5],
+}
+
+/// An odd number whose bits are spread.
+const MULTIPLIER: u64 = 0x9e37_79b9_7f4a_7c15;
+
+impl Packed {
+    /// The words as one number, by which tables find them. Words that differ in few bits differ there in many.
+    #[tactic(auto, unfolding(crate::specs::Packing::mixed_of))]
+    pub fn mixed(&self) -> u64
+        ensures { result ≡ mixed_of self.now.words }
+    {
+        let words = &self.words;
+        let two = stirred(words[0], words[1]);
+        let three = stirred(two, words[2]);
+        let four = stirred(three, words[3]);
+        stirred(four, words[4])
+    }
+}
+
+/// A number with one word more.
+#[tactic(auto, unfolding(crate::specs::Packing::stirred_with))]
+fn stirred(number: u64, word: u64) -> u64
+    ensures { result ≡ stirred_with number word }
+{
+    let spread = number.wrapping_mul(MULTIPLIER).wrapping_add(number >> 32);
+    spread.wrapping_add(word)
 }
 
 impl Position {

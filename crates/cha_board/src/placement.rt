@@ -1,10 +1,12 @@
 //! What stands on the squares of the board.
 
-ghost use Rattle.std.specs.Prelude.{◌≡◌, not, Some, None, replicate, IsTrue, slice_set};
+ghost use Rattle.std.specs.Prelude.{◌≡◌, not, List, Option, Some, None, replicate, IsTrue, slice_set};
+ghost use Rattle.cha_board.specs.declared.men.Man.{Man as AMan};
 ghost use Rattle.cha_board.specs.Men.{is_of, is_kind, is_man};
 ghost use Rattle.cha_board.specs.Board.{man_at, is_empty, king_of, has_one_king};
 ghost use Rattle.cha_board.specs.SquareSets.{set_of};
 ghost use Rattle.cha_board.specs.MenSets.{set_changed};
+ghost use Rattle.cha_board.specs.Packing.{AreShown};
 
 use crate::men::{Color, Kind, Man, is_of_kind, is_of_side};
 use crate::sets::SquareSet;
@@ -68,6 +70,29 @@ impl Men {
             men = men.put(Square::at(index), list[usize::from(index)]);
         }
         men
+    }
+
+    /// The men that four sets show: the squares of Black's men, and those where the first, the second and the third bit of the
+    /// number of a man's kind is 1, as in `Packed`.
+    pub(crate) fn of_four(
+        black: SquareSet,
+        first: SquareSet,
+        second: SquareSet,
+        third: SquareSet,
+    ) -> Men
+        requires shown { (men : List (Option AMan)) × AreShown black first second third men }
+        ensures { (men : List (Option AMan)) → AreShown black first second third men → result ≡ men }
+    {
+        Men {
+            white: first.joined(second).joined(third).minus(black),
+            black,
+            pawns: first.minus(second.joined(third)),
+            knights: second.minus(first.joined(third)),
+            bishops: first.common(second),
+            rooks: third.minus(first.joined(second)),
+            queens: first.common(third),
+            kings: second.common(third),
+        }
     }
 
     /// What stands on each square, from a1 to h8.

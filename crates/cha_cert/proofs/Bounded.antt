@@ -10,7 +10,7 @@ use Rattle.cha_moves.specs.Ends.{IsMatingLine, IsUnwinnable}
 use Rattle.mob_law.proofs.Law.{bounded}
 use Rattle.mob_sets.specs.Rows.{sets_of}
 use Rattle.mob_small.proofs.Keeping.{small_bounded}
-use Rattle.mob_lone.proofs.Keeping.{lone_bounded}
+use Rattle.mob_small.proofs.LoneKeeping.{lone_bounded}
 use Rattle.cha_cert.specs.declared.nodes.Node.{Node}
 use Rattle.cha_cert.specs.declared.nodes.Part.{Part}
 use Rattle.cha_cert.specs.declared.nodes.Part.TheVariants.{Inner, Leaf, Small, Lone}

@@ -4,5 +4,6 @@ pub mod Bounded
 pub mod Answering
 mod Leading
 mod OnceWritten
+mod Appending
 mod Telling
 pub mod Expanded

@@ -1,12 +1,12 @@
 -- What one more node makes of a shared certificate.
-use Rattle.std.proofs.Common.{◌≡◌, ℕ, suc, ◌+◌, ◌<◌, List, [], ◌∷◌, ◌++◌, length, map, get_or, Some, slice_get, refl, sym, ap, subst, ◌∙◌, arith, inl, inr}
+use Rattle.std.proofs.Common.{◌≡◌, ℕ, ◌+◌, ◌<◌, List, [], ◌∷◌, ◌++◌, length, map, get_or, Some, slice_get, refl, sym, ap, subst, ◌∙◌, arith, inl, inr}
 use Rattle.std.specs.List.{All, Contains}
 use Rattle.std.proofs.lemmas.Bool.{cases_lt}
 use Rattle.std.proofs.lemmas.List.{length-append, length-map, map-append, get_or-map, get_or_append_left, same_lists}
-use Rattle.std.proofs.lemmas.List.Elements.{Contains-append_cases}
 use Rattle.std.proofs.lemmas.Option.{slice_get_within, slice_get-get_or, get_or_from_slice_get}
 use Rattle.std.proofs.Math.Seq.{get_or-append_seam}
 use Rattle.cha_list.specs.Distinct.{AreDistinct}
+use Rattle.cha_list.proofs.Distinct.{push_apart}
 use Rattle.cha_board.specs.Board.{Board}
 use Rattle.mob_sets.specs.Rows.{SetRows}
 use Rattle.cha_cert.specs.declared.nodes.Node.{Node}
@@ -43,32 +43,14 @@ all_more P xs x all one k d inside =
           subst Q at (subst P (sym (get_or-append_seam xs x [] d)) one))
     ]
 
-only_one : {X : Type 0} (x y : X) → Contains (y ∷ []) x → y ≡ x
-only_one x y (k, inside, same) = (let zero : k ≡ 0 = omega (arith, inside) in subst (λ j. get_or (y ∷ []) j x ≡ x) zero same)
-
-first_one : {X : Type 0} (x y : X) (xs : List X) → Contains (y ∷ []) x → Contains (x ∷ xs) y
-first_one x y xs there = (0, omega arith, sym (only_one x y there))
-
--- one more element, which is not among the others
-distinct_more : {X : Type 0} (xs : List X) (y : X) → AreDistinct xs → (Contains xs y → ⊥) → AreDistinct (xs ++ y ∷ [])
-unfolding AreDistinct
-distinct_more [] y apart new = ((λ there. omega (arith, there.1)), tt)
-distinct_more (x ∷ xs) y apart new = (
-  (λ there. elim (Contains-append_cases xs (y ∷ []) x there) [
-    | inl early ↦ apart.0 early
-    | inr late ↦ new (first_one x y xs late)
-  ]),
-  distinct_more xs y apart.1 (λ there. new (suc (there.0), omega (arith, there.1), there.2)),
-)
-
 -- more sets change no node that names others
-part_grown : (sets more : List SetRows) (part : SharedPart) → Names (length sets) part → part_of (sets ++ more) part ≡ part_of sets part
+pub part_grown : (sets more : List SetRows) (part : SharedPart) → Names (length sets) part → part_of (sets ++ more) part ≡ part_of sets part
 part_grown sets more SharedInner named = refl
 part_grown sets more (SharedLeaf i) named = ap Leaf (get_or_append_left sets more no_sets i named)
 part_grown sets more SharedSmall named = refl
 part_grown sets more SharedLone named = refl
 
-expansion_grown : (sets more : List SetRows) (nodes : List SharedNode) → All (λ node. Names (length sets) node.part) nodes
+pub expansion_grown : (sets more : List SetRows) (nodes : List SharedNode) → All (λ node. Names (length sets) node.part) nodes
     → map (node_of (sets ++ more)) nodes ≡ map (node_of sets) nodes
 expansion_grown sets more nodes named =
     same_lists (map (node_of (sets ++ more)) nodes) (map (node_of sets) nodes) (length-map nodes (node_of (sets ++ more)) ∙ sym (length-map nodes (node_of sets))) (λ k d inside.
@@ -124,7 +106,7 @@ leaf_shared c nodes q sets new s =
           map-append (node_of more) c.nodes (leaf ∷ [])
           ∙ (let old = expansion_grown c.sets (sets ∷ []) c.nodes s.named ∙ s.expands in λ i. old i ++ own i ∷ []);
       order = record {
-        distinct = distinct_more c.sets sets s.order.distinct new;
+        distinct = push_apart c.sets sets s.order.distinct new;
         first = λ i inside. elim (cases_lt i n) [
           | inl less ↦ first_stays c.nodes leaf i (s.order.first i less)
           | inr past ↦ (

@@ -11,7 +11,7 @@ use Rattle.mob_law.specs.Closed.{IsClosed}
 use Rattle.mob_law.specs.Threats.{HasNoMate}
 use Rattle.mob_sets.specs.Rows.{SetRows, sets_of}
 use Rattle.mob_small.specs.Small.{IsSmallUnwinnable}
-use Rattle.mob_lone.specs.Lone.{IsLoneUnwinnable}
+use Rattle.mob_small.specs.Lone.{IsLoneUnwinnable}
 use Rattle.cha_cert.specs.declared.nodes.Node.{Node}
 use Rattle.cha_cert.specs.declared.nodes.Part.{Part}
 use Rattle.cha_cert.specs.declared.nodes.Part.TheVariants.{Inner, Leaf, Small, Lone}

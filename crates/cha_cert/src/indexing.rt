@@ -149,7 +149,7 @@ fn places_of_shared(alloc: Global, nodes: &[SharedNode]) -> Result<Vec<Place>, N
         let node = &nodes[number];
         node.position.known();
         places.push(Place {
-            packed: node.position.pack(),
+            packed: node.position.packed(),
             number: number as u32,
         })?;
     }

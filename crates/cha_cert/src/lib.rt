@@ -13,8 +13,6 @@ mod same;
 mod shared;
 mod shared_checking;
 mod sharing;
-#[cfg(test)]
-mod tests;
 
 pub use checking::{Checked, check, check_counted};
 pub use indexing::{Index, Place};
@@ -22,4 +20,4 @@ pub use law::valid_means_unwinnable;
 pub use nodes::{Cert, Node, Part};
 pub use shared::{SharedCert, SharedNode, SharedPart};
 pub use shared_checking::{check_shared, check_shared_counted, shared_node_holds};
-pub use sharing::{expand, share};
+pub use sharing::{append, expand, share};

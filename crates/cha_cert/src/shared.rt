@@ -3,7 +3,7 @@
 ghost use Rattle.std.specs.Prelude.{◌≡◌, ◌<◌, [], ◌∷◌, ◌++◌, length, OnOk, OnErr, IfErr};
 ghost use Rattle.cha_cert.specs.Shared.{Names, AreNamed};
 
-use cha_board::Position;
+use cha_board::Kept;
 use cha_list::{Listed, NoMemory};
 use mob_sets::Sets;
 use std::alloc::Global;
@@ -25,7 +25,7 @@ pub enum SharedPart {
 /// A position, and why no series of legal moves from it mates.
 #[derive(Drop)]
 pub struct SharedNode {
-    pub position: Position,
+    pub position: Kept,
     pub part: SharedPart,
 }
 

@@ -14,8 +14,7 @@ use crate::indexing::Index;
 use crate::shared::{SharedCert, SharedNode, SharedPart};
 use cha_board::{Color, Position, same_position};
 use cha_list::{NoMemory, Steps};
-use mob_lone::lone_verdict;
-use mob_small::small_verdict;
+use mob_small::{lone_verdict, small_verdict};
 use std::alloc::Global;
 use std::marker::Brand;
 use std::sync::ledger::{Blank, Ledger};
@@ -73,7 +72,7 @@ pub fn check_shared_counted<L: Ledger>(
     let Some(first) = nodes.first() else {
         return Ok(Checked::Fails(0));
     };
-    if !same_position(&first.position, position) {
+    if !same_position(&first.position.position(), position) {
         return Ok(Checked::Fails(0));
     }
     let index = Index::of_shared(alloc, shared)?;
@@ -136,14 +135,15 @@ fn holds<L: Ledger>(
     ensures holds { IfOk result (λ holds. IsTrue holds ↔ NodeHolds winner (expansion shared.now) (node_of shared.now.sets node.now)) }
     ensures cost { CostsAtMost (length shared.now.nodes) (shared_moves node.now) steps.old steps.new }
 {
-    node.position.known();
+    let position = node.position.position();
+    position.known();
     match node.part {
-        SharedPart::Inner => inner_holds(alloc, index, winner, &node.position, steps),
+        SharedPart::Inner => inner_holds(alloc, index, winner, &position, steps),
         SharedPart::Leaf(number) => {
             let sets = &shared.sets()[number as usize];
-            Ok(leaf_holds(winner, &node.position, sets))
+            Ok(leaf_holds(winner, &position, sets))
         }
-        SharedPart::Small => Ok(small_verdict(&node.position, winner)),
-        SharedPart::Lone => Ok(lone_verdict(&node.position, winner)),
+        SharedPart::Small => Ok(small_verdict(&position, winner)),
+        SharedPart::Lone => Ok(lone_verdict(&position, winner)),
     }
 }

@@ -1,14 +1,14 @@
 //! A certificate with its equal sets written once, and back.
 
-ghost use Rattle.std.specs.Prelude.{◌≡◌, ◌<◌, ◌≤◌, ◌^◌, [], ◌∷◌, ◌++◌, List, None, length, IfOk, IfSome, OnOk, Contains};
+ghost use Rattle.std.specs.Prelude.{◌≡◌, ◌<◌, ◌≤◌, ◌^◌, ◌+◌, [], ◌∷◌, ◌++◌, List, None, length, IfOk, IfSome, OnOk, Contains};
 ghost use Rattle.cha_cert.specs.declared.nodes.Node.{Node as CertNode};
 ghost use Rattle.cha_cert.specs.declared.nodes.Part.TheVariants.{Inner as CertInner, Leaf as CertLeaf, Small as CertSmall, Lone as CertLone};
-ghost use Rattle.cha_cert.specs.Shared.{Names, AreInOrder, Shares, IsAt, expansion, part_of, number_in, part_added, shared_of};
+ghost use Rattle.cha_cert.specs.Shared.{Names, AreInOrder, Shares, IsAt, IsNamedAs, expansion, part_of, number_in, part_added, shared_of};
 
 use crate::nodes::{Cert, Node, Part};
 use crate::same::same_sets;
 use crate::shared::{SharedCert, SharedNode, SharedPart};
-use cha_board::Position;
+use cha_board::Kept;
 use cha_list::NoMemory;
 use mob_sets::Sets;
 use std::alloc::Global;
@@ -36,16 +36,17 @@ fn add(alloc: Global, shared: &mut SharedCert, node: &Node) -> Result<(), NoMemo
     ensures exact { OnOk result (shared.new ≡ part_added shared.old node.now.position node.now.part) }
     ensures shares { (nodes : List CertNode) → Shares shared.old nodes → OnOk result (Shares shared.new (nodes ++ node.now ∷ [])) }
 {
+    let position = Kept::of(&node.position);
     match &node.part {
-        Part::Inner => add_inner(shared, node.position),
-        Part::Leaf(sets) => add_leaf(alloc, shared, node.position, sets),
-        Part::Small => add_small(shared, node.position),
-        Part::Lone => add_lone(shared, node.position),
+        Part::Inner => add_inner(shared, position),
+        Part::Leaf(sets) => add_leaf(alloc, shared, position, sets),
+        Part::Small => add_small(shared, position),
+        Part::Lone => add_lone(shared, position),
     }
 }
 
 /// Appends an inner node.
-fn add_inner(shared: &mut SharedCert, position: Position) -> Result<(), NoMemory>
+fn add_inner(shared: &mut SharedCert, position: Kept) -> Result<(), NoMemory>
     ensures exact { OnOk result (shared.new ≡ part_added shared.old position CertInner) }
     ensures shares { (nodes : List CertNode) → Shares shared.old nodes → OnOk result (Shares shared.new (nodes ++ (record { position = position; part = CertInner }) ∷ [])) }
 {
@@ -57,7 +58,7 @@ fn add_inner(shared: &mut SharedCert, position: Position) -> Result<(), NoMemory
 }
 
 /// Appends a node of small material.
-fn add_small(shared: &mut SharedCert, position: Position) -> Result<(), NoMemory>
+fn add_small(shared: &mut SharedCert, position: Kept) -> Result<(), NoMemory>
     ensures exact { OnOk result (shared.new ≡ part_added shared.old position CertSmall) }
     ensures shares { (nodes : List CertNode) → Shares shared.old nodes → OnOk result (Shares shared.new (nodes ++ (record { position = position; part = CertSmall }) ∷ [])) }
 {
@@ -69,7 +70,7 @@ fn add_small(shared: &mut SharedCert, position: Position) -> Result<(), NoMemory
 }
 
 /// Appends a node of lone minor men.
-fn add_lone(shared: &mut SharedCert, position: Position) -> Result<(), NoMemory>
+fn add_lone(shared: &mut SharedCert, position: Kept) -> Result<(), NoMemory>
     ensures exact { OnOk result (shared.new ≡ part_added shared.old position CertLone) }
     ensures shares { (nodes : List CertNode) → Shares shared.old nodes → OnOk result (Shares shared.new (nodes ++ (record { position = position; part = CertLone }) ∷ [])) }
 {
@@ -84,7 +85,7 @@ fn add_lone(shared: &mut SharedCert, position: Position) -> Result<(), NoMemory>
 fn add_leaf(
     alloc: Global,
     shared: &mut SharedCert,
-    position: Position,
+    position: Kept,
     sets: &Sets,
 ) -> Result<(), NoMemory>
     requires { length shared.old.sets < 2 ^ 32 }
@@ -111,6 +112,37 @@ fn add_leaf(
     }
 }
 
+/// Appends a node of a certificate. The sets of a leaf are appended too, whether or not equal ones are there.
+pub fn append(shared: &mut SharedCert, node: Node) -> Result<(), NoMemory>
+    requires { length shared.old.sets < 2 ^ 32 }
+    ensures spread { OnOk result (expansion shared.new ≡ expansion shared.old ++ node ∷ []) }
+    ensures nodes { OnOk result (length shared.new.nodes ≡ length shared.old.nodes + 1) }
+    ensures sets { OnOk result (length shared.new.sets ≤ length shared.old.sets + 1) }
+{
+    let position = Kept::of(&node.position);
+    let part = part_of_own(shared, node.part)?;
+    shared.push(SharedNode { position, part })?;
+    Ok(())
+}
+
+/// A part that names sets, which are appended, in place of one that has them.
+fn part_of_own(shared: &mut SharedCert, part: Part) -> Result<SharedPart, NoMemory>
+    requires { length shared.old.sets < 2 ^ 32 }
+    ensures { IfOk result (λ named. IsNamedAs shared.old shared.new part named) }
+{
+    let _nodes = shared.nodes();
+    match part {
+        Part::Inner => Ok(SharedPart::Inner),
+        Part::Leaf(sets) => {
+            let number = shared.sets().len() as u32;
+            shared.add_sets(sets)?;
+            Ok(SharedPart::Leaf(number))
+        }
+        Part::Small => Ok(SharedPart::Small),
+        Part::Lone => Ok(SharedPart::Lone),
+    }
+}
+
 /// The number of some sets among others, if they are there.
 fn number_of(all: &[Sets], wanted: &Sets) -> Option<usize>
     ensures some { IfSome result (λ number. IsAt all.now wanted.now number) }
@@ -132,7 +164,7 @@ pub fn expand(alloc: Global, shared: &SharedCert) -> Result<Cert, NoMemory>
     let mut cert = Cert::new(alloc);
     for node in shared.nodes() {
         cert.push(Node {
-            position: node.position,
+            position: node.position.position(),
             part: part_with(alloc, shared.sets(), node.part)?,
         })?;
     }

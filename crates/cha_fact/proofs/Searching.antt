@@ -1,12 +1,14 @@
--- A position that was searched stays so among more entries, and keys tell positions.
-use Rattle.std.proofs.Common.{◌≡◌, ℕ, zero, suc, List, ◌++◌, ap, inl, inr, ◌↔◌}
+-- A position that was searched stays so among more entries, keys tell positions, and facts are true of what they tell.
+use Rattle.std.proofs.Common.{◌≡◌, ℕ, zero, suc, List, ◌++◌, ap, subst, inl, inr, ◌↔◌}
 use Rattle.std.specs.List.{Contains}
 use Rattle.std.proofs.lemmas.List.Elements.{Contains-append_left, Contains-append_right}
 use Rattle.cha_board.specs.declared.men.Color.{Color}
 use Rattle.cha_board.specs.Board.{Board, IsValid}
 use Rattle.cha_board.proofs.PackedWords.{words_tell}
 use Rattle.cha_moves.specs.Moves.{after}
+use Rattle.cha_fact.specs.declared.fact.Fact.{Fact}
 use Rattle.cha_fact.specs.Keys.{key_of}
+use Rattle.cha_fact.specs.Truths.{IsTrueOf}
 use Rattle.cha_fact.specs.Entries.{Entry, HasProbe, HasFound, HasStore, IsSearched}
 
 -- each entry of one list is in the other
@@ -41,3 +43,13 @@ keys_tell a b v w valid valid' = (
   (λ e. (words_tell a b valid valid' (ap (λ key. key.packed.words) e), ap (λ key. key.winner) e)),
   (λ both i. key_of (both.0 i) (both.1 i)),
 )
+
+-- what is true of a position and a side is true of those that were asked for by the same key
+pub true_of_asked : (copy a b : Board) (v w : Color) (f g : Fact) → IsValid copy → copy ≡ a → IsValid b → key_of a v ≡ key_of b w → IsTrueOf a v f → f ≡ g → IsTrueOf b w g
+true_of_asked copy a b v w f g valid copied valid' same holds is =
+    let V : Board → Type 0 = λ x. IsValid x in
+    let e = (keys_tell a b v w (subst V copied valid) valid').0 same in
+    let P : Board → Type 0 = λ x. IsTrueOf x w g in
+    let Q : Color → Type 0 = λ x. IsTrueOf a x g in
+    let R : Fact → Type 0 = λ x. IsTrueOf a v x in
+    subst P e.0 (subst Q e.1 (subst R is holds))

@@ -6,12 +6,29 @@ ghost use Rattle.cha_board.specs.Board.{Board, IsValid};
 ghost use Rattle.cha_fact.specs.Keys.{key_of};
 
 use cha_board::{Color, Packed, Position};
+use std::hash::{Hash, Hasher};
 
 /// A position as its words, and the side that may mate.
-#[derive(Clone, Copy, Debug, PartialEq, Eq, PartialOrd, Ord, Hash)]
+#[derive(Clone, Copy, Debug, PartialEq, Eq, PartialOrd, Ord)]
 pub struct Key {
     pub packed: Packed,
     pub winner: Color,
+}
+
+/// Only the words are hashed: both sides of a position have one place.
+impl Hash for Key {
+    ghost use Rattle.std.specs.Hash as fed;
+    ghost use Rattle.std.specs.Cmp.Rules.{hashing};
+    ghost use Rattle.std.proofs.Common.{rules};
+    ghost use Rattle.cha_board.specs.Packing.{mixed_of};
+
+    ghost hash_input = { λ key. fed.u64 (mixed_of key.packed.words) };
+
+    ghost respects_eq = { Prim.search (hashing, rules) };
+
+    fn hash<H: Hasher>(&self, state: &mut H) {
+        state.write_u64(self.packed.mixed());
+    }
 }
 
 impl Key {

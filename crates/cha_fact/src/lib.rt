@@ -10,8 +10,6 @@ mod facts;
 mod key;
 mod line;
 mod proved;
-#[cfg(test)]
-mod tests;
 
 pub use calls::{FactCall, FactReply, Probe, Stored};
 pub use fact::Fact;

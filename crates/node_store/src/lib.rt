@@ -9,8 +9,6 @@ mod lines;
 mod origin;
 mod spot;
 mod store;
-#[cfg(test)]
-mod tests;
 
 pub use cha_list::Steps;
 pub use chains::Chains;

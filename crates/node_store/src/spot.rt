@@ -6,15 +6,15 @@ ghost use Rattle.std.specs.Cmp.Lexicographic.{pointwise};
 ghost use Rattle.std.specs.Cmp.Rules.{comparing, hashing};
 ghost use Rattle.std.specs.Hash as fed;
 ghost use Rattle.std.specs.Ordering.{on};
-ghost use Rattle.cha_board.specs.Packing.{words_of};
+ghost use Rattle.cha_board.specs.Packing.{words_of, mixed_of};
 
-use cha_board::Position;
+use cha_board::Kept;
 use std::hash::{Hash, Hasher};
 
 /// A position, compared and hashed by its five words.
-#[derive(Clone, Copy)]
+#[derive(Drop)]
 pub struct Spot {
-    pub position: Position,
+    pub position: Kept,
 }
 
 impl PartialEq for Spot {
@@ -23,7 +23,7 @@ impl PartialEq for Spot {
     ghost laws = { Prim.search (comparing, rules) };
 
     fn eq(&self, other: &Spot) -> bool {
-        self.position.pack().words == other.position.pack().words
+        self.position.packed().words == other.position.packed().words
     }
 }
 
@@ -32,11 +32,11 @@ impl Eq for Spot {
 }
 
 impl Hash for Spot {
-    ghost hash_input = { λ s. fed.slice fed.u64 (words_of s.position) };
+    ghost hash_input = { λ s. fed.u64 (mixed_of (words_of s.position)) };
 
     ghost respects_eq = { Prim.search (hashing, rules) };
 
     fn hash<H: Hasher>(&self, state: &mut H) {
-        self.position.pack().words.hash(state);
+        state.write_u64(self.position.packed().mixed());
     }
 }

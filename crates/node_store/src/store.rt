@@ -9,7 +9,7 @@ ghost use Rattle.node_store.specs.Graphs.{IsStore, HasOrigin};
 use crate::chains::Chains;
 use crate::origin::{Origin, Place};
 use crate::spot::Spot;
-use cha_board::Position;
+use cha_board::{Kept, Position};
 use cha_list::{NoMemory, Steps};
 use cha_moves::Move;
 use indexmap::IndexMap;
@@ -54,7 +54,10 @@ impl Store {
             origin: None,
             leaf: false,
         };
-        nodes.insert(Spot { position: *root }, place)?;
+        let spot = Spot {
+            position: Kept::of(root),
+        };
+        nodes.insert(spot, place)?;
         let name = waiting.slot();
         waiting.put(0, name);
         Ok(Store { nodes, waiting })
@@ -80,11 +83,19 @@ impl Store {
         ensures found { IfSome result (λ name. IsAt self.now.nodes name position.now) }
         ensures none { IfNone result (IsNew self.now.nodes position.now) }
     {
-        position.known();
         let wanted = Spot {
-            position: *position,
+            position: Kept::of(position),
         };
-        match self.nodes.get_full(&wanted) {
+        self.find_spot(&wanted)
+    }
+
+    // The name of a position that is kept.
+    fn find_spot(&self, wanted: &Spot) -> Option<u32>
+        ensures found { IfSome result (λ name. IsAt self.now.nodes name wanted.now.position) }
+        ensures none { IfNone result (IsNew self.now.nodes wanted.now.position) }
+    {
+        wanted.position.known();
+        match self.nodes.get_full(wanted) {
             None => None,
             Some((at, spot, _)) => {
                 spot.position.known();
@@ -99,7 +110,7 @@ impl Store {
         ensures { IsAt self.now.nodes name result }
     {
         match self.nodes.get_index(name as usize) {
-            Some((spot, _)) => spot.position,
+            Some((spot, _)) => spot.position.position(),
             None => unreachable!(),
         }
     }
@@ -140,7 +151,7 @@ impl Store {
     {
         position.known();
         let spot = Spot {
-            position: *position,
+            position: Kept::of(position),
         };
         let place = Place {
             origin: Some(origin),

@@ -1,5 +1,4 @@
-use Rattle.std.proofs.Common.{◌≡◌, ◌≤◌, length, sym, ap, subst, arith}
-use Rattle.std.specs.Io.KnownBytes.{Consumes}
+use Rattle.std.proofs.Common.{◌≤◌, length, arith}
 use Rattle.cha_words.specs.declared.orders.Order.TheVariants.{CheckCert}
 use Rattle.adjudicate.proofs.RunEndings.{unread, written_run}
 use Rattle.adjudicate.proofs.checking.check_cert.Goals as goal
@@ -7,11 +6,8 @@ use Rattle.adjudicate.proofs.checking.check_cert.Goals as goal
 pub returns-in-Ok : goal.returns-in-Ok
 returns-in-Ok g c =
     let all = c.in-Ok.ensures.all in
-    let bytes = c.as_slice.result.now in
-    let same : c.in-Ok.bytes.items ≡ bytes = sym c.as_slice.ensures.value in
-    let consumed = subst (Consumes _ _) same all.0 in
-    let few : length bytes ≤ 268435456 = let short = all.2 in omega (arith, short, ap length same, c.in-Ok.bytes.ok) in
-    written_run CheckCert tt bytes _ _ _ _ _ _ _ _ consumed all.1 _ few c.read_all.ensures.later c.write_answer.ensures
+    let few : length c.in-Ok.bytes.items ≤ 268435456 = let short = all.2 in omega (arith, short, c.in-Ok.bytes.ok) in
+    written_run CheckCert tt c.in-Ok.bytes.items _ _ _ _ _ _ _ _ all.0 all.1 _ few c.read_all.ensures.later c.write_answer.ensures
 
 pub returns-in-Err : goal.returns-in-Err
 returns-in-Err g c =

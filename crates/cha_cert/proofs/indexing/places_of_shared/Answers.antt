@@ -13,8 +13,8 @@ loop-number-init c = record { places = c.in_ok-places.ensures.items ∙ no_place
 pub loop-number-preserved : goal.loop-number-preserved
 loop-number-preserved c = record {
   places =
-      place_more (λ (node : SharedNode). node.position) c.args.nodes.now c.loop-number.number c.loop-number.number c.loop-number.places.items c.push.new.self.items c.pack.result c.index-nodes-number.result
-      c.loop-number-test.true c.loop-number.invariant.places (c.pack.ensures ∙ ap (λ (node : SharedNode). words_of node.position) c.index-nodes-number.is) (omega arith) c.in_ok-push.ensures.items;
+      place_more (λ (node : SharedNode). node.position) c.args.nodes.now c.loop-number.number c.loop-number.number c.loop-number.places.items c.push.new.self.items c.packed.result c.index-nodes-number.result
+      c.loop-number-test.true c.loop-number.invariant.places (c.packed.ensures ∙ ap (λ (node : SharedNode). words_of node.position) c.index-nodes-number.is) (omega arith) c.in_ok-push.ensures.items;
   valid =
       valid_more (λ (node : SharedNode). node.position) c.args.nodes.now c.loop-number.number c.index-nodes-number.result c.loop-number.invariant.valid
       (λ d. subst (λ (node : SharedNode). IsValid node.position) (get_or_read c.args.nodes.now c.loop-number.number c.index-nodes-number.result c.loop-number-test.true c.index-nodes-number.is d) c.known.ensures);

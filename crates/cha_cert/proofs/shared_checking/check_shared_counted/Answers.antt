@@ -14,7 +14,7 @@ returns-in-None-clause-law g c _ =
     let shared = c.args.shared.now in
     let nodes = expansion shared in
     let at = ap (λ (xs : List SharedNode). slice_get xs 0) (sym c.nodes-nodes.ensures.value) ∙ sym c.in-Some.ensures.value in
-    let begins = (expansion_begins p shared c.in-Some.first.now at).1 (c.same_position.ensures.0 c.if-not-same_position.false) in
+    let begins = (expansion_begins p shared c.in-Some.first.now at).1 (sym c.position.ensures ∙ c.same_position.ensures.0 c.if-not-same_position.false) in
     let none = subst (FirstFailing (NodeHolds w nodes) nodes) c.in-None.is c.in_ok-first_failing.ensures.failing in
     valid_is_unwinnable p w nodes (none_fails p w nodes begins c.in_ok-index.ensures.valid none)
 
@@ -25,7 +25,7 @@ returns-clause-answer g c =
     let shared = c.args.shared.now in
     let nodes = expansion shared in
     let at = ap (λ (xs : List SharedNode). slice_get xs 0) (sym c.nodes-nodes.ensures.value) ∙ sym c.in-Some.ensures.value in
-    let begins = (expansion_begins p shared c.in-Some.first.now at).1 (c.same_position.ensures.0 c.if-not-same_position.false) in
+    let begins = (expansion_begins p shared c.in-Some.first.now at).1 (sym c.position.ensures ∙ c.same_position.ensures.0 c.if-not-same_position.false) in
     let some = subst (FirstFailing (NodeHolds w nodes) nodes) c.in-Some-2.is c.in_ok-first_failing.ensures.failing in
     (one_fails p w nodes c.in-Some-2.number begins some).0
 
@@ -36,6 +36,6 @@ returns-clause-accepted g c =
     let shared = c.args.shared.now in
     let nodes = expansion shared in
     let at = ap (λ (xs : List SharedNode). slice_get xs 0) (sym c.nodes-nodes.ensures.value) ∙ sym c.in-Some.ensures.value in
-    let begins = (expansion_begins p shared c.in-Some.first.now at).1 (c.same_position.ensures.0 c.if-not-same_position.false) in
+    let begins = (expansion_begins p shared c.in-Some.first.now at).1 (sym c.position.ensures ∙ c.same_position.ensures.0 c.if-not-same_position.false) in
     let some = subst (FirstFailing (NodeHolds w nodes) nodes) c.in-Some-2.is c.in_ok-first_failing.ensures.failing in
     ((λ e. cc), (λ cert. absurd ((one_fails p w nodes c.in-Some-2.number begins some).1 cert)))

@@ -1,11 +1,12 @@
-use Rattle.std.proofs.Common.{rules, ◌∙◌, sym, ap, drop, Err, arith, length-drop}
+use Rattle.std.proofs.Common.{rules, subst, ◌<◌, ◌^◌, ◌∙◌, sym, ap, drop, Err, arith, length-drop}
 use Rattle.std.proofs.lemmas.List.{drop_all}
+use Rattle.cha_cert.proofs.Expanded.{length-expansion}
 use Rattle.cert_text.proofs.Going.{ended_here, not_ended}
 use Rattle.cert_text.proofs.Spelling.{read_is_spelled, some_read, few_read}
 use Rattle.cert_text.proofs.Parts.{parts_read}
 use Rattle.cert_text.specs.Texts.{cert_of}
 use Rattle.cert_text.proofs.Rereading.{no_text, none_refused}
-use Rattle.cert_text.proofs.reader.read.Goals as goal
+use Rattle.cert_text.proofs.reader.read_spread.Goals as goal
 
 pub returns-then-left-bytes-clause-value : goal.returns-then-left-bytes-clause-value
 returns-then-left-bytes-clause-value c =
@@ -21,10 +22,10 @@ pub returns-then-left-bytes-clause-spelled : goal.returns-then-left-bytes-clause
 returns-then-left-bytes-clause-spelled c = read_is_spelled c.args.bytes.now _ (returns-then-left-bytes-clause-value c)
 
 pub returns-then-left-bytes-clause-some : goal.returns-then-left-bytes-clause-some
-returns-then-left-bytes-clause-some c = some_read c.args.bytes.now _ (returns-then-left-bytes-clause-value c)
+returns-then-left-bytes-clause-some c = subst (λ n. 0 < n) (length-expansion c.in_ok-cert.cert) (some_read c.args.bytes.now _ (returns-then-left-bytes-clause-value c))
 
 pub returns-then-left-bytes-clause-few : goal.returns-then-left-bytes-clause-few
-returns-then-left-bytes-clause-few c = few_read c.args.bytes.now _ (returns-then-left-bytes-clause-value c)
+returns-then-left-bytes-clause-few c = subst (λ n. n < 2 ^ 32) (length-expansion c.in_ok-cert.cert) (few_read c.args.bytes.now _ (returns-then-left-bytes-clause-value c))
 
 pub returns-in_err-left-clause-fault : goal.returns-in_err-left-clause-fault
 unfolding cert_of

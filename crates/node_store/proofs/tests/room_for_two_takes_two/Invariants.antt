@@ -1,4 +1,0 @@
-use Rattle.node_store.proofs.tests.room_for_two_takes_two.Given as goal
-
-abbrev pub ghosts-two_with_room : goal.ghosts-two_with_room
-ghosts-two_with_room g a = record { name = a.blank.name; parts = a.blank.parts }

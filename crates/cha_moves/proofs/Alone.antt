@@ -1,22 +1,25 @@
--- Legal moves by which one man goes and nothing else changes.
-use Rattle.std.proofs.Common.{◌≡◌, ℕ, ◌+◌, ◌-◌, ◌≤◌, Bool, true, false, not, ◌&&◌, List, Option, Some, None, inl, inr, refl, sym, ap, ◌∙◌, arith}
+-- What a legal move of each kind of man changes: one man goes alone, a pawn captures in passing or a king castles; and which square is passed over.
+use Rattle.std.proofs.Common.{◌≡◌, ◌≢◌, ℕ, ◌+◌, ◌-◌, ◌%◌, ◌<◌, ◌≤◌, ◌==◌, Bool, true, false, not, ◌&&◌, ◌||◌, List, Option, Some, None, slice_set, inl, inr, refl, sym, ap, ◌∙◌, arith}
 use Rattle.std.specs.List.{Contains}
+use Rattle.std.specs.Int.{abs_diff}
 use Rattle.std.specs.Option.{is_some}
-use Rattle.std.proofs.lemmas.Bool.{and_parts, both_ways, false_from_ne_true}
+use Rattle.std.proofs.lemmas.Bool.{and_parts, or_cases, both_ways, eqb-true, false_from_ne_true}
 use Rattle.cha_board.specs.declared.men.Color.{Color}
 use Rattle.cha_board.specs.declared.men.Color.TheVariants.{White, Black}
 use Rattle.cha_board.specs.declared.men.Kind.{Kind}
 use Rattle.cha_board.specs.declared.men.Kind.TheVariants.{Pawn, King}
 use Rattle.cha_board.specs.declared.men.Man.{Man}
 use Rattle.cha_board.specs.Men.{same_kind, is_man}
-use Rattle.cha_board.specs.Squares.{files_apart}
-use Rattle.cha_board.specs.Board.{Board, man_at, in_check, home_of}
-use Rattle.cha_board.proofs.Identity.{same_color_equal, man_of, is_man_from, one_kind, two_kinds}
+use Rattle.cha_board.specs.Squares.{rank_of, files_apart, ranks_apart, steps_apart, is_rank_ahead, aims_at}
+use Rattle.cha_board.specs.Board.{Board, man_at, is_empty, in_check, home_of}
+use Rattle.cha_board.proofs.Identity.{same_color_equal, some_inj, man_of, is_man_from, one_kind, two_kinds}
 use Rattle.cha_moves.specs.Step.{Move}
-use Rattle.cha_moves.specs.Moves.{is_en_passant, is_short_castling, is_long_castling, is_double_step, is_pseudo_legal, arriving, moved, castles_short, castles_long, captures_en_passant, men_after, target_after, is_legal_in, legal}
+use Rattle.cha_moves.specs.Moves.{second_rank, fourth_rank, middle, victim_of, is_target, is_pawn_capture, goes, rook_of, is_en_passant, is_short_castling, is_long_castling, is_double_step, is_pseudo_legal, arriving, moved, castles_short, castles_long, captures_en_passant, men_after, target_after, is_legal_in, legal}
 use Rattle.cha_moves.proofs.Made.{Mover, may_gives, makes, Plainly, Passing, Shortly, Longly}
 use Rattle.cha_moves.proofs.Kept.{promoted, short_tests, long_tests}
 use Rattle.cha_moves.proofs.Listed.{is_listed}
+use Rattle.cha_moves.proofs.Near.{king_aims}
+use Rattle.cha_moves.proofs.Validity.{pawn_ahead, step_tests, double_step, Steps, DoubleSteps, Captures, Passes, pawn_way}
 
 -- the man that makes a legal move
 pub mover_of : (q : Board) (m : Move) → Contains (legal q) m → (man : Man) × Mover q m man
@@ -30,6 +33,11 @@ is_mover q m k told men from h same there tells is =
     let mover = mover_of q m h in
     let found : man_at men from ≡ Some mover.0 = rw (same, there) mover.1.found in
     is_man_from (man_at q.men m.from) mover.0 q.side k mover.1.found (same_color_equal mover.0.color q.side mover.1.own) (sym (tells mover.0 found) ∙ is)
+
+-- the kind that is told of the man on its square is told of it where the move begins
+pub kind_told : (q : Board) (m : Move) (told : Kind) (men : List (Option Man)) (from : ℕ) → men ≡ q.men → from ≡ m.from → ((man : Man) → man_at men from ≡ Some man → told ≡ man.kind)
+    → (man : Man) → man_at q.men m.from ≡ Some man → told ≡ man.kind
+kind_told q m told men from same there tells man found = (let here : man_at men from ≡ Some man = rw (same, there) found in tells man here)
 
 -- a man of this colour and kind
 the_man : (o : Option Man) (c : Color) (k : Kind) → is_man c k o ≡ true → o ≡ Some (record { color = c; kind = k })
@@ -87,6 +95,23 @@ pawn_alone q m man none passing =
     let king = one_kind q.side q.side Pawn King (man_at q.men m.from) refl man in
     goes_alone q m Pawn man none (two_kinds (is_man q.side Pawn (man_at q.men m.from)) (is_en_passant q m.from m.to) passing) (first_out _ (is_short_castling q m.from m.to) king) (first_out _ (is_long_castling q m.from m.to) king)
 
+second_out : (a b : Bool) → a ≡ true → (a && b) ≡ false → b ≡ false
+second_out true b h e = e
+second_out false b h e = cc
+
+-- a capture en passant takes a pawn away
+pub passes : (q : Board) (m : Move) → is_man q.side Pawn (man_at q.men m.from) ≡ true → m.promotion ≡ None → is_en_passant q m.from m.to ≡ true
+    → men_after q m ≡ slice_set (moved q.men m.from m.to (Some (record { color = q.side; kind = Pawn }))) (victim_of q.side m.to) None
+passes q m man none passing =
+    let king = one_kind q.side q.side Pawn King (man_at q.men m.from) refl man in
+    let f : Option Man → List (Option Man) = λ (o : Option Man). slice_set (moved q.men m.from m.to o) (victim_of q.side m.to) None in
+    elim (makes q m) [
+      | Plainly a b c e ↦ absurd (both_ways (is_en_passant q m.from m.to) (second_out _ _ man a) passing)
+      | Passing t e ↦ e ∙ ap (λ b. f (arriving (man_at q.men m.from) b)) none ∙ ap f (the_man (man_at q.men m.from) q.side Pawn man)
+      | Shortly t e ↦ absurd (both_ways (castles_short q (man_at q.men m.from) m.from m.to) (first_out _ (is_short_castling q m.from m.to) king) t)
+      | Longly t e ↦ absurd (both_ways (castles_long q (man_at q.men m.from) m.from m.to) (first_out _ (is_long_castling q m.from m.to) king) t)
+    ]
+
 -- a king that castles goes two files
 two_right : (c : Color) → files_apart (home_of c) (home_of c + 2) ≡ 2
 unfolding files_apart
@@ -119,3 +144,98 @@ king_alone q m h man near =
     goes_alone q m King man (not_promoted q m King h man refl) (first_out _ (is_en_passant q m.from m.to) pawn)
     (two_kinds (is_man q.side King (man_at q.men m.from)) (is_short_castling q m.from m.to) (not_short q m.from m.to near))
     (two_kinds (is_man q.side King (man_at q.men m.from)) (is_long_castling q m.from m.to) (not_long q m.from m.to near))
+
+-- a king that goes further than to the next file castles: a rook goes over it
+near_files : (s t : ℕ) → (steps_apart s t == 1) ≡ true → files_apart s t ≤ 1
+unfolding steps_apart
+near_files s t h = (let e = eqb-true (steps_apart s t) 1 h in omega arith)
+
+never_far : (q : Board) (s t : ℕ) → goes q King s t ≡ true → is_short_castling q s t ≡ false → is_long_castling q s t ≡ false → 1 < files_apart s t → ⊥
+unfolding goes
+never_far q s t h short long far = elim (or_cases (aims_at q.side King s t || is_short_castling q s t) (is_long_castling q s t) h) [
+  | inl x ↦ elim (or_cases (aims_at q.side King s t) (is_short_castling q s t) x) [
+    | inl y ↦ (let near = near_files s t (king_aims q.side s t y) in omega (arith, near, far))
+    | inr y ↦ both_ways (is_short_castling q s t) short y
+  ]
+  | inr x ↦ both_ways (is_long_castling q s t) long x
+]
+
+goes_as_kind : (q : Board) (m : Move) (k : Kind) → Contains (legal q) m → is_man q.side k (man_at q.men m.from) ≡ true → goes q k m.from m.to ≡ true
+goes_as_kind q m k h man =
+    let mover = mover_of q m h in
+    let x = man_of (man_at q.men m.from) q.side k man in
+    let same : mover.0 ≡ x.man = some_inj mover.0 x.man (sym mover.1.found ∙ x.found) in
+    ap (λ k. goes q k m.from m.to) (sym (ap (λ (y : Man). y.kind) same ∙ x.kind)) ∙ mover.1.goes
+
+arrived : (q : Board) (m : Move) → Contains (legal q) m → is_man q.side King (man_at q.men m.from) ≡ true → arriving (man_at q.men m.from) m.promotion ≡ Some (record { color = q.side; kind = King })
+arrived q m h man = ap (arriving (man_at q.men m.from)) (not_promoted q m King h man refl) ∙ the_man (man_at q.men m.from) q.side King man
+
+pub castles_up : (q : Board) (m : Move) (i j : ℕ) → Contains (legal q) m → is_man q.side King (man_at q.men m.from) ≡ true → 1 < files_apart m.from m.to → m.from < m.to → i ≡ home_of q.side + 3 → j ≡ home_of q.side + 1
+    → men_after q m ≡ moved (moved q.men m.from m.to (Some (record { color = q.side; kind = King }))) i j (rook_of q.side)
+castles_up q m i j h man far up first next =
+    let f : List (Option Man) → List (Option Man) = λ (men : List (Option Man)). moved men (home_of q.side + 3) (home_of q.side + 1) (rook_of q.side) in
+    elim (makes q m) [
+      | Plainly a b c e ↦ absurd (never_far q m.from m.to (goes_as_kind q m King h man) (second_out _ _ man b) (second_out _ _ man c) far)
+      | Passing t e ↦ absurd (both_ways (is_man q.side Pawn (man_at q.men m.from)) (one_kind q.side q.side King Pawn (man_at q.men m.from) refl man) (and_parts (is_man q.side Pawn (man_at q.men m.from)) (is_en_passant q m.from m.to) t).0)
+      | Shortly t e ↦ e ∙ ap (λ a. f (moved q.men m.from m.to a)) (arrived q m h man) ∙ rw (first, next) refl
+      | Longly t e ↦ (
+          let tests = long_tests q m.from m.to (and_parts (is_man q.side King (man_at q.men m.from)) (is_long_castling q m.from m.to) t).1 in
+          absurd (omega (arith, up, tests.from_home, tests.two_files)))
+    ]
+
+pub castles_down : (q : Board) (m : Move) (i j : ℕ) → Contains (legal q) m → is_man q.side King (man_at q.men m.from) ≡ true → 1 < files_apart m.from m.to → m.to ≤ m.from → i ≡ home_of q.side - 4 → j ≡ home_of q.side - 1
+    → men_after q m ≡ moved (moved q.men m.from m.to (Some (record { color = q.side; kind = King }))) i j (rook_of q.side)
+castles_down q m i j h man far down first next =
+    let f : List (Option Man) → List (Option Man) = λ (men : List (Option Man)). moved men (home_of q.side - 4) (home_of q.side - 1) (rook_of q.side) in
+    elim (makes q m) [
+      | Plainly a b c e ↦ absurd (never_far q m.from m.to (goes_as_kind q m King h man) (second_out _ _ man b) (second_out _ _ man c) far)
+      | Passing t e ↦ absurd (both_ways (is_man q.side Pawn (man_at q.men m.from)) (one_kind q.side q.side King Pawn (man_at q.men m.from) refl man) (and_parts (is_man q.side Pawn (man_at q.men m.from)) (is_en_passant q m.from m.to) t).0)
+      | Shortly t e ↦ (
+          let tests = short_tests q m.from m.to (and_parts (is_man q.side King (man_at q.men m.from)) (is_short_castling q m.from m.to) t).1 in
+          absurd (omega (arith, down, tests.from_home, tests.two_files)))
+      | Longly t e ↦ e ∙ ap (λ a. f (moved q.men m.from m.to a)) (arrived q m h man) ∙ rw (first, next) refl
+    ]
+
+-- a pawn goes two ranks by a double step alone
+one_rank : (c : Color) (s t : ℕ) → is_rank_ahead c s t ≡ true → ranks_apart s t ≡ 1
+unfolding is_rank_ahead ranks_apart
+one_rank White s t h = (let e = eqb-true (rank_of t) (rank_of s + 1) h in omega arith)
+one_rank Black s t h = (let e = eqb-true (rank_of s) (rank_of t + 1) h in omega arith)
+
+far_ranks : (s t : ℕ) → abs_diff s t ≡ 16 → 1 < ranks_apart s t
+unfolding ranks_apart
+far_ranks s t e = omega (arith, e)
+
+sixteen : (c : Color) (s t : ℕ) → s % 8 ≡ t % 8 → rank_of s ≡ second_rank c → rank_of t ≡ fourth_rank c → abs_diff s t ≡ 16
+sixteen White s t file begins ends = omega (arith, file, begins, ends)
+sixteen Black s t file begins ends = omega (arith, file, begins, ends)
+
+goes_double : (q : Board) (s t : ℕ) → goes q Pawn s t ≡ true → 1 < ranks_apart s t → is_double_step q s t ≡ true
+unfolding is_pawn_capture is_en_passant
+goes_double q s t h far = elim (pawn_way q s t h) [
+  | Steps x ↦ (let one = one_rank q.side s t (step_tests q s t x).1 in absurd (omega (arith, one, far)))
+  | DoubleSteps x ↦ x
+  | Captures x ↦ (let one = one_rank q.side s t (pawn_ahead q.side s t (and_parts (aims_at q.side Pawn s t) (not (is_empty q.men t)) x).0).0 in absurd (omega (arith, one, far)))
+  | Passes x ↦ (let one = one_rank q.side s t (pawn_ahead q.side s t (and_parts (aims_at q.side Pawn s t) (is_target q.target t) x).0).0 in absurd (omega (arith, one, far)))
+]
+
+pub goes_far : (q : Board) (m : Move) (over : ℕ) → Contains (legal q) m → is_man q.side Pawn (man_at q.men m.from) ≡ true → abs_diff m.from m.to ≡ 16 → over ≡ middle m.from m.to → Some over ≡ target_after q m
+unfolding target_after
+goes_far q m over h man far e =
+    let double = goes_double q m.from m.to (goes_as_kind q m Pawn h man) (far_ranks m.from m.to far) in
+    rw (man, double, e) refl
+
+pub goes_near : (q : Board) (m : Move) → abs_diff m.from m.to ≢ 16 → None ≡ target_after q m
+unfolding target_after
+goes_near q m near =
+    let none = false_from_ne_true (is_double_step q m.from m.to) (λ h. (
+    let d = double_step q m.from m.to h in
+    near (sixteen q.side m.from m.to d.file d.begins d.ends))) in
+    rw (two_kinds (is_man q.side Pawn (man_at q.men m.from)) (is_double_step q m.from m.to) none) refl
+
+-- a capture en passant passes over no square
+pub passes_no_target : (q : Board) (m : Move) → is_en_passant q m.from m.to ≡ true → None ≡ target_after q m
+unfolding is_en_passant
+passes_no_target q m passing =
+    let one = one_rank q.side m.from m.to (pawn_ahead q.side m.from m.to (and_parts (aims_at q.side Pawn m.from m.to) (is_target q.target m.to) passing).0).0 in
+    goes_near q m (λ e. (let far = far_ranks m.from m.to e in omega (arith, one, far)))

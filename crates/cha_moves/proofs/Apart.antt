@@ -5,14 +5,7 @@ use Rattle.std.proofs.lemmas.List.Elements.{All-contains, All-filter, All-contai
 use Rattle.std.proofs.lemmas.List.FromFn.{get_or-range_with_len, length-range_with_len}
 use Rattle.cha_moves.proofs.Contained.{not_in_nothing, Contains-cons_cases, Contains-cons_here, Contains-cons_there, Contains-map_parts, Contains-map_from, Contains-flat_map_parts}
 use Rattle.cha_list.specs.Distinct.{AreDistinct}
-
-pub none_apart : (X : Type 0) → AreDistinct {X = X} []
-unfolding AreDistinct
-none_apart X = tt
-
-pub one_more_apart : {X : Type 0} (x : X) (xs : List X) → (Contains xs x → ⊥) → AreDistinct xs → AreDistinct (x ∷ xs)
-unfolding AreDistinct
-one_more_apart x xs new rest = (new, rest)
+use Rattle.cha_list.proofs.Distinct.{none_apart, one_more_apart}
 
 pub joined_apart : {X : Type 0} (xs ys : List X) → AreDistinct xs → AreDistinct ys → ((x : X) → Contains xs x → Contains ys x → ⊥) → AreDistinct (xs ++ ys)
 unfolding AreDistinct

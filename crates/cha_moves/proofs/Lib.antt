@@ -10,6 +10,7 @@ pub mod KingSquare
 pub mod Sureness
 mod Touched
 pub mod WayLaws
+mod SomeFrom
 pub mod Arriving
 pub mod Goings
 pub mod Pushes
@@ -25,7 +26,9 @@ pub mod MateLines
 pub mod StayingDead
 pub mod Captured
 pub mod MateMoves
+pub mod Uncovering
 pub mod Checking
+pub mod SpecialChecks
 pub mod Apart
 pub mod LegalApart
 pub mod Counted

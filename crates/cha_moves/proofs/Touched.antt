@@ -75,3 +75,15 @@ rights_stay r m none =
       black_king = stays r.black_king (touches m 60) (touches m 63) e8 h8 i;
       black_queen = stays r.black_queen (touches m 60) (touches m 56) e8 a8 i;
     }
+
+all_three : (a b c : Bool) → (a && (b && c)) ≡ (a && b && c)
+all_three true b c = refl
+all_three false b c = refl
+
+-- a right that is left where a set of the squares which the move touches lacks two squares
+pub right_left : (b x : Bool) (set : List Bool) (m : Move) (s t : ℕ) → s < 64 → t < 64 → set ≡ set_of (touches m) → x ≡ (not (has_square set s) && not (has_square set t)) → (b && x) ≡ (b && not (touches m s) && not (touches m t))
+right_left b x set m s t small small' are lacks =
+    let first = ap (λ (z : List Bool). has_square z s) are ∙ touched_at m s small in
+    let second = ap (λ (z : List Bool). has_square z t) are ∙ touched_at m t small' in
+    ap (λ y. b && y) (lacks ∙ ap (λ y. not y && not (has_square set t)) first ∙ ap (λ y. not (touches m s) && not y) second)
+    ∙ all_three b (not (touches m s)) (not (touches m t))

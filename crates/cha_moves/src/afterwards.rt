@@ -1,22 +1,34 @@
 //! The position after a legal move (Laws of Chess, Article 3.10.1).
 
-ghost use Rattle.std.specs.Prelude.{◌≡◌, false, Some, Contains, IsTrue};
+ghost use Rattle.std.specs.Prelude.{◌≡◌, false, Some, None, Contains, IsTrue};
 ghost use Rattle.cha_board.specs.Men.{same_kind, is_man};
-ghost use Rattle.cha_board.specs.Board.{man_at};
-ghost use Rattle.cha_moves.specs.Moves.{moved, men_after, target_after, legal as legal_moves, after as position_after};
+ghost use Rattle.cha_board.specs.Board.{Board, man_at};
+ghost use Rattle.cha_moves.specs.Moves.{moved, rook_of, is_en_passant, men_after, target_after, legal as legal_moves, after as position_after};
 
 use crate::goes::goes_en_passant;
 use crate::makes::{men_made, rights_made, target_made};
+use crate::passing::{captured_on, passed_over};
 use crate::step::Move;
-use cha_board::{Kind, Man, Position, Square, files_between};
+use cha_board::{Kind, Man, Position, Square, files_between, home};
 
 /// The position after a legal move.
-// Each kind has a call of its own: the sets of the other kinds then lose squares, and none has to be asked.
 pub fn after(position: &Position, m: Move) -> Position
     requires { Contains (legal_moves position.now) m }
     ensures { result ≡ position_after position.now m }
 {
-    match position.placement().kind_at(m.from) {
+    after_of(position, position.placement().kind_at(m.from), m)
+}
+
+/// The position after a legal move of a man of this kind. Whoever visits the moves of one man knows it already.
+// Each kind has a call of its own: the sets of the other kinds then lose squares, and none has to be asked. Where the kind is
+// known, only its call is left.
+#[inline(always)]
+pub fn after_of(position: &Position, kind: Kind, m: Move) -> Position
+    requires legal { Contains (legal_moves position.now) m }
+    requires kind { (man : Man) → man_at position.now.men m.from ≡ Some man → kind ≡ man.kind }
+    ensures { result ≡ position_after position.now m }
+{
+    match kind {
         Kind::Pawn => after_pawn(position, m),
         Kind::Knight => after_piece(position, m, Kind::Knight),
         Kind::Bishop => after_piece(position, m, Kind::Bishop),
@@ -26,17 +38,56 @@ pub fn after(position: &Position, m: Move) -> Position
     }
 }
 
+/// The square that a legal move of a pawn passes over: a double step leads 16 squares on, and every other move of a pawn
+/// fewer.
+fn passed_by(m: Move) -> Option<Square>
+    ensures { (q : Board) → Contains (legal_moves q) m → IsTrue (is_man q.side Kind.Pawn (man_at q.men m.from)) → result ≡ target_after q m }
+{
+    if m.from.index().abs_diff(m.to.index()) == 16 {
+        Some(passed_over(m.from, m.to))
+    } else {
+        None
+    }
+}
+
 /// The position after a legal move of a pawn.
+#[inline(always)]
 fn after_pawn(position: &Position, m: Move) -> Position
     requires legal { Contains (legal_moves position.now) m }
     requires man { IsTrue (is_man position.now.side Kind.Pawn (man_at position.now.men m.from)) }
     ensures { result ≡ position_after position.now m }
 {
-    if m.promotion.is_some() || goes_en_passant(position, m.from, m.to) {
+    if m.promotion.is_some() {
         after_any(position, m)
+    } else if goes_en_passant(position, m.from, m.to) {
+        after_passing(position, m)
     } else {
-        after_one(position, m, Kind::Pawn, target_made(position, m))
+        after_one(position, m, Kind::Pawn, passed_by(m))
     }
+}
+
+/// The position after a capture en passant.
+// What is called for a rare move would leave its position in memory, from where the others had to take theirs.
+#[inline(always)]
+fn after_passing(position: &Position, m: Move) -> Position
+    requires legal { Contains (legal_moves position.now) m }
+    requires man { IsTrue (is_man position.now.side Kind.Pawn (man_at position.now.men m.from)) }
+    requires plain { m.promotion ≡ None }
+    requires passing { IsTrue (is_en_passant position.now m.from m.to) }
+    ensures { result ≡ position_after position.now m }
+{
+    // The position is valid, and so is what a legal move leaves.
+    position.known();
+    m.known();
+    let color = position.side();
+    let kind = Kind::Pawn;
+    let captured = captured_on(color, m.to);
+    let men = position
+        .placement()
+        .moved(m.from, m.to, Man { color, kind })
+        .lifted(captured);
+    let rights = rights_made(position.rights(), m);
+    Position::of_parts(men, color.other(), rights, None)
 }
 
 /// The position after a legal move of a man that is neither pawn nor king.
@@ -51,17 +102,48 @@ fn after_piece(position: &Position, m: Move, kind: Kind) -> Position
     after_one(position, m, kind, None)
 }
 
-/// The position after a legal move of a king, which castles where it goes further than to the next file.
+/// The position after a legal move of a king, which castles where it goes further than to the next file: on the king's
+/// side where it goes up in the order of squares.
+#[inline(always)]
 fn after_king(position: &Position, m: Move) -> Position
     requires legal { Contains (legal_moves position.now) m }
     requires man { IsTrue (is_man position.now.side Kind.King (man_at position.now.men m.from)) }
     ensures { result ≡ position_after position.now m }
 {
-    if files_between(m.from, m.to) > 1 {
-        after_any(position, m)
-    } else {
-        after_one(position, m, Kind::King, None)
+    if files_between(m.from, m.to) <= 1 {
+        return after_one(position, m, Kind::King, None);
     }
+    let h = home(position.side());
+    if m.from.index() < m.to.index() {
+        after_castling(position, m, Square::at(h + 3), Square::at(h + 1))
+    } else {
+        after_castling(position, m, Square::at(h - 4), Square::at(h - 1))
+    }
+}
+
+/// The position after a legal move of a king by which a rook goes from the corner to the king's side.
+// Whether it may castle is not asked again.
+#[inline(always)]
+fn after_castling(position: &Position, m: Move, corner: Square, beside: Square) -> Position
+    requires legal { Contains (legal_moves position.now) m }
+    requires men { men_after position.now m ≡ moved (moved position.now.men m.from m.to (Some (record { color = position.now.side; kind = Kind.King }))) corner beside (rook_of position.now.side) }
+    requires target { None ≡ target_after position.now m }
+    ensures { result ≡ position_after position.now m }
+{
+    // The position is valid, and so is what a legal move leaves.
+    position.known();
+    let color = position.side();
+    let kind = Kind::King;
+    let gone = position
+        .placement()
+        .moved(m.from, m.to, Man { color, kind });
+    let kind = Kind::Rook;
+    Position::of_parts(
+        gone.moved(corner, beside, Man { color, kind }),
+        color.other(),
+        rights_made(position.rights(), m),
+        None,
+    )
 }
 
 /// The position after a legal move by which one man of this kind goes from one square to another and nothing else changes.

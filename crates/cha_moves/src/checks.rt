@@ -1,26 +1,24 @@
 //! Where a man of the side to move may give check.
 
-ghost use Rattle.std.specs.Prelude.{◌≡◌, ◌<◌, ℕ, true};
-ghost use Rattle.cha_board.specs.Men.{other_color};
-ghost use Rattle.cha_board.specs.Squares.{lies_between};
-ghost use Rattle.cha_board.specs.Board.{man_at, king_of};
-ghost use Rattle.cha_board.specs.SquareSets.{set_of, has_square};
-ghost use Rattle.cha_moves.specs.Shields.{aims_as};
-ghost use Rattle.cha_moves.specs.Checks.{may_check, is_special_check};
+ghost use Rattle.std.specs.Prelude.{◌≡◌};
+ghost use Rattle.cha_board.specs.SquareSets.{set_of};
+ghost use Rattle.cha_moves.specs.Checks.{HaveScreens, may_check, is_special_check};
 
-use crate::shields::aimers;
+use crate::shields::{aimers, lone};
 use crate::sides::promotion_rank;
-use cha_board::{Kind, Position, Square, SquareSet, aims_alone, home, squares_between};
+use cha_board::{Kind, Position, Square, SquareSet, aims, home, squares_between};
 
-/// The squares between a square and the men of the side to move that aim at it, over whatever squares. A man that leaves one
-/// may uncover another man's check.
+/// The squares of the men that alone stand between a square and a man of the side to move that aims at it over them. Where one of
+/// them goes, that man may attack the square.
 pub fn lines_to(position: &Position, king: Square) -> SquareSet
-    ensures { (u s : ℕ) → u < 64 → s < 64 → aims_as position.now.side king u (man_at position.now.men u) ≡ true → lies_between u king s ≡ true → has_square result s ≡ true }
+    ensures { HaveScreens position.now king result }
 {
+    let occupied = position.occupied();
     let mut lines = SquareSet::empty();
     let mut left = aimers(position, position.side(), king);
     while let Some(by) = left.first() {
-        lines = lines.joined(squares_between(by, king));
+        let way = squares_between(by, king).common(occupied);
+        lines = lines.joined(lone(way));
         left = left.without(by);
     }
     lines
@@ -48,11 +46,12 @@ fn special_checks(position: &Position, kind: Kind) -> SquareSet
     }
 }
 
-/// The squares on which a man of the side to move and of a kind may give check once it arrives there.
-pub fn checks_by(position: &Position, kind: Kind) -> SquareSet
-    ensures { result ≡ set_of (may_check position.now kind) }
+/// The squares on which a man of the side to move and of a kind may give check once it arrives there from its square.
+pub fn checks_by(position: &Position, kind: Kind, from: Square) -> SquareSet
+    ensures { result ≡ set_of (may_check position.now from kind) }
 {
     let enemy = position.side().other();
-    let near = aims_alone(enemy, kind, position.king(enemy));
+    let others = position.occupied().without(from);
+    let near = aims(enemy, kind, position.king(enemy), others);
     near.joined(special_checks(position, kind))
 }

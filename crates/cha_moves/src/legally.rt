@@ -48,7 +48,7 @@ fn is_legal_way(position: &Position, man: Man, from: Square, to: Square) -> bool
 
 /// Whether some move is legal from one square to another to which the man there may go. A king asks only whether its new
 /// square is attacked over the men without it, and that is known where it castles.
-fn goes_well(position: &Position, less: &Men, man: Man, from: Square, to: Square) -> bool
+pub fn goes_well(position: &Position, less: &Men, man: Man, from: Square, to: Square) -> bool
     requires man { man_at position.now.men from ≡ Some man }
     requires way { IsTrue (is_way position.now from to) }
     requires less { less.now ≡ men_less position.now from }

@@ -24,19 +24,19 @@ mod shields;
 mod sides;
 mod some;
 mod step;
-#[cfg(test)]
-mod tests;
 mod text;
 mod ways;
 
-pub use afterwards::after;
+pub use afterwards::{after, after_of};
 pub use count::count_legal;
 pub use dead::unwinnable_stays;
 pub use ends::{Standing, is_mate, state};
+pub use legally::legal_ways;
 pub use lines::{mate_lines_mate, replays};
-pub use list::{Moves, Positions, is_legal, legal};
+pub use list::{Moves, Positions, is_legal, legal, promoting, promotion};
 pub use mating::mating_move;
 pub use passing::{captured_on, passed_over};
+pub use shields::{Shields, shields_of};
 pub use sides::{double_step_rank, first_pawn_rank, promotion_rank};
 pub use some::any_legal;
 pub use step::Move;

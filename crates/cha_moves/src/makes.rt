@@ -3,7 +3,7 @@
 ghost use Rattle.std.specs.Prelude.{◌≡◌, ◌<◌, not, ◌&&◌};
 ghost use Rattle.cha_board.specs.Men.{is_man};
 ghost use Rattle.cha_board.specs.Board.{man_at};
-ghost use Rattle.cha_board.specs.SquareSets.{set_of};
+ghost use Rattle.cha_board.specs.SquareSets.{set_of, has_square};
 ghost use Rattle.cha_moves.specs.Moves.{arriving, moved, touches, men_after, rights_after, target_after};
 
 use crate::goes::{castles_long, castles_short, double_steps, goes_en_passant};
@@ -76,14 +76,12 @@ fn touched(m: Move) -> SquareSet
     SquareSet::empty().with(m.from).with(m.to)
 }
 
-/// Whether neither of two squares is among those that a move leaves and enters.
-#[tactic(auto, using(crate::proofs::Touched::touched_at))]
-fn keeps(m: Move, king: u8, rook: u8) -> bool
+/// Whether neither of two squares is in a set.
+fn lacks(touched: SquareSet, king: u8, rook: u8) -> bool
     requires king { king < 64 }
     requires rook { rook < 64 }
-    ensures { result ≡ (not (touches m king) && not (touches m rook)) }
+    ensures { result ≡ (not (has_square touched king) && not (has_square touched rook)) }
 {
-    let touched = touched(m);
     !touched.has(Square::at(king)) && !touched.has(Square::at(rook))
 }
 
@@ -93,25 +91,25 @@ pub fn rights_made(rights: Rights, m: Move) -> Rights
 {
     // The homes a1, e1, h1, a8, e8 and h8.
     let homes = SquareSet::from_bits(0x9100_0000_0000_0091);
-    if touched(m).common(homes).is_empty() {
+    let touched = touched(m);
+    if touched.common(homes).is_empty() {
         rights
     } else {
-        rights_left(rights, m)
+        rights_left(rights, touched)
     }
 }
 
-/// The rights to castle after a move, each of which is asked.
+/// The rights to castle after a move that leaves and enters these squares.
 // Few moves touch a home, and the others are not to make room for this.
 #[inline(never)]
-#[tactic(auto, unfolding(crate::specs::Moves::rights_after))]
-fn rights_left(rights: Rights, m: Move) -> Rights
-    ensures { result ≡ rights_after rights m }
+fn rights_left(rights: Rights, touched: SquareSet) -> Rights
+    ensures { (m : Move) → touched ≡ set_of (touches m) → result ≡ rights_after rights m }
 {
     Rights {
-        white_king: rights.white_king && keeps(m, 4, 7),
-        white_queen: rights.white_queen && keeps(m, 4, 0),
-        black_king: rights.black_king && keeps(m, 60, 63),
-        black_queen: rights.black_queen && keeps(m, 60, 56),
+        white_king: rights.white_king & lacks(touched, 4, 7),
+        white_queen: rights.white_queen & lacks(touched, 4, 0),
+        black_king: rights.black_king & lacks(touched, 60, 63),
+        black_queen: rights.black_queen & lacks(touched, 60, 56),
     }
 }
 

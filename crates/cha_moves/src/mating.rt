@@ -3,13 +3,12 @@
 ghost use Rattle.std.specs.Prelude.{ℕ, ◌≡◌, ◌<◌, [], ◌∷◌, true, Some, IsTrue, ◌↔◌, IfSome, IfNone, Contains};
 ghost use Rattle.cha_board.specs.declared.men.Kind.{Kind as ManKind};
 ghost use Rattle.cha_board.specs.Men.{other_color};
-ghost use Rattle.cha_board.specs.Squares.{lies_between};
 ghost use Rattle.cha_board.specs.Board.{man_at, king_of};
 ghost use Rattle.cha_board.specs.SquareSets.{squares_in, has_square};
 ghost use Rattle.cha_moves.specs.Step.{Move as Step};
 ghost use Rattle.cha_moves.specs.Moves.{is_promotion};
 ghost use Rattle.cha_moves.specs.Ends.{IsMatingLine};
-ghost use Rattle.cha_moves.specs.Shields.{aims_as};
+ghost use Rattle.cha_moves.specs.Checks.{HaveScreens};
 
 use crate::afterwards::after;
 use crate::checks::{checks_by, lines_to};
@@ -87,9 +86,9 @@ fn mating_from(position: &Position, from: Square, targets: SquareSet, winner: Co
 }
 
 /// The squares to which the man on a square may have to go so that its move mates: those on which it may give check, or all
-/// of its ways where it stands on a line to the king of the loser.
+/// of its ways where it alone keeps another man from the king of the loser.
 fn targets_from(position: &Position, lines: SquareSet, from: Square, winner: Color) -> SquareSet
-    requires { (u s : ℕ) → u < 64 → s < 64 → aims_as position.now.side (king_of position.now.men (other_color position.now.side)) u (man_at position.now.men u) ≡ true → lies_between u (king_of position.now.men (other_color position.now.side)) s ≡ true → has_square lines s ≡ true }
+    requires { HaveScreens position.now (king_of position.now.men (other_color position.now.side)) lines }
     ensures { (m : Step) → IsMatingLine position.now winner (m ∷ []) → m.from ≡ from → Contains (squares_in result) m.to }
 {
     // What gives check is told of valid positions.
@@ -101,7 +100,7 @@ fn targets_from(position: &Position, lines: SquareSet, from: Square, winner: Col
             if lines.has(from) {
                 ways
             } else {
-                ways.common(checks_by(position, man.kind))
+                ways.common(checks_by(position, man.kind, from))
             }
         }
     }

@@ -41,7 +41,7 @@ pub fn aimers(position: &Position, by: Color, at: Square) -> SquareSet
 }
 
 /// The set, if it has no second square, and otherwise the set of no square.
-fn lone(set: SquareSet) -> SquareSet
+pub fn lone(set: SquareSet) -> SquareSet
     ensures { (s : ℕ) → has_square set s ≡ true → ((y : ℕ) → y < 64 → has_square set y ≡ true → y ≡ s) → has_square result s ≡ true }
 {
     match set.first() {

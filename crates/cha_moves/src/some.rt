@@ -5,8 +5,9 @@ ghost use Rattle.std.specs.Bool.{OnTrue, OnFalse};
 ghost use Rattle.cha_moves.specs.Moves.{is_legal_in, moves_from, legal};
 ghost use Rattle.cha_moves.specs.Shields.{AreShields};
 
-use crate::legally::legal_ways;
+use crate::legally::{goes_well, legal_ways};
 use crate::shields::{Shields, shields_of};
+use crate::ways::ways_of;
 use cha_board::{Position, Square};
 
 /// Whether some move from a square is legal.
@@ -24,18 +25,49 @@ fn any_from(position: &Position, shields: &Shields, from: Square) -> bool
     }
 }
 
-/// Whether some move is legal. It stops at the first.
-pub fn any_legal(position: &Position) -> bool
+/// Whether some move of the men of the side to move is legal, asked one after the other.
+fn any_of_men(position: &Position, shields: &Shields) -> bool
+    requires { AreShields position.now shields.now.answers shields.now.screens }
     ensures some { OnTrue result (legal position.now ≢ []) }
     ensures none { OnFalse result (legal position.now ≡ []) }
 {
-    let shields = shields_of(position);
     let mut left = position.placement().of_side(position.side());
     while let Some(from) = left.first() {
-        if any_from(position, &shields, from) {
+        if any_from(position, shields, from) {
             return true;
         }
         left = left.without(from);
     }
     false
+}
+
+/// Whether the man on a square goes somewhere legally, asked one way after the other.
+fn goes_somewhere(position: &Position, from: Square) -> bool
+    ensures { OnTrue result (legal position.now ≢ []) }
+{
+    // The ways of a man are told of valid positions.
+    position.known();
+    let _from = from.index();
+    let Some(man) = position.man(from) else {
+        return false;
+    };
+    let less = position.placement().lifted(from);
+    let mut left = ways_of(position, man, from);
+    while let Some(to) = left.first() {
+        if goes_well(position, &less, man, from, to) {
+            return true;
+        }
+        left = left.without(to);
+    }
+    false
+}
+
+/// Whether some move is legal. It stops at the first.
+// In check the king is the man that most often has a move.
+pub fn any_legal(position: &Position) -> bool
+    ensures some { OnTrue result (legal position.now ≢ []) }
+    ensures none { OnFalse result (legal position.now ≡ []) }
+{
+    goes_somewhere(position, position.king(position.side()))
+        || any_of_men(position, &shields_of(position))
 }

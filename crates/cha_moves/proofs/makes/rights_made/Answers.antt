@@ -8,5 +8,5 @@ pub returns-then-is_empty : goal.returns-then-is_empty
 returns-then-is_empty c =
     rights_stay c.args.rights c.args.m
     (ap (λ set. has_no_square (set_common (set_of (touches c.args.m)) set)) (sym c.from_bits-homes.ensures)
-    ∙ ap (λ set. has_no_square (set_common set c.from_bits-homes.result)) (sym c.touched.ensures)
+    ∙ ap (λ set. has_no_square (set_common set c.from_bits-homes.result)) (sym c.touched-touched.ensures)
     ∙ ap has_no_square (sym c.common.ensures) ∙ sym c.is_empty.ensures ∙ c.if-is_empty.true)

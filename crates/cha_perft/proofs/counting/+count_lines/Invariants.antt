@@ -1,6 +1,6 @@
 use Rattle.std.proofs.Common.{◌≡◌, ◌-◌, take}
 use Rattle.cha_moves.specs.Moves.{legal}
-use Rattle.cha_perft.proofs.Sums.{lines_with}
+use Rattle.cha_perft.specs.Counts.{lines_with}
 use Rattle.cha_perft.proofs.counting.+count_lines.Given as goal
 
 abbrev pub decreases-count_lines : goal.decreases-count_lines

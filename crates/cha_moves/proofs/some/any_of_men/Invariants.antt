@@ -2,7 +2,7 @@ use Rattle.std.proofs.Common.{◌≡◌, length}
 use Rattle.std.specs.List.{filter, flat_map}
 use Rattle.cha_board.specs.SquareSets.{squares_in}
 use Rattle.cha_moves.specs.Moves.{is_legal_in, moves_from, legal}
-use Rattle.cha_moves.proofs.some.any_legal.Given as goal
+use Rattle.cha_moves.proofs.some.any_of_men.Given as goal
 
 abbrev pub decreases-loop-from : goal.decreases-loop-from
 decreases-loop-from l = length (squares_in l.left)

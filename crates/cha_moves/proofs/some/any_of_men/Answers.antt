@@ -7,7 +7,7 @@ use Rattle.cha_board.specs.SquareSets.{set_of, squares_in}
 use Rattle.cha_board.proofs.SetLaws.{squares_from_first, no_first_square}
 use Rattle.cha_moves.specs.Moves.{is_legal_in, moves_from, legal}
 use Rattle.cha_moves.proofs.WayLaws.{legal_by_men, filter_found, filter_passed, fewer}
-use Rattle.cha_moves.proofs.some.any_legal.Goals as goal
+use Rattle.cha_moves.proofs.some.any_of_men.Goals as goal
 
 pub loop-from-init : goal.loop-from-init
 loop-from-init c =

@@ -1,7 +1,7 @@
 //! The plain count of lines of legal moves, which makes every move of every line: the yardstick of the other count. The
 //! moves are visited by the sets of squares to which men go, and no list is made.
 
-ghost use Rattle.std.specs.Prelude.{ℕ, ◌≡◌, ◌<◌, ◌≤◌, ◌+◌, ◌^◌, Err, Some, filter, Contains, IfOk, IsTrue};
+ghost use Rattle.std.specs.Prelude.{ℕ, ◌≡◌, ◌<◌, ◌+◌, Some, filter, Contains, IsTrue};
 ghost use Rattle.cha_board.specs.Board.{man_at};
 ghost use Rattle.cha_board.specs.SquareSets.{set_of};
 ghost use Rattle.cha_moves.specs.Moves.{is_legal_in, moves_from, after as position_after, legal as legal_moves};
@@ -9,40 +9,15 @@ ghost use Rattle.cha_moves.specs.Ways.{is_promoted, legal_between};
 ghost use Rattle.cha_moves.specs.Shields.{AreShields, goes_legally};
 ghost use Rattle.cha_perft.specs.Counts.{lines_from, lines_with, Tells};
 
-use crate::counting::CountFault;
 use cha_board::{Color, Kind, Man, Position, Square, SquareSet};
 use cha_moves::{Move, Shields, after_of, legal_ways, promoting, promotion, shields_of};
 
-/// How many lines of `depth` legal moves begin in a position, as they are made one by one. It takes no memory.
-pub fn count_made(position: &Position, depth: u8) -> Result<u64, CountFault>
-    ensures count { IfOk result (λ count. count ≡ lines_from depth position.now) }
-    ensures too_many { result ≡ Err CountFault.TooMany → 2 ^ 64 ≤ lines_from depth position.now }
-{
-    match made(position, depth) {
-        Some(lines) => Ok(lines),
-        None => Err(CountFault::TooMany),
-    }
-}
-
-/// Two counts together, either of which may pass 64 bits.
-#[inline(always)]
-fn both(one: Option<u64>, other: Option<u64>) -> Option<u64>
-    ensures { (m n : ℕ) → Tells one m → Tells other n → Tells result (m + n) }
-{
-    let Some(one) = one else {
-        return None;
-    };
-    let Some(other) = other else {
-        return None;
-    };
-    one.checked_add(other)
-}
-
-/// The lines of `depth` moves from a position, or None where they pass 64 bits.
+/// How many lines of `depth` legal moves begin in a position, as they are made one by one, or None where they pass 64
+/// bits. It takes no memory.
 // It is called for each move that is made, and most lines end here: what goes on has a call of its own, with its registers.
 #[cycle(making)]
 #[inline(never)]
-fn made(position: &Position, depth: u8) -> Option<u64>
+pub fn count_made(position: &Position, depth: u8) -> Option<u64>
     ensures { Tells result (lines_from depth position.now) }
 {
     if depth == 0 {
@@ -185,5 +160,19 @@ fn made_move(position: &Position, kind: Kind, m: Move, depth: u8) -> Option<u64>
     ensures { Tells result (lines_from depth (position_after position.now m)) }
 {
     let next = after_of(position, kind, m);
-    made(&next, depth)
+    count_made(&next, depth)
+}
+
+/// Two counts together, either of which may pass 64 bits.
+#[inline(always)]
+fn both(one: Option<u64>, other: Option<u64>) -> Option<u64>
+    ensures { (m n : ℕ) → Tells one m → Tells other n → Tells result (m + n) }
+{
+    let Some(one) = one else {
+        return None;
+    };
+    let Some(other) = other else {
+        return None;
+    };
+    one.checked_add(other)
 }

@@ -60,7 +60,7 @@ fn counted(
 ) -> Result<u64, CountFault> {
     match manner {
         Manner::Listed => count_lines(alloc, position, moves),
-        Manner::Made => count_made(position, moves),
+        Manner::Made => count_made(position, moves).ok_or(CountFault::TooMany),
     }
 }
 

@@ -101,8 +101,8 @@ made_by-returns-in_default-both t c =
 pub made_by-returns : goal.made_by-returns
 made_by-returns t c = all_counted c.args.depth c.args.position.now c.loop-to.total (lines_with c.args.depth c.args.position.now (filter (is_legal_in c.args.position.now) (moves_from c.args.from))) (moves_between c.args.from) _ c.loop-to.invariant.so_far (no_first_square c.loop-to.left (sym c.first.ensures ∙ c.in_default.is))
 
-pub made-returns-then-depth-eq0 : goal.made-returns-then-depth-eq0
-made-returns-then-depth-eq0 t c = one_line c.args.depth c.args.position.now c.if-depth-eq0.true
+pub count_made-returns-then-depth-eq0 : goal.count_made-returns-then-depth-eq0
+count_made-returns-then-depth-eq0 t c = one_line c.args.depth c.args.position.now c.if-depth-eq0.true
 
 pub made_promoted-made_move-queen-requires : goal.made_promoted-made_move-queen-requires
 made_promoted-made_move-queen-requires t c =

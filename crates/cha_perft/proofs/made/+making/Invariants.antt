@@ -6,8 +6,8 @@ use Rattle.cha_moves.specs.Shields.{goes_legally}
 use Rattle.cha_perft.specs.Counts.{lines_from, lines_with}
 use Rattle.cha_perft.proofs.made.+making.Given as goal
 
-abbrev pub decreases-made : goal.decreases-made
-decreases-made l = 7 * l.depth + 1
+abbrev pub decreases-count_made : goal.decreases-count_made
+decreases-count_made l = 7 * l.depth + 1
 
 abbrev pub decreases-made_all : goal.decreases-made_all
 decreases-made_all l = 7 * l.depth

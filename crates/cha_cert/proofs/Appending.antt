@@ -1,10 +1,12 @@
 -- One more node of a shared certificate, with sets of its own.
-use Rattle.std.proofs.Common.{◌≡◌, ◌+◌, ◌≤◌, List, [], ◌∷◌, ◌++◌, length, sym, ap, ◌∙◌, arith}
+use Rattle.std.proofs.Common.{◌≡◌, ◌+◌, ◌≤◌, List, [], ◌∷◌, ◌++◌, length, Result, Ok, Err, sym, ap, ◌∙◌, arith}
+use Rattle.std.specs.Result.{OnErr}
 use Rattle.std.proofs.lemmas.List.{length-append, map-append}
 use Rattle.mob_sets.specs.Rows.{SetRows}
 use Rattle.cha_cert.specs.declared.nodes.Node.{Node}
 use Rattle.cha_cert.specs.declared.nodes.Part.{Part}
 use Rattle.cha_cert.specs.declared.shared.SharedNode.{SharedNode}
+use Rattle.cha_cert.specs.declared.shared.SharedPart.{SharedPart}
 use Rattle.cha_cert.specs.Shared.{Shared, AreNamed, node_of, part_of, expansion, IsNamedAs}
 use Rattle.cha_cert.proofs.OnceWritten.{expansion_grown}
 
@@ -32,3 +34,10 @@ sets_more c d e part named grown pushed =
     let same : length e.sets ≡ length (c.sets ++ grown.more) = ap (λ (x : Shared). length x.sets) pushed ∙ ap length grown.sets in
     let few = grown.one in
     omega (arith, same, length-append c.sets grown.more, few)
+
+-- where the node is refused, nodes and expansion are as they were
+pub spread_same : {T E : Type 0} (r : Result T E) (c d e : Shared) (part : Part) (named : SharedPart) → IsNamedAs c d part named → e ≡ d → OnErr r (expansion e ≡ expansion c)
+spread_same (Ok x) c d e part named grown back = tt
+spread_same (Err x) c d e part named grown back =
+    let whole : e ≡ record { sets = c.sets ++ grown.more; nodes = c.nodes } = back ∙ (λ i. record { sets = grown.sets i; nodes = grown.nodes i }) in
+    ap expansion whole ∙ expansion_grown c.sets grown.more c.nodes grown.all

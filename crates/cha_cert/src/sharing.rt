@@ -1,6 +1,6 @@
 //! A certificate with its equal sets written once, and back.
 
-ghost use Rattle.std.specs.Prelude.{◌≡◌, ◌<◌, ◌≤◌, ◌^◌, ◌+◌, [], ◌∷◌, ◌++◌, List, None, length, IfOk, IfSome, OnOk, Contains};
+ghost use Rattle.std.specs.Prelude.{◌≡◌, ◌<◌, ◌≤◌, ◌^◌, ◌+◌, [], ◌∷◌, ◌++◌, List, None, length, IfOk, IfSome, OnOk, OnErr, Contains};
 ghost use Rattle.cha_cert.specs.declared.nodes.Node.{Node as CertNode};
 ghost use Rattle.cha_cert.specs.declared.nodes.Part.TheVariants.{Inner as CertInner, Leaf as CertLeaf, Small as CertSmall, Lone as CertLone};
 ghost use Rattle.cha_cert.specs.Shared.{Names, AreInOrder, Shares, IsAt, IsNamedAs, expansion, part_of, number_in, part_added, shared_of};
@@ -112,12 +112,15 @@ fn add_leaf(
     }
 }
 
-/// Appends a node of a certificate. The sets of a leaf are appended too, whether or not equal ones are there.
+/// Appends a node of a certificate. The sets of a leaf are appended too, whether or not equal ones are there. On a refusal
+/// the nodes and the expansion are unchanged, and sets that no leaf names may be left.
 pub fn append(shared: &mut SharedCert, node: Node) -> Result<(), NoMemory>
     requires { length shared.old.sets < 2 ^ 32 }
     ensures spread { OnOk result (expansion shared.new ≡ expansion shared.old ++ node ∷ []) }
     ensures nodes { OnOk result (length shared.new.nodes ≡ length shared.old.nodes + 1) }
-    ensures sets { OnOk result (length shared.new.sets ≤ length shared.old.sets + 1) }
+    ensures same_nodes { OnErr result (shared.new.nodes ≡ shared.old.nodes) }
+    ensures same { OnErr result (expansion shared.new ≡ expansion shared.old) }
+    ensures sets { length shared.new.sets ≤ length shared.old.sets + 1 }
 {
     let position = Kept::of(&node.position);
     let part = part_of_own(shared, node.part)?;
@@ -128,7 +131,8 @@ pub fn append(shared: &mut SharedCert, node: Node) -> Result<(), NoMemory>
 /// A part that names sets, which are appended, in place of one that has them.
 fn part_of_own(shared: &mut SharedCert, part: Part) -> Result<SharedPart, NoMemory>
     requires { length shared.old.sets < 2 ^ 32 }
-    ensures { IfOk result (λ named. IsNamedAs shared.old shared.new part named) }
+    ensures ok { IfOk result (λ named. IsNamedAs shared.old shared.new part named) }
+    ensures err { OnErr result (shared.new ≡ shared.old) }
 {
     let _nodes = shared.nodes();
     match part {

@@ -7,6 +7,7 @@ pub mod Sightings
 pub mod Kings
 pub mod Builds
 pub mod SetBits
+pub mod Pulls
 mod Shifted
 pub mod Contents
 pub mod Betweens

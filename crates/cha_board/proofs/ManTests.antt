@@ -26,19 +26,6 @@ other_color_of Black Black h = cc
 pub same_color_from : (a b : Color) → a ≡ b → same_color a b ≡ true
 same_color_from a b e = rw e (same_color_self b)
 
--- the test of two colours turns over with either of them
-pub flips : (a b : Color) → same_color (other_color a) b ≡ not (same_color a b)
-flips White White = refl
-flips White Black = refl
-flips Black White = refl
-flips Black Black = refl
-
-pub flips_back : (a b : Color) → same_color a (other_color b) ≡ not (same_color a b)
-flips_back White White = refl
-flips_back White Black = refl
-flips_back Black White = refl
-flips_back Black Black = refl
-
 -- a man of c is none of its enemy's
 pub not_of_other : (c : Color) (k : Kind) (o : Option Man) (man : Man) → o ≡ Some man → same_color man.color c ≡ true → is_man (other_color c) k o ≡ true → ⊥
 not_of_other c k o man found own other =

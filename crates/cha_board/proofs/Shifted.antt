@@ -1,4 +1,4 @@
--- Ranks, and sets moved by one square, as what is done to their bits.
+-- Ranks, colours of squares, and sets moved by one square, as what is done to their bits.
 use Rattle.std.proofs.Common.{◌≡◌, ℕ, ◌+◌, ◌-◌, ◌*◌, ◌/◌, ◌%◌, ◌^◌, ◌<◌, ◌≤◌, Bool, true, false, not, ◌&&◌, ◌==◌, List, refl, sym, ap, ◌∙◌, arith, zero-add, inl, inr}
 use Rattle.std.specs.List.{list_all, range_with_len}
 use Rattle.std.proofs.lemmas.List.Sums.{AllPass-from_list_all}
@@ -8,11 +8,14 @@ use Rattle.std.proofs.lemmas.Bool.{cases_Bool, eqb-true, eqb-false, and_right}
 use Rattle.std.proofs.lemmas.Nat.{pow_pos}
 use Rattle.std.proofs.Math.Nat.{mod-add-div, mod-lt}
 use Rattle.std.proofs.lemmas.Nat.Bits.{bit_at-zero, bit_at_above, bit_at_cat_low, bit_at_cat_high}
-use Rattle.cha_board.specs.Squares.{squares, file_of, rank_of}
+use Rattle.cha_board.specs.declared.men.Color.TheVariants.{White, Black}
+use Rattle.cha_board.specs.Men.{same_color}
+use Rattle.cha_board.specs.Squares.{squares, file_of, rank_of, color_of_square}
 use Rattle.cha_board.specs.SquareSets.{set_of, has_square, set_of_bits}
 use Rattle.cha_board.proofs.SetLaws.{same_set}
 use Rattle.cha_board.proofs.Scans.{all_squares_at}
 use Rattle.cha_board.proofs.SetBits.{shown_at}
+use Rattle.cha_board.proofs.Pulls.{agree, agreed}
 use Rattle.cha_board.specs.Shifts.{is_above, is_below, is_right_of, is_left_of}
 
 -- the low bits of a number that wraps
@@ -43,17 +46,6 @@ and_true true = refl
 and_true false = refl
 
 -- the mask of all files but one
-agree : Bool → Bool → Bool
-agree true b = b
-agree false b = not b
-
-agreed : (a b : Bool) → agree a b ≡ true → a ≡ b
-unfolding agree
-agreed true true h = refl
-agreed false false h = refl
-agreed true false h = cc
-agreed false true h = cc
-
 mask_test : ℕ → ℕ → ℕ → Bool
 mask_test n file t = agree (bit_at n t == 1) (not (file_of t == file))
 
@@ -141,3 +133,8 @@ unfolding rank_test
 rank_shown r small =
     let row : list_all (rank_test r) squares ≡ true = (let all = AllPass-from_list_all (λ r. list_all (rank_test r) squares) (range_with_len 0 8) rank_table r 0 (omega (arith, small, length-range_with_len 0 8)) in rw (get_or-range_with_len 0 8 r 0 small, zero-add r) at all) in
     same_set (λ s. bit_at (255 * 2 ^ (r * 8) % 2 ^ 64) s == 1) (λ t. rank_of t == r) (λ t inside. agreed (bit_at (255 * 2 ^ (r * 8) % 2 ^ 64) t == 1) (rank_of t == r) (all_squares_at (rank_test r) t row inside))
+
+-- the squares of the two colours, as numbers
+pub colors_shown : (set_of_bits 6172840429334713770 ≡ set_of (λ t. same_color (color_of_square t) White)) × (set_of_bits 12273903644374837845 ≡ set_of (λ t. same_color (color_of_square t) Black))
+unfolding color_of_square squares
+colors_shown = (refl, refl)

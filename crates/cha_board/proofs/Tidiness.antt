@@ -9,10 +9,10 @@ use Rattle.cha_board.specs.declared.men.Kind.{Kind}
 use Rattle.cha_board.specs.declared.men.Kind.TheVariants.{Pawn, Knight, Bishop, Rook, Queen, King}
 use Rattle.cha_board.specs.declared.men.Man.{Man}
 use Rattle.cha_board.specs.declared.placement.Men.TheInside.{Inside}
-use Rattle.cha_board.specs.Men.{same_color, same_kind, is_vacant, is_of, is_kind, is_man}
+use Rattle.cha_board.specs.Men.{same_color, same_kind, is_vacant, is_of, is_kind, is_man, is_non_king}
 use Rattle.cha_board.specs.Board.{man_at, is_empty, king_of, has_one_king}
 use Rattle.cha_board.specs.Squares.{squares}
-use Rattle.cha_board.specs.SquareSets.{set_of, squares_in, has_square, empty_set, set_placed, set_joined, set_common}
+use Rattle.cha_board.specs.SquareSets.{set_of, squares_in, has_square, empty_set, set_placed, set_joined, set_common, set_minus}
 use Rattle.cha_board.proofs.SetLaws.{same_set, has-set_of}
 use Rattle.cha_board.proofs.Kings.{king_is, some_king}
 use Rattle.cha_board.proofs.Firsts.{first_tells, none_tells}
@@ -146,6 +146,17 @@ unfolding set_common
 kinds_of_side men c k =
     same_set (λ s. has_square (set_of (λ s. is_of c (man_at men s))) s && has_square (set_of (λ s. is_kind k (man_at men s))) s) (λ s. is_man c k (man_at men s)) (λ s small.
     rw (has-set_of (λ s. is_of c (man_at men s)) s small, has-set_of (λ s. is_kind k (man_at men s)) s small) (of_both c k (man_at men s)))
+
+of_others : (c : Color) (o : Option Man) → (is_of c o && not (is_kind King o)) ≡ is_non_king c o
+of_others c None = refl
+of_others c (Some man) = refl
+
+pub others_of_side : (men : List (Option Man)) (c : Color)
+    → set_minus (set_of (λ s. is_of c (man_at men s))) (set_of (λ s. is_kind King (man_at men s))) ≡ set_of (λ s. is_non_king c (man_at men s))
+unfolding set_minus
+others_of_side men c =
+    same_set (λ s. has_square (set_of (λ s. is_of c (man_at men s))) s && not (has_square (set_of (λ s. is_kind King (man_at men s))) s)) (λ s. is_non_king c (man_at men s)) (λ s small.
+    rw (has-set_of (λ s. is_of c (man_at men s)) s small, has-set_of (λ s. is_kind King (man_at men s)) s small) (of_others c (man_at men s)))
 
 of_either : (c : Color) → (same_color c White || same_color c Black) ≡ true
 of_either White = refl

@@ -7,8 +7,8 @@ pub mod SquareSets
 pub mod Shifts
 pub mod Letters
 pub mod Packing
--- what only loops and lemmas use
 pub mod Aims
 pub mod MenSets
+-- what only loops and lemmas use
 pub mod Rays
 pub mod SetNumbers

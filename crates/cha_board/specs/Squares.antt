@@ -1,5 +1,5 @@
 -- Squares, their distances and lines, and what a man aims at (Laws of Chess, Articles 2.2 to 2.4 and 3.1 to 3.8).
-use Rattle.std.specs.Prelude.{ℕ, ◌+◌, ◌*◌, ◌/◌, ◌%◌, ◌==◌, max, Bool, not, ◌&&◌, ◌||◌, List, filter}
+use Rattle.std.specs.Prelude.{ℕ, ◌+◌, ◌*◌, ◌/◌, ◌%◌, ◌==◌, max, Bool, not, ◌&&◌, ◌||◌, List, if◌then◌else◌, filter}
 use Rattle.std.specs.List.{range_with_len}
 use Rattle.std.specs.Int.{abs_diff}
 use Rattle.cha_board.specs.declared.men.Color.{Color}
@@ -13,6 +13,10 @@ file_of s = s % 8
 
 abbrev pub rank_of : ℕ → ℕ
 rank_of s = s / 8
+
+-- a square is white or black, a1 is black, and squares side by side are of two colours (Laws of Chess, Article 2.1)
+unfoldable pub color_of_square : ℕ → Color
+color_of_square s = if (file_of s + rank_of s) % 2 == 0 then Black else White
 
 -- all squares, in order
 unfoldable pub squares : List ℕ

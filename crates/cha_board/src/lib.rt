@@ -1,7 +1,7 @@
 //! The chess board: squares, men, what men aim at and attack, and valid positions (Laws of Chess, Articles 2 and 3).
 //!
 //! `men` has colours, kinds and men, `squares` the squares, `letters` how both are written, `sets` sets of squares,
-//! `shifts` ranks and sets moved by one square, and `placement` what stands on the board, kept as sets. `aim` has distances and what a man aims at on an empty board, `over` the same over occupied squares
+//! `shifts` ranks, colours of squares, sets moved by one square and steps of kings, and `placement` what stands on the board, kept as sets. `aim` has distances and what a man aims at on an empty board, `over` the same over occupied squares
 //! by the tables of `leaps` and `rays`, `strikes` what men attack by it, and `sight` the same by a plain walk over
 //! a list of men. `position` has the valid positions, `build` how one is made, `castling` what a side
 //! needs for castling, and `opening` the opening position.
@@ -33,7 +33,7 @@ pub use aim::{
 pub use build::BuildFault;
 pub use castling::{home, long_right, short_right};
 pub use kept::Kept;
-pub use men::{Color, Kind, Man, is_man_of, is_man_other_than_king, is_of_kind, is_of_side};
+pub use men::{Color, Kind, Man, is_man_of, is_of_kind, is_of_side};
 pub use opening::OPENING_MEN;
 pub use over::{aims, aims_alone, squares_between};
 pub use packed::{Packed, same_position, words_tell_positions};

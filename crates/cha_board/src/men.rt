@@ -1,7 +1,7 @@
 //! Colours, kinds of men, and men (Laws of Chess, Articles 2.2 and 2.3).
 
 ghost use Rattle.std.specs.Prelude.{◌≡◌};
-ghost use Rattle.cha_board.specs.Men.{other_color, same_color, same_kind, is_of, is_kind, is_man, is_non_king};
+ghost use Rattle.cha_board.specs.Men.{other_color, same_color, same_kind, is_of, is_kind, is_man};
 
 /// The colour of a man, and the side that plays with it.
 #[derive(Clone, Copy, Debug, PartialEq, Eq, PartialOrd, Ord, Hash)]
@@ -93,15 +93,5 @@ pub fn is_man_of(found: Option<Man>, color: Color, kind: Kind) -> bool
     match found {
         None => false,
         Some(man) => man.color.is(color) && man.kind.is(kind),
-    }
-}
-
-/// Whether what stands on a square is a man of this side other than its king.
-pub fn is_man_other_than_king(found: Option<Man>, color: Color) -> bool
-    ensures { result ≡ is_non_king color found }
-{
-    match found {
-        None => false,
-        Some(man) => man.color.is(color) && !man.kind.is(Kind::King),
     }
 }

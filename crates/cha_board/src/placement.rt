@@ -2,7 +2,7 @@
 
 ghost use Rattle.std.specs.Prelude.{◌≡◌, not, List, Option, Some, None, replicate, IsTrue, slice_set};
 ghost use Rattle.cha_board.specs.declared.men.Man.{Man as AMan};
-ghost use Rattle.cha_board.specs.Men.{is_of, is_kind, is_man};
+ghost use Rattle.cha_board.specs.Men.{is_of, is_kind, is_man, is_non_king};
 ghost use Rattle.cha_board.specs.Board.{man_at, is_empty, king_of, has_one_king};
 ghost use Rattle.cha_board.specs.SquareSets.{set_of};
 ghost use Rattle.cha_board.specs.MenSets.{set_changed};
@@ -229,6 +229,13 @@ impl Men {
         ensures { result ≡ set_of (λ s. is_man color kind (man_at self.now s)) }
     {
         self.of_side(color).common(self.all_of_kind(kind))
+    }
+
+    /// The squares on which men of this side other than kings stand.
+    pub fn non_kings(&self, color: Color) -> SquareSet
+        ensures { result ≡ set_of (λ s. is_non_king color (man_at self.now s)) }
+    {
+        self.of_side(color).minus(self.all_of_kind(Kind::King))
     }
 
     /// The squares on which a man stands.

@@ -1,7 +1,7 @@
 //! Valid positions.
 
 ghost use Rattle.std.specs.Prelude.{◌≡◌, not};
-ghost use Rattle.cha_board.specs.Men.{is_man};
+ghost use Rattle.cha_board.specs.Men.{is_man, is_non_king};
 ghost use Rattle.cha_board.specs.Board.{man_at, is_empty, attacked, king_of, IsValid};
 ghost use Rattle.cha_board.specs.Board.{in_check as in_check_among};
 ghost use Rattle.cha_board.specs.SquareSets.{set_of};
@@ -91,6 +91,13 @@ impl Position {
         ensures { result ≡ set_of (λ s. is_man of kind (man_at self.now.men s)) }
     {
         self.men.of_kind(of, kind)
+    }
+
+    /// The squares on which men of this side other than its king stand.
+    pub fn non_kings(&self, of: Color) -> SquareSet
+        ensures { result ≡ set_of (λ s. is_non_king of (man_at self.now.men s)) }
+    {
+        self.men.non_kings(of)
     }
 
     /// The squares on which a man stands.

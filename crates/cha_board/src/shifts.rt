@@ -1,9 +1,10 @@
-//! Ranks, and sets of squares moved by one square; what leaves the board is gone.
+//! Ranks and colours of squares, sets of squares moved by one square, where what leaves the board is gone, and steps of kings.
 
 ghost use Rattle.std.specs.Prelude.{◌≡◌, ◌<◌, ◌==◌};
-ghost use Rattle.cha_board.specs.Squares.{rank_of};
+ghost use Rattle.cha_board.specs.Men.{same_color};
+ghost use Rattle.cha_board.specs.Squares.{rank_of, color_of_square};
 ghost use Rattle.cha_board.specs.SquareSets.{set_of};
-ghost use Rattle.cha_board.specs.Shifts.{is_above, is_below, is_right_of, is_left_of, is_ahead};
+ghost use Rattle.cha_board.specs.Shifts.{is_above, is_below, is_right_of, is_left_of, is_ahead, is_king_step};
 
 use crate::men::Color;
 use crate::sets::SquareSet;
@@ -15,6 +16,16 @@ impl SquareSet {
         ensures { result ≡ set_of (λ t. rank_of t == rank) }
     {
         SquareSet::from_bits(0xff << (rank * 8))
+    }
+
+    /// The squares of a colour, a1 among the black ones (Laws of Chess, Article 2.1).
+    pub fn of_color(color: Color) -> SquareSet
+        ensures { result ≡ set_of (λ t. same_color (color_of_square t) color) }
+    {
+        match color {
+            Color::White => SquareSet::from_bits(0x55aa_55aa_55aa_55aa),
+            Color::Black => SquareSet::from_bits(0xaa55_aa55_aa55_aa55),
+        }
     }
 
     /// The set moved up the board by one rank.
@@ -55,5 +66,16 @@ impl SquareSet {
             Color::White => self.north(),
             Color::Black => self.south(),
         }
+    }
+
+    /// The squares one step of a king away from a square of the set.
+    pub fn king_steps(self) -> SquareSet
+        ensures { result ≡ set_of (is_king_step self) }
+    {
+        // The number of a set tells that it has 64 truth values.
+        let _number = self.bits();
+        let beside = self.east().joined(self.west());
+        let row = beside.joined(self);
+        beside.joined(row.north()).joined(row.south())
     }
 }

@@ -1,7 +1,7 @@
 -- The moves that one way from a square to another gives.
 use Rattle.std.proofs.Common.{◌≡◌, ℕ, ◌<◌, Bool, true, false, cond, not, ◌&&◌, ◌==◌, [], ◌∷◌, Option, Some, None, refl, sym, ◌∙◌, ap}
 use Rattle.std.specs.List.{filter}
-use Rattle.std.proofs.lemmas.Bool.{and_parts, and_from, and_left, eqb-true, false_from_ne_true}
+use Rattle.std.proofs.lemmas.Bool.{and_parts, and_from, and_left, eqb-true, false_from_ne_true, and_right}
 use Rattle.cha_board.specs.declared.men.Color.{Color}
 use Rattle.cha_board.specs.declared.men.Color.TheVariants.{White, Black}
 use Rattle.cha_board.specs.declared.men.Kind.{Kind}
@@ -58,11 +58,7 @@ unfolding is_legal_in is_pseudo_legal_as
 unwell_illegal q s t man k found unwell =
     let m : Move = record { from = s; to = t; promotion = k } in
     and_left (is_pseudo_legal q m) (not (in_check (men_after q m) q.side))
-    (ap (is_pseudo_legal_as q m) found ∙ rw unwell (never (same_color man.color q.side && may_enter q.side (man_at q.men t) && goes q man.kind s t)))
-  where
-    never : (b : Bool) → (b && false) ≡ false
-    never true = refl
-    never false = refl
+    (ap (is_pseudo_legal_as q m) found ∙ rw unwell (and_right (same_color man.color q.side && may_enter q.side (man_at q.men t) && goes q man.kind s t) false refl))
 
 unwell_plain : (c : Color) (k : Kind) (t : ℕ) → is_promoted c k t ≡ true → promotes_well c k t None ≡ false
 unfolding promotes_well

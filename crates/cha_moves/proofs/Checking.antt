@@ -2,7 +2,7 @@
 -- too.
 use Rattle.std.proofs.Common.{◌≡◌, ◌≢◌, ℕ, ◌+◌, ◌-◌, ◌<◌, ◌==◌, Bool, true, false, not, ◌&&◌, ◌||◌, List, length, Option, Some, None, inl, inr, refl, sym, ◌∙◌, ap, subst, arith}
 use Rattle.std.specs.List.{Contains}
-use Rattle.std.proofs.lemmas.Bool.{and_parts, and_from, and_left, and_right, eq-eqb, both_ways, cases_Bool, cases_eq, not-true, false_from_ne_true}
+use Rattle.std.proofs.lemmas.Bool.{and_parts, and_from, and_left, and_right, or_right, eq-eqb, both_ways, cases_Bool, cases_eq, not-true, false_from_ne_true}
 use Rattle.cha_board.specs.declared.men.Color.{Color}
 use Rattle.cha_board.specs.declared.men.Kind.{Kind}
 use Rattle.cha_board.specs.declared.men.Kind.TheVariants.{Pawn, Knight, Bishop, Rook, Queen, King}
@@ -171,10 +171,6 @@ off_lines q lines s small on off u low aims alone = false_from_ne_true (lies_bet
 or_left : (a b : Bool) → a ≡ true → (a || b) ≡ true
 or_left true b h = refl
 or_left false b h = cc
-
-or_right : (a b : Bool) → b ≡ true → (a || b) ≡ true
-or_right true b h = refl
-or_right false b h = h
 
 special_pawn : (q : Board) (k : Kind) (t : ℕ) → k ≡ Pawn → ((rank_of t == last_rank q.side) || is_target q.target t) ≡ true → is_special_check q k t ≡ true
 unfolding is_special_check

@@ -173,10 +173,6 @@ aimers_are men c d k t small e =
     same_set (λ s. has_square (set_of (λ s. is_man c k (man_at men s))) s && has_square (set_of (aims_at d k t)) s) (λ u. is_man c k (man_at men u) && aims_at c k u t) (λ u small'.
     rw (has-set_of (λ s. is_man c k (man_at men s)) u small', has-set_of (aims_at d k t) u small', e, aims_from_there c k u t small' small) refl)
 
-pub joined_of : (a b : ℕ → Bool) → set_joined (set_of a) (set_of b) ≡ set_of (λ s. a s || b s)
-unfolding set_joined
-joined_of a b = same_set (λ s. has_square (set_of a) s || has_square (set_of b) s) (λ s. a s || b s) (λ s small. rw (has-set_of a s small, has-set_of b s small) refl)
-
 -- the squares that end one check more
 pub answered : (answers line : List Bool) (k u t : ℕ) → line ≡ set_of (lies_between k u) → t < 64 → has_square (set_common answers (set_with line u)) t ≡ (has_square answers t && stops k u t)
 unfolding set_common set_with stops

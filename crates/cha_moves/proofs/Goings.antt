@@ -68,7 +68,7 @@ all_alike : (p r : ℕ → Bool) (xs : List ℕ) → ((x : ℕ) → Contains xs 
 all_alike p r [] same = refl
 all_alike p r (x ∷ xs) same = rw (same x (Contains-cons_here x xs x refl), all_alike p r xs (λ y inside. same y (Contains-cons_there x xs y inside))) refl
 
-not_not : (b : Bool) → not (not b) ≡ b
+pub not_not : (b : Bool) → not (not b) ≡ b
 not_not true = refl
 not_not false = refl
 

@@ -1,5 +1,5 @@
 -- No two legal moves of a position are one, and there are at most 20,480 of them.
-use Rattle.std.proofs.Common.{◌≡◌, ℕ, ◌*◌, ◌≤◌, List, [], ◌∷◌, length, Option, Some, None, refl, sym, ◌∙◌, ap, arith}
+use Rattle.std.proofs.Common.{◌≡◌, ℕ, ◌*◌, ◌≤◌, List, [], ◌∷◌, length, Option, Some, None, refl, sym, ◌∙◌, arith}
 use Rattle.std.specs.List.{Contains, flat_map}
 use Rattle.std.proofs.lemmas.List.{length-append}
 use Rattle.std.proofs.lemmas.List.Sums.{length-filter, count_by-le-length}
@@ -9,9 +9,10 @@ use Rattle.cha_board.specs.Board.{Board}
 use Rattle.cha_board.specs.Squares.{squares}
 use Rattle.cha_board.proofs.Scans.{length_squares}
 use Rattle.cha_moves.specs.Step.{Move}
-use Rattle.cha_moves.specs.Moves.{promotions, moves_between, moves_from, all_moves, is_legal_in, legal}
-use Rattle.cha_moves.proofs.Contained.{Contains-map_parts, Contains-flat_map_parts}
+use Rattle.cha_moves.specs.Moves.{moves_between, moves_from, all_moves, is_legal_in, legal}
+use Rattle.cha_moves.proofs.Contained.{Contains-flat_map_parts}
 use Rattle.cha_list.specs.Distinct.{AreDistinct}
+use Rattle.cha_moves.proofs.Listed.{between_are}
 use Rattle.cha_moves.proofs.Apart.{apart_by_images, filtered_apart, pieces_apart, numbers_apart}
 
 abbrev number_of : Option Kind → ℕ
@@ -26,12 +27,6 @@ number_of (Some King) = 6
 between_apart : (s t : ℕ) → AreDistinct (moves_between s t)
 between_apart s t = apart_by_images (λ (m : Move). number_of m.promotion) (moves_between s t) (numbers_apart 0 5)
 
-between_squares : (s t : ℕ) (m : Move) → Contains (moves_between s t) m → (m.from ≡ s) × (m.to ≡ t)
-between_squares s t m h =
-    let make : Option Kind → Move = λ k. record { from = s; to = t; promotion = k } in
-    let p = Contains-map_parts make (None ∷ promotions) m h in
-    (sym (ap (λ (x : Move). x.from) p.2), sym (ap (λ (x : Move). x.to) p.2))
-
 squares_apart : AreDistinct squares
 unfolding squares
 squares_apart = numbers_apart 0 64
@@ -39,13 +34,13 @@ squares_apart = numbers_apart 0 64
 from_apart : (s : ℕ) → AreDistinct (moves_from s)
 unfolding moves_from
 from_apart s =
-    pieces_apart (λ t. moves_between s t) (between_apart s) (λ a b m one two. sym (between_squares s a m one).1 ∙ (between_squares s b m two).1) squares squares_apart
+    pieces_apart (λ t. moves_between s t) (between_apart s) (λ a b m one two. sym (between_are s a m one).1 ∙ (between_are s b m two).1) squares squares_apart
 
 from_square : (s : ℕ) (m : Move) → Contains (moves_from s) m → m.from ≡ s
 unfolding moves_from
 from_square s m h =
     let p = Contains-flat_map_parts (λ t. moves_between s t) squares m h in
-    (between_squares s p.0 m p.2).0
+    (between_are s p.0 m p.2).0
 
 all_apart : AreDistinct all_moves
 unfolding all_moves

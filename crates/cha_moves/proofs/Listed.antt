@@ -19,7 +19,8 @@ pub record IsListed (q : Board) (m : Move) : Type 0 where
   pub to : m.to < 64
   pub legal : is_legal_in q m ≡ true
 
-between_are : (s t : ℕ) (m : Move) → Contains (moves_between s t) m → (m.from ≡ s) × (m.to ≡ t)
+-- where the moves between two squares lead
+pub between_are : (s t : ℕ) (m : Move) → Contains (moves_between s t) m → (m.from ≡ s) × (m.to ≡ t)
 between_are s t m h =
     All-contains (λ (x : Move). (x.from ≡ s) × (x.to ≡ t)) (moves_between s t) m
     (All-map (λ (x : Move). (x.from ≡ s) × (x.to ≡ t)) (λ (k : Option Kind). record { from = s; to = t; promotion = k }) (None ∷ promotions) (λ k d inside. (refl, refl))) h

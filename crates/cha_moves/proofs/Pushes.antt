@@ -1,7 +1,7 @@
 -- The squares where a pawn may step, and where a king may go, as sets.
 use Rattle.std.proofs.Common.{◌≡◌, ℕ, ◌+◌, ◌-◌, ◌<◌, Bool, true, false, not, ◌&&◌, ◌||◌, ◌==◌, List, Some, refl, sym, ◌∙◌, ap, arith, inl, inr}
 use Rattle.std.specs.List.{list_all}
-use Rattle.std.proofs.lemmas.Bool.{and_parts, and_left, and_right, cases_Bool, cases_eq, eq-eqb, ne_eqb, eqb-true, eqb-false, false_from_ne_true}
+use Rattle.std.proofs.lemmas.Bool.{and_parts, and_left, and_right, cases_Bool, cases_eq, eq-eqb, ne_eqb, eqb-true, eqb-false, false_from_ne_true, not-true}
 use Rattle.cha_board.specs.declared.men.Color.{Color}
 use Rattle.cha_board.specs.declared.men.Color.TheVariants.{White, Black}
 use Rattle.cha_board.specs.declared.men.Kind.{Kind}
@@ -17,7 +17,7 @@ use Rattle.cha_board.proofs.Scans.{all_squares_at}
 use Rattle.cha_moves.specs.Moves.{second_rank, fourth_rank, last_rank, middle, is_step, is_double_step, is_pawn_capture, is_en_passant, is_short_castling, is_long_castling, goes, goes_as, may_enter}
 use Rattle.cha_moves.specs.Ways.{ahead_of, is_way}
 use Rattle.cha_moves.proofs.Kept.{short_tests, long_tests}
-use Rattle.cha_moves.proofs.Goings.{joined_of, minus_of, occupied_in, aims_seen, at_one}
+use Rattle.cha_moves.proofs.Goings.{joined_of, not_not, minus_of, occupied_in, aims_seen, at_one}
 
 same_bool : Bool → Bool → Bool
 same_bool true b = b
@@ -70,11 +70,7 @@ unfolding is_step end_test
 end_is q s t small small' last =
     let test : (not (rank_of s == last_rank q.side) || not (is_rank_ahead q.side s t)) ≡ true = (pawn_tests q.side s t small small').1 in
     let none : not (is_rank_ahead q.side s t) ≡ true = ap (λ b. not b || not (is_rank_ahead q.side s t)) (sym last) ∙ test in
-    and_left ((files_apart s t == 0) && is_rank_ahead q.side s t) (is_empty q.men t) (and_right (files_apart s t == 0) (is_rank_ahead q.side s t) (no_from (is_rank_ahead q.side s t) none))
-  where
-    no_from : (b : Bool) → not b ≡ true → b ≡ false
-    no_from true h = cc
-    no_from false h = refl
+    and_left ((files_apart s t == 0) && is_rank_ahead q.side s t) (is_empty q.men t) (and_right (files_apart s t == 0) (is_rank_ahead q.side s t) (not-true (is_rank_ahead q.side s t) none))
 
 mid_is : (c : Color) (s : ℕ) → s < 64 → rank_of s ≡ second_rank c → middle s (ahead_of c (ahead_of c s)) ≡ ahead_of c s
 mid_is White s small e = omega arith
@@ -112,12 +108,8 @@ pushes_at_end q s small last =
     same_set (λ _. false) (λ t. is_step q s t || is_double_step q s t) (λ t small'.
     rw (end_is q s t small small' last, double_is q s t small small', second_not_last q.side (rank_of s) last) refl)
 
-never : (b : Bool) → (b && false) ≡ false
-never true = refl
-never false = refl
-
 neither : (a b x y : Bool) → false ≡ ((a && false) || (b && x && false && y))
-neither a b x y = rw (never a, never (b && x)) refl
+neither a b x y = rw (and_right a false refl, and_right (b && x) false refl) refl
 
 -- none over a square that is not empty
 pub pushes_blocked : (q : Board) (s : ℕ) → s < 64 → (rank_of s == last_rank q.side) ≡ false → is_empty q.men (ahead_of q.side s) ≡ false → set_of (λ _. false) ≡ pushes_of q s
@@ -154,26 +146,22 @@ pushes_two q s small inner free begins free' =
     same_set (λ t. (t == ahead_of q.side (ahead_of q.side s)) || ((t == ahead_of q.side s) || false)) (λ t. is_step q s t || is_double_step q s t) (λ t small'.
     rw (step_is q s t small small' inner, double_is q s t small small', free, begins, free') (both_of (t == ahead_of q.side s) (t == ahead_of q.side (ahead_of q.side s))))
 
+and_true : (a b : Bool) → b ≡ true → (a && b) ≡ a
+and_true true b h = h
+and_true false b h = refl
+
 -- castling leads to one square
 short_is : (q : Board) (s t : ℕ) → is_short_castling q s t ≡ (is_short_castling q s (home_of q.side + 2) && (t == home_of q.side + 2))
 short_is q s t = elim (cases_eq t (home_of q.side + 2)) [
   | inl e ↦ ap (is_short_castling q s) e ∙ sym (and_true (is_short_castling q s (home_of q.side + 2)) (t == home_of q.side + 2) (eq-eqb t (home_of q.side + 2) e))
   | inr ne ↦ false_from_ne_true (is_short_castling q s t) (λ h. ne (short_tests q s t h).two_files) ∙ sym (and_right (is_short_castling q s (home_of q.side + 2)) (t == home_of q.side + 2) (ne_eqb t (home_of q.side + 2) ne))
 ]
-  where
-    and_true : (a b : Bool) → b ≡ true → (a && b) ≡ a
-    and_true true b h = h
-    and_true false b h = refl
 
 long_is : (q : Board) (s t : ℕ) → is_long_castling q s t ≡ (is_long_castling q s (home_of q.side - 2) && (t == home_of q.side - 2))
 long_is q s t = elim (cases_eq t (home_of q.side - 2)) [
   | inl e ↦ ap (is_long_castling q s) e ∙ sym (and_true (is_long_castling q s (home_of q.side - 2)) (t == home_of q.side - 2) (eq-eqb t (home_of q.side - 2) e))
   | inr ne ↦ false_from_ne_true (is_long_castling q s t) (λ h. ne (long_tests q s t h).two_files) ∙ sym (and_right (is_long_castling q s (home_of q.side - 2)) (t == home_of q.side - 2) (ne_eqb t (home_of q.side - 2) ne))
 ]
-  where
-    and_true : (a b : Bool) → b ≡ true → (a && b) ≡ a
-    and_true true b h = h
-    and_true false b h = refl
 
 turned : (a b c : Bool) → (c || (b || a)) ≡ (a || b || c)
 turned true true true = refl
@@ -214,10 +202,6 @@ ways_of_man q s man found own =
     minus_of (goes q man.kind s) (λ t. not (may_enter q.side (man_at q.men t)))
     ∙ same_set (λ t. goes q man.kind s t && not (not (may_enter q.side (man_at q.men t)))) (λ t. goes_as q s t (man_at q.men s) && may_enter q.side (man_at q.men t)) (λ t small.
     rw (found, own, not_not (may_enter q.side (man_at q.men t))) refl)
-  where
-    not_not : (b : Bool) → not (not b) ≡ b
-    not_not true = refl
-    not_not false = refl
 
 grouped : (a b c d : Bool) → ((a || b) || (c || d)) ≡ (a || b || c || d)
 grouped true b c d = refl

@@ -1,5 +1,5 @@
 -- Men that alone stand between a square and a man that aims at it, gathered one after another.
-use Rattle.std.proofs.Common.{◌≡◌, ℕ, ◌<◌, Bool, true, false, not, ◌&&◌, ◌||◌, List, [], ◌∷◌, Option, ◌⊎◌, inl, inr, refl, sym, ◌∙◌, ap, subst}
+use Rattle.std.proofs.Common.{◌≡◌, ℕ, ◌<◌, Bool, true, not, ◌&&◌, List, [], ◌∷◌, Option, ◌⊎◌, inl, inr, sym, ◌∙◌, ap, subst}
 use Rattle.std.specs.List.{Contains}
 use Rattle.std.proofs.lemmas.Bool.{and_parts, and_from, not-true}
 use Rattle.cha_board.specs.declared.men.Color.{Color}
@@ -8,6 +8,7 @@ use Rattle.cha_board.specs.Squares.{lies_between}
 use Rattle.cha_board.specs.Board.{man_at, is_empty}
 use Rattle.cha_board.specs.SquareSets.{set_of, squares_in, has_square, set_joined, set_common}
 use Rattle.cha_board.proofs.SetLaws.{has-set_of}
+use Rattle.cha_board.proofs.Contents.{joined_left, joined_right}
 use Rattle.cha_moves.specs.Shields.{aims_as}
 use Rattle.cha_moves.specs.Checks.{IsAlone}
 use Rattle.cha_moves.proofs.Contained.{Contains-cons_cases}
@@ -16,18 +17,6 @@ use Rattle.cha_moves.proofs.MateMoves.{in_squares, none_left}
 -- the men that aim at a square
 pub aimers_left : (c : Color) (k : ℕ) (men : List (Option Man)) (set : List Bool) (u : ℕ) → u < 64 → set ≡ set_of (λ u. aims_as c k u (man_at men u)) → aims_as c k u (man_at men u) ≡ true → Contains (squares_in set) u
 aimers_left c k men set u small is aims = in_squares set u small (ap (λ x. has_square x u) is ∙ has-set_of (λ u. aims_as c k u (man_at men u)) u small ∙ aims)
-
-joined_left : (a b : List Bool) (s : ℕ) → s < 64 → has_square a s ≡ true → has_square (set_joined a b) s ≡ true
-unfolding set_joined
-joined_left a b s small h = has-set_of (λ s. has_square a s || has_square b s) s small ∙ ap (λ x. x || has_square b s) h
-
-joined_right : (a b : List Bool) (s : ℕ) → s < 64 → has_square b s ≡ true → has_square (set_joined a b) s ≡ true
-unfolding set_joined
-joined_right a b s small h = has-set_of (λ s. has_square a s || has_square b s) s small ∙ ap (λ x. has_square a s || x) h ∙ or-true (has_square a s)
-  where
-    or-true : (x : Bool) → (x || true) ≡ true
-    or-true true = refl
-    or-true false = refl
 
 -- one more line
 pub line_added : (left next lines now line : List Bool) (by u s : ℕ) → s < 64 → squares_in left ≡ by ∷ squares_in next → (by ≡ u → has_square line s ≡ true) → now ≡ set_joined lines line

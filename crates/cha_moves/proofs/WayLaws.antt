@@ -1,15 +1,14 @@
 -- The legal moves are found among the ways of the men of the side to move.
 use Rattle.std.proofs.Common.{◌≡◌, ◌≢◌, ℕ, ◌<◌, Bool, true, false, not, List, [], ◌∷◌, ◌++◌, Option, Some, None, inl, inr, refl, sym, ◌∙◌, ap, append_assoc, length, arith}
-use Rattle.std.specs.List.{Contains, filter, flat_map, list_any}
-use Rattle.std.proofs.lemmas.Bool.{and_from, and_left, both_ways, cases_Bool, not-true, false_from_ne_true}
+use Rattle.std.specs.List.{Contains, filter, flat_map}
+use Rattle.std.proofs.lemmas.Bool.{and_from, and_left, both_ways, cases_Bool, false_from_ne_true}
 use Rattle.std.proofs.lemmas.List.Elements.{filter-append}
 use Rattle.cha_board.specs.declared.men.Kind.TheVariants.{Knight, Bishop, Rook, Queen}
 use Rattle.cha_board.specs.declared.men.Man.{Man}
 use Rattle.cha_board.specs.Men.{same_color, is_of}
 use Rattle.cha_board.specs.Squares.{squares}
 use Rattle.cha_board.specs.Board.{Board, man_at, in_check}
-use Rattle.cha_board.specs.SquareSets.{set_of, has_square, squares_in, has_no_square}
-use Rattle.cha_board.proofs.Scans.{any_square_at}
+use Rattle.cha_board.specs.SquareSets.{set_of, has_square, squares_in}
 use Rattle.cha_board.proofs.SetLaws.{has-set_of, same_set}
 use Rattle.cha_moves.specs.Step.{Move}
 use Rattle.cha_moves.specs.Moves.{goes, goes_as, may_enter, is_pseudo_legal, men_after, is_legal_in, moves_between, moves_from, all_moves, legal}
@@ -126,12 +125,3 @@ between_found q s t all left rest before next some = filter_found (is_legal_in q
 -- fewer squares are left
 pub fewer : (left rest : List ℕ) (t : ℕ) → left ≡ t ∷ rest → length rest < length left
 fewer left rest t e = (let n = ap length e in omega (arith, n))
-
--- a set with no square
-pub none_in : (set : List Bool) → has_no_square set ≡ true → squares_in set ≡ []
-unfolding has_no_square
-none_in set h = none_kept (has_square set) squares (λ x inside. false_from_ne_true (has_square set x) (λ yes'. both_ways (list_any (has_square set) squares) (not-true (list_any (has_square set) squares) h) (any_square_at (has_square set) x (Contains-squares_small x inside) yes')))
-  where
-    none_kept : (p : ℕ → Bool) (xs : List ℕ) → ((x : ℕ) → Contains xs x → p x ≡ false) → filter p xs ≡ []
-    none_kept p [] none = refl
-    none_kept p (x ∷ xs) none = rw (none x (Contains-cons_here x xs x refl)) (none_kept p xs (λ y inside. none y (Contains-cons_there x xs y inside)))

@@ -7,7 +7,7 @@ pub mod MateLines
 pub mod Lines
 pub mod Dead
 pub mod Texts
--- what only loops and lemmas use
 pub mod Ways
 pub mod Shields
+-- what only loops and lemmas use
 pub mod Checks

@@ -73,7 +73,7 @@ pub fn men_made(position: &Position, m: Move) -> Men
 fn touched(m: Move) -> SquareSet
     ensures { result ≡ set_of (touches m) }
 {
-    SquareSet::empty().with(m.from).with(m.to)
+    SquareSet::single(m.from).with(m.to)
 }
 
 /// Whether neither of two squares is in a set.

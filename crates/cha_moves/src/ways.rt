@@ -55,7 +55,7 @@ fn pawn_steps(position: &Position, s: Square) -> SquareSet
     if occupied.has(one) {
         return SquareSet::empty();
     }
-    let steps = SquareSet::empty().with(one);
+    let steps = SquareSet::single(one);
     if s.rank() != first_pawn_rank(side) {
         return steps;
     }

@@ -67,7 +67,7 @@ fn attacks_differently(list: &[Option<Man>; 64], men: &Men, by: Color, index: u8
 
 #[test]
 fn a_rook_sees_up_to_the_first_man(rt: HostRuntime) {
-    let occupied = SquareSet::empty().with(Square::at(24)).with(Square::at(2));
+    let occupied = SquareSet::single(Square::at(24)).with(Square::at(2));
     let seen = aims(Color::White, Kind::Rook, Square::at(0), occupied);
     assert_eq!(rt; seen.bits(), 0x0101_0106);
 }

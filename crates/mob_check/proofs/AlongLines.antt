@@ -9,21 +9,15 @@ use Rattle.cha_board.specs.declared.men.Kind.{Kind}
 use Rattle.cha_board.specs.declared.men.Kind.TheVariants.{Bishop, Rook, Queen}
 use Rattle.cha_board.specs.Squares.{squares, files_apart, ranks_apart, steps_apart, is_straight, is_diagonal, is_line, aims_at, is_within, lies_between, between}
 use Rattle.cha_board.specs.Board.{Board}
+use Rattle.cha_board.proofs.Identity.{if_at, if_from}
 use Rattle.cha_board.proofs.Scans.{all_squares_at, each_square}
 use Rattle.mob_law.specs.Reach.{is_fixed, is_open}
+use Rattle.mob_law.proofs.Geometry.{pair_at}
 use Rattle.mob_sets.specs.Mobility.{Sets}
 
 -- the square next to t, as one comes from u
 before : ℕ → ℕ → ℕ
 before u t = (let d = abs_diff u t / steps_apart u t in if ltb u t then t - d else t + d)
-
-implies : Bool → Bool → Bool
-implies a b = not a || b
-
-implied : (a b : Bool) → implies a b ≡ true → a ≡ true → b ≡ true
-unfolding implies
-implied true b h e = h
-implied false b h e = cc
 
 goes_by : Kind → ℕ → ℕ → ℕ → Bool
 goes_by k u t v =
@@ -31,21 +25,21 @@ goes_by k u t v =
     && lies_between u t v && list_all (lies_between u t) (between u v)
 
 line_test : Kind → ℕ → ℕ → Bool
-line_test k u t = implies (aims_at White k u t && not (steps_apart u t == 1)) (goes_by k u t (before u t))
+line_test k u t = not (aims_at White k u t && not (steps_apart u t == 1)) || goes_by k u t (before u t)
 
 table : Kind → Bool
 table k = list_all (λ u. list_all (line_test k u) squares) squares
 
 bishop_table : table Bishop ≡ true
-unfolding table line_test implies goes_by before aims_at between lies_between is_within is_straight is_diagonal is_line steps_apart files_apart ranks_apart squares
+unfolding table line_test goes_by before aims_at between lies_between is_within is_straight is_diagonal is_line steps_apart files_apart ranks_apart squares
 bishop_table = refl
 
 rook_table : table Rook ≡ true
-unfolding table line_test implies goes_by before aims_at between lies_between is_within is_straight is_diagonal is_line steps_apart files_apart ranks_apart squares
+unfolding table line_test goes_by before aims_at between lies_between is_within is_straight is_diagonal is_line steps_apart files_apart ranks_apart squares
 rook_table = refl
 
 queen_table : table Queen ≡ true
-unfolding table line_test implies goes_by before aims_at between lies_between is_within is_straight is_diagonal is_line steps_apart files_apart ranks_apart squares
+unfolding table line_test goes_by before aims_at between lies_between is_within is_straight is_diagonal is_line steps_apart files_apart ranks_apart squares
 queen_table = refl
 
 abbrev pub is_slider : Kind → Bool
@@ -84,9 +78,9 @@ pub last_step : (c : Color) (k : Kind) (u t : ℕ) → is_slider k ≡ true → 
 unfolding table line_test goes_by
 last_step c k u t slider small small' aims far =
     let v = before u t in
-    let test = all_squares_at (line_test k u) t (all_squares_at (λ u. list_all (line_test k u) squares) u (tested k slider) small) small' in
+    let test = pair_at (line_test k) (tested k slider) u t small small' in
     let start : (aims_at White k u t && not (steps_apart u t == 1)) ≡ true = rw (white_aims c k u t slider ∙ aims, far) refl in
-    let all = implied (aims_at White k u t && not (steps_apart u t == 1)) (goes_by k u t v) test start in
+    let all = if_at (aims_at White k u t && not (steps_apart u t == 1)) (goes_by k u t v) test start in
     let a = and_parts (ltb v 64 && aims_at White k u v && aims_at White k v t && (steps_apart v t == 1) && ltb (steps_apart u v) (steps_apart u t) && lies_between u t v) (list_all (lies_between u t) (between u v)) all in
     let b = and_parts (ltb v 64 && aims_at White k u v && aims_at White k v t && (steps_apart v t == 1) && ltb (steps_apart u v) (steps_apart u t)) (lies_between u t v) a.0 in
     let d = and_parts (ltb v 64 && aims_at White k u v && aims_at White k v t && (steps_apart v t == 1)) (ltb (steps_apart u v) (steps_apart u t)) b.0 in
@@ -105,30 +99,24 @@ last_step c k u t slider small small' aims far =
     }
 
 -- a test of what a filter leaves, as a test of all
-filtered : (f q : ℕ → Bool) (xs : List ℕ) → list_all f (filter q xs) ≡ list_all (λ x. implies (q x) (f x)) xs
-unfolding implies
+filtered : (f q : ℕ → Bool) (xs : List ℕ) → list_all f (filter q xs) ≡ list_all (λ x. not (q x) || f x) xs
 filtered f q [] = refl
 filtered f q (x ∷ xs) =
     elim (cases_Bool (q x)) [
-      | inl e ↦ ap (λ b. list_all f (cond b (x ∷ filter q xs) (filter q xs))) e ∙ ap (λ b. f x && b) (filtered f q xs) ∙ sym (ap (λ b. (not b || f x) && list_all (λ x. implies (q x) (f x)) xs) e)
-      | inr e ↦ ap (λ b. list_all f (cond b (x ∷ filter q xs) (filter q xs))) e ∙ filtered f q xs ∙ sym (ap (λ b. (not b || f x) && list_all (λ x. implies (q x) (f x)) xs) e)
+      | inl e ↦ ap (λ b. list_all f (cond b (x ∷ filter q xs) (filter q xs))) e ∙ ap (λ b. f x && b) (filtered f q xs) ∙ sym (ap (λ b. (not b || f x) && list_all (λ x. not (q x) || f x) xs) e)
+      | inr e ↦ ap (λ b. list_all f (cond b (x ∷ filter q xs) (filter q xs))) e ∙ filtered f q xs ∙ sym (ap (λ b. (not b || f x) && list_all (λ x. not (q x) || f x) xs) e)
     ]
 
 -- what lies between two squares passes a test that all between them pass
 pub between_at : (f : ℕ → Bool) (u t x : ℕ) → list_all f (between u t) ≡ true → x < 64 → lies_between u t x ≡ true → f x ≡ true
 unfolding between
 between_at f u t x all small lies =
-    implied (lies_between u t x) (f x) (all_squares_at (λ x. implies (lies_between u t x) (f x)) x (sym (filtered f (lies_between u t) squares) ∙ all) small) lies
-
-implied_from : (a b : Bool) → (a ≡ true → b ≡ true) → implies a b ≡ true
-unfolding implies
-implied_from true b h = h refl
-implied_from false b h = refl
+    if_at (lies_between u t x) (f x) (all_squares_at (λ x. not (lies_between u t x) || f x) x (sym (filtered f (lies_between u t) squares) ∙ all) small) lies
 
 pub between_from : (f : ℕ → Bool) (u t : ℕ) → ((x : ℕ) → x < 64 → lies_between u t x ≡ true → f x ≡ true) → list_all f (between u t) ≡ true
 unfolding between
 between_from f u t each =
-    filtered f (lies_between u t) squares ∙ each_square (λ x. implies (lies_between u t x) (f x)) (λ x small. implied_from (lies_between u t x) (f x) (each x small))
+    filtered f (lies_between u t) squares ∙ each_square (λ x. not (lies_between u t x) || f x) (λ x small. if_from (lies_between u t x) (f x) (each x small))
 
 -- the way to the last step is open, and nothing fixed stands there
 pub last_open : (p : Board) (s : Sets) (c : Color) (k : Kind) (u t : ℕ) → is_open p s u t ≡ true → (l : LastStep c k u t) → (is_open p s u l.from ≡ true) × (is_fixed p s l.from ≡ false)

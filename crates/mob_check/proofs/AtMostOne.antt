@@ -1,26 +1,13 @@
 -- Sets of at most one square.
-use Rattle.std.proofs.Common.{◌≡◌, ◌≢◌, ℕ, ◌<◌, Bool, true, false, not, ◌&&◌, ◌||◌, ◌==◌, cond, List, [], ◌∷◌, length, get_or, filter, Option, Some, None, slice_get, refl, sym, ap, subst, ◌∙◌, arith, inl, inr}
-use Rattle.std.specs.List.{list_any}
-use Rattle.std.proofs.lemmas.Bool.{and_parts, and_from, both_ways, cases_Bool, cases_eq, eqb-false, false_from_ne_true, ltb-true, ltb-false, ne_eqb, not-true}
+use Rattle.std.proofs.Common.{◌≡◌, ◌≢◌, ℕ, ◌<◌, Bool, true, false, not, ◌&&◌, ◌==◌, List, [], ◌∷◌, length, get_or, Option, Some, None, slice_get, refl, sym, ap, subst, ◌∙◌, arith, inl, inr}
+use Rattle.std.proofs.lemmas.Bool.{and_parts, and_from, both_ways, cases_eq, eqb-false, ltb-true, ltb-false, ne_eqb, not-true}
 use Rattle.std.proofs.lemmas.List.Elements.{filter_passes}
 use Rattle.cha_board.specs.Squares.{squares}
 use Rattle.cha_board.specs.SquareSets.{set_of, has_square, squares_in, set_without}
 use Rattle.cha_board.proofs.SetLaws.{has-set_of, squares_from_first, no_first_square}
-use Rattle.cha_board.proofs.Scans.{any_square_at}
 use Rattle.cha_board.proofs.Contents.{in_set_of}
+use Rattle.cha_moves.proofs.Facing.{none_left}
 use Rattle.mob_check.specs.Scenes.{has_at_most_one}
-
-nothing_left : (f : ℕ → Bool) (xs : List ℕ) → filter f xs ≡ [] → list_any f xs ≡ false
-nothing_left f [] none = refl
-nothing_left f (x ∷ xs) none =
-    elim (cases_Bool (f x)) [
-      | inl e ↦ (let cons = sym (ap (λ b. cond b (x ∷ filter f xs) (filter f xs)) e) ∙ none in cc)
-      | inr e ↦ ap (λ b. b || list_any f xs) e ∙ nothing_left f xs (sym (ap (λ b. cond b (x ∷ filter f xs) (filter f xs)) e) ∙ none)
-    ]
-
-none_in : (set : List Bool) → squares_in set ≡ [] → (u : ℕ) → u < 64 → has_square set u ≡ false
-none_in set none u small =
-    false_from_ne_true (has_square set u) (λ h. both_ways (list_any (has_square set) squares) (nothing_left (has_square set) squares none) (any_square_at (has_square set) u small h))
 
 no_length : (xs : List ℕ) → length xs ≡ 0 → xs ≡ []
 no_length [] e = refl
@@ -32,13 +19,13 @@ unfolding set_without
 only_first f s rest u small here =
     elim (cases_eq u s) [
       | inl e ↦ e
-      | inr ne ↦ absurd (both_ways (has_square (set_of (λ x. not (x == s) && has_square (set_of f) x)) u) (none_in (set_of (λ x. not (x == s) && has_square (set_of f) x)) rest u small)
+      | inr ne ↦ absurd (both_ways (has_square (set_of (λ x. not (x == s) && has_square (set_of f) x)) u) (none_left (set_of (λ x. not (x == s) && has_square (set_of f) x)) rest u small)
           (has-set_of (λ x. not (x == s) && has_square (set_of f) x) u small ∙ and_from (not (u == s)) (has_square (set_of f) u) (ap not (ne_eqb u s ne)) (has-set_of f u small ∙ here)))
     ]
 
 one_by_first : (f : ℕ → Bool) (o : Option ℕ) → slice_get (squares_in (set_of f)) 0 ≡ o → length (squares_in (set_of f)) < 2 → (u v : ℕ) → u < 64 → v < 64 → f u ≡ true → f v ≡ true → u ≡ v
 one_by_first f None first less u v small small' here there =
-    absurd (both_ways (has_square (set_of f) u) (none_in (set_of f) (no_first_square (set_of f) first) u small) (has-set_of f u small ∙ here))
+    absurd (both_ways (has_square (set_of f) u) (none_left (set_of f) (no_first_square (set_of f) first) u small) (has-set_of f u small ∙ here))
 one_by_first f (Some s) first less u v small small' here there =
     let long = ap (λ (xs : List ℕ). length xs) (squares_from_first (set_of f) s first) in
     let rest = no_length (squares_in (set_without (set_of f) s)) (omega (arith, long, less)) in

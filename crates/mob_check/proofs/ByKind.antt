@@ -1,5 +1,6 @@
 -- Where the men of a side are in reach by kinds, row by row.
-use Rattle.std.proofs.Common.{◌≡◌, ℕ, ◌+◌, ◌<◌, Bool, true, false, ◌&&◌, List, [], length, get_or, take, refl, ap, ◌∙◌}
+use Rattle.std.proofs.Common.{◌≡◌, ℕ, ◌+◌, ◌<◌, true, false, ◌&&◌, List, [], length, get_or, take, ap, ◌∙◌}
+use Rattle.std.proofs.lemmas.Bool.{and_right}
 use Rattle.cha_board.specs.declared.men.Color.{Color}
 use Rattle.cha_board.specs.declared.men.Kind.{Kind}
 use Rattle.cha_board.specs.declared.men.Kind.TheVariants.{Pawn, Knight, Bishop, Rook, Queen, King}
@@ -23,13 +24,9 @@ unfolding is_row_of
 own_row p c row j k own is = ap (λ x. same_kind x k && is_non_king c (man_at p.men row.origin)) is ∙ ap (λ b. same_kind j k && b) own
 
 -- and of none where its man is another's
-and_none : (b : Bool) → (b && false) ≡ false
-and_none true = refl
-and_none false = refl
-
 other_row : (p : Board) (c : Color) (row : Row) (k : Kind) → is_non_king c (man_at p.men row.origin) ≡ false → is_row_of p (MenAs c k) row ≡ false
 unfolding is_row_of
-other_row p c row k other = ap (λ b. same_kind row.kind k && b) other ∙ and_none (same_kind row.kind k)
+other_row p c row k other = and_right (same_kind row.kind k) (is_non_king c (man_at p.men row.origin)) other
 
 module _ (p : Board) (rows : List Row) (c : Color) (i : ℕ) (d : Row) (inside : i < length rows) where
   abbrev row : Row

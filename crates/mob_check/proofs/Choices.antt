@@ -1,14 +1,5 @@
--- Tests that follow from others, and choices between two.
-use Rattle.std.proofs.Common.{◌≡◌, Bool, true, false, not, ◌||◌, if◌then◌else◌, refl}
-
--- what follows from a test that holds
-pub if_at : (a b : Bool) → (not a || b) ≡ true → a ≡ true → b ≡ true
-if_at true b h e = h
-if_at false b h e = cc
-
-pub if_from : (a b : Bool) → (a ≡ true → b ≡ true) → (not a || b) ≡ true
-if_from true b h = h refl
-if_from false b h = refl
+-- Choices between two.
+use Rattle.std.proofs.Common.{◌≡◌, Bool, true, false, if◌then◌else◌, refl}
 
 -- what was chosen
 pub chosen_first : (b x y : Bool) → (if b then x else y) ≡ true → b ≡ true → x ≡ true

@@ -7,16 +7,13 @@ use Rattle.cha_board.specs.Squares.{squares}
 use Rattle.cha_board.specs.SquareSets.{has_square, squares_in}
 use Rattle.cha_board.proofs.SetLaws.{squares_are}
 use Rattle.cha_moves.proofs.Apart.{removed, filtered_apart, numbers_apart}
-use Rattle.cha_moves.proofs.Contained.{not_in_nothing, Contains-cons_cases, Contains-cons_here, Contains-cons_there, Contains-filter_from, Contains-filter_parts, Contains-squares_from, Contains-squares_small}
+use Rattle.cha_moves.proofs.Contained.{not_in_nothing, Contains-cons_cases, Contains-cons_here, Contains-cons_there, Contains-filter_parts, Contains-squares_small}
 
 -- the squares of a set differ, and each of them is in it
 pub squares_apart : (set : List Bool) → AreDistinct (squares_in set)
 squares_apart set =
     let D : List ℕ → Type 0 = λ xs. AreDistinct xs in
     filtered_apart (has_square set) squares (subst D (sym squares_are) (numbers_apart 0 64))
-
-pub listed_in : (set : List Bool) (n : ℕ) → n < 64 → has_square set n ≡ true → Contains (squares_in set) n
-listed_in set n small here = Contains-filter_from (has_square set) squares n (Contains-squares_from n small) here
 
 pub in_listed : (set : List Bool) (n : ℕ) → Contains (squares_in set) n → (n < 64) × (has_square set n ≡ true)
 in_listed set n there =

@@ -6,7 +6,7 @@ use Rattle.cha_board.specs.declared.men.Color.{Color}
 use Rattle.cha_board.specs.declared.men.Kind.{Kind}
 use Rattle.cha_board.specs.declared.men.Kind.TheVariants.{Pawn, Knight, Bishop, Rook, Queen, King}
 use Rattle.cha_board.specs.declared.men.Man.{Man}
-use Rattle.cha_board.specs.Men.{same_color, same_kind, is_of, is_kind, is_man, is_non_king}
+use Rattle.cha_board.specs.Men.{same_color, same_kind, is_man}
 use Rattle.cha_board.specs.Squares.{squares, aims_at, steps_apart}
 use Rattle.cha_board.specs.SquareSets.{set_of, empty_set, has_square, set_with, set_joined, set_common, set_minus}
 use Rattle.cha_board.proofs.SetLaws.{has-set_of, same_set}
@@ -20,7 +20,7 @@ use Rattle.mob_sets.specs.Rows.{kinds}
 use Rattle.mob_sets.proofs.KindTests.{any_kind_at, some_kind}
 use Rattle.mob_law.specs.Reach.{is_fixed, is_leaper, steps_to, guards_as, guards_from, is_guarded}
 use Rattle.mob_check.specs.Steps.{is_stepped_to, spread_of}
-use Rattle.mob_check.specs.Grounds.{has_own, guards_with, is_target_for}
+use Rattle.mob_check.specs.Grounds.{guards_with, is_target_for}
 
 -- the fixed men are those that are not loose
 pub fixed_are : (p : Board) (s : Sets) (loose occupied : List Bool) → loose ≡ set_of s.loose → occupied ≡ set_of (λ f. not (is_empty p.men f)) → set_minus occupied loose ≡ set_of (is_fixed p s)
@@ -29,20 +29,6 @@ fixed_are p s loose occupied loose_is occupied_is =
     same_set (λ f. has_square occupied f && not (has_square loose f)) (is_fixed p s) (λ f small.
     ap (λ b. b && not (has_square loose f)) (ap (λ x. has_square x f) occupied_is ∙ has-set_of (λ f. not (is_empty p.men f)) f small)
     ∙ ap (λ b. not (is_empty p.men f) && not b) (ap (λ x. has_square x f) loose_is ∙ has-set_of s.loose f small))
-
-own_test : (c : Color) (o : Option Man) → (is_of c o && not (is_kind King o)) ≡ is_non_king c o
-own_test c None = refl
-own_test c (Some man) = refl
-
--- a side's men other than its king
-pub own_are : (p : Board) (c : Color) → set_minus (set_of (λ s. is_of c (man_at p.men s))) (set_of (λ s. is_kind King (man_at p.men s))) ≡ set_of (has_own p c)
-unfolding set_minus has_own
-own_are p c =
-    let men = set_of (λ s. is_of c (man_at p.men s)) in
-    let kings = set_of (λ s. is_kind King (man_at p.men s)) in
-    same_set (λ s. has_square men s && not (has_square kings s)) (has_own p c) (λ s small.
-    ap (λ b. b && not (has_square kings s)) (has-set_of (λ s. is_of c (man_at p.men s)) s small)
-    ∙ ap (λ b. is_of c (man_at p.men s) && not b) (has-set_of (λ s. is_kind King (man_at p.men s)) s small) ∙ own_test c (man_at p.men s))
 
 -- what the fixed men of a kind guard
 pub guarded_with : (p : Board) (s : Sets) (c : Color) (k : Kind) (fixed : List Bool) → fixed ≡ set_of (is_fixed p s)

@@ -1,4 +1,4 @@
-pub mod Pulls
+pub mod Spreads
 pub mod Going
 pub mod Freeing
 pub mod GroundAt

@@ -2,6 +2,7 @@
 use Rattle.std.proofs.Common.{◌≡◌, ℕ, ◌+◌, ◌<◌, ◌==◌, Bool, true, false, ◌&&◌, ◌||◌, List, [], length, get_or, take, refl, ap, sym, ◌∙◌}
 use Rattle.std.specs.List.{list_any}
 use Rattle.std.proofs.lemmas.List.Folds.{list_any_more}
+use Rattle.std.proofs.lemmas.Bool.{and_right}
 use Rattle.cha_board.specs.declared.men.Color.{Color}
 use Rattle.cha_board.specs.Board.{Board}
 use Rattle.cha_board.specs.SquareSets.{set_of, has_square, empty_set, set_with, set_joined}
@@ -55,10 +56,6 @@ and_true : (a : Bool) → (a && true) ≡ a
 and_true true = refl
 and_true false = refl
 
-and_false : (a : Bool) → (a && false) ≡ false
-and_false true = refl
-and_false false = refl
-
 pub one_origin : (p : Board) (rows : List Row) (c : Color) (on : List Bool) (i : ℕ) (d : Row) → i < length rows → is_row_on p c on (get_or rows i d) ≡ true
     → set_with (origins_of p (take i rows) c on) (get_or rows i d).origin ≡ origins_of p (take (i + 1) rows) c on
 unfolding set_with origins_of originates
@@ -78,4 +75,4 @@ skipped_origin p rows c on i d inside is =
     let test = λ (o : ℕ) (r : Row). (o == r.origin) && is_row_on p c on r in
     let before = λ (o : ℕ). list_any (test o) (take i rows) in
     same_set before (λ o. list_any (test o) (take (i + 1) rows)) (λ o small.
-    sym (list_any_more (test o) rows i d inside ∙ ap (λ b. before o || b) (ap (λ b. (o == row.origin) && b) is ∙ and_false (o == row.origin)) ∙ or_none (before o)))
+    sym (list_any_more (test o) rows i d inside ∙ ap (λ b. before o || b) (and_right (o == row.origin) (is_row_on p c on row) is) ∙ or_none (before o)))

@@ -21,7 +21,8 @@ use Rattle.mob_check.specs.Nearness.{next_to}
 use Rattle.mob_check.specs.Reaches.{origins_of}
 use Rattle.mob_check.specs.Scenes.{squares_as, scene_of}
 use Rattle.mob_check.specs.Mates.{is_left, left_squares, is_filled, shuts_from, may_shut, stays_as, stays_on, men_near}
-use Rattle.mob_check.proofs.Counting.{squares_apart, listed_in, in_listed, counts, given}
+use Rattle.cha_moves.proofs.MateMoves.{in_squares}
+use Rattle.mob_check.proofs.Counting.{squares_apart, in_listed, counts, given}
 use Rattle.mob_check.proofs.MenInReach.{squares_as_is, king_gives, king_from, man_gives, man_from, near_gives, near_from, small_of}
 
 pub apart_from : (a b : ℕ) → a ≢ b → not (a == b) ≡ true
@@ -93,7 +94,7 @@ module _ (p : Board) (r : SetRows) (w : Color) (size : length p.men ≡ 64) wher
       let in_set = in_listed set n there in
       let f = at n in_set.0 in_set.1 in
       let m = t.near n f.man f.is in
-      (f.man, f.is, listed_in near_men f.man (small_of p.men (other_color w) f.man size m.stood) (near_from p r (other_color w) ks f.man size m))) t.once in
+      (f.man, f.is, in_squares near_men f.man (small_of p.men (other_color w) f.man size m.stood) (near_from p r (other_color w) ks f.man size m))) t.once in
       and_from (is_subset set blockers) (leb (length (squares_in set)) (length (squares_in near_men))) inside (le-leb (length (squares_in set)) (length (squares_in near_men)) few)
 
   -- and the other way round
@@ -108,7 +109,7 @@ module _ (p : Board) (r : SetRows) (w : Color) (size : length p.men ≡ 64) wher
         counted = g.f;
         each = λ n small step free.
             let here = left_from struck_set ks wk n small step free in
-            let man = g.each n (listed_in set n small here) in
+            let man = g.each n (in_squares set n small here) in
             record { here = subset_at set blockers both.0 n small here; man = man.0; is = man.1 };
         near = λ n o is. (let there = in_listed near_men o (g.inside n o is) in near_gives p r (other_color w) ks o there.0 there.1);
         once = g.once;

@@ -113,11 +113,6 @@ module _ (g : Ground) (o : ℕ) (c : Color) (k : Kind) (row : List Bool) where
       let two = and_parts (has_square row from.0) (goes_on g c k from.0 t) from.2 in
       rules.become from.0 t from.1 small (holds from.0 two.0) two.1 (not-true (stays c k t) both.1) j promotion
 
-  -- and so do the origins that become loose
-  pub freed_inside : (freed : List Bool) (r : Sets) → AreRules g r o c k → freed ≡ set_of (is_freed g o c k row) → ((u : ℕ) → has_square row u ≡ true → r.has o k u ≡ true)
-      → (x : ℕ) → has_square freed x ≡ true → r.loose x ≡ true
-  freed_inside freed r rules is holds x h = (let here = shown freed (is_freed g o c k row) is x h in rules.free row holds x here.0 here.1)
-
   -- sets that have all this keep the rules
   pub rules_from : (s : Sets) → o < 64 → ((u : ℕ) → u < 64 → s.has o k u ≡ true → has_square row u ≡ true)
       → ((t : ℕ) → t < 64 → comes_on g c k row t ≡ true → s.has o k t ≡ true)

@@ -43,7 +43,7 @@ fn passed(ground: &Ground, side: Color, kind: Kind, row: SquareSet) -> SquareSet
 fn left(ground: &Ground, origin: Square, side: Color, kind: Kind, row: SquareSet) -> SquareSet
     ensures { result ≡ set_of (is_left ground.now origin side kind row) }
 {
-    let single = SquareSet::empty().with(origin);
+    let single = SquareSet::single(origin);
     if entered(ground, side, kind, row.common(single)).is_empty() {
         SquareSet::empty()
     } else {

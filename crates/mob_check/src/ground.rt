@@ -5,7 +5,7 @@ ghost use Rattle.cha_board.specs.declared.men.Color.TheVariants.{White, Black};
 ghost use Rattle.cha_board.specs.SquareSets.{set_of};
 ghost use Rattle.mob_sets.specs.Mobility.{Sets};
 ghost use Rattle.mob_law.specs.Reach.{is_fixed, is_guarded};
-ghost use Rattle.mob_check.specs.Grounds.{is_reached, has_own, guards_with, is_target_for, side_ground_of, ground_of, side_in};
+ghost use Rattle.mob_check.specs.Grounds.{is_reached, guards_with, is_target_for, side_ground_of, ground_of, side_in};
 
 use crate::steps::spread;
 use cha_board::{Color, Kind, Position, SquareSet};
@@ -62,19 +62,11 @@ fn side_ground(position: &Position, fixed: SquareSet, reach: SquareSet, side: Co
     ensures { (s : Sets) → fixed ≡ set_of (is_fixed position.now s) → reach ≡ set_of (is_reached position.now s side) → result ≡ side_ground_of position.now s side }
 {
     SideGround {
-        men: own_squares(position, side),
+        men: position.non_kings(side),
         reach,
         guards: guarded_squares(position, fixed, side),
         target: target_squares(position, side),
     }
-}
-
-/// The squares on which men of a side other than its king stand.
-pub fn own_squares(position: &Position, side: Color) -> SquareSet
-    ensures { result ≡ set_of (has_own position.now side) }
-{
-    let men = position.placement();
-    men.of_side(side).minus(men.all_of_kind(Kind::King))
 }
 
 /// The squares that fixed men of a side attack, whatever stands elsewhere.
@@ -104,7 +96,7 @@ fn target_squares(position: &Position, side: Color) -> SquareSet
         None => SquareSet::empty(),
         Some(target) => {
             if side.is(position.side()) {
-                SquareSet::empty().with(target)
+                SquareSet::single(target)
             } else {
                 SquareSet::empty()
             }

@@ -5,7 +5,6 @@ ghost use Rattle.cha_board.specs.Board.{man_at};
 ghost use Rattle.cha_board.specs.Men.{is_non_king};
 ghost use Rattle.mob_check.specs.Reaches.{is_row_of, is_row_on, reach_of, origins_of};
 
-use crate::ground::own_squares;
 use cha_board::{Color, Kind, Position, SquareSet, is_man_of};
 use mob_sets::SetRow;
 
@@ -73,5 +72,5 @@ pub fn is_own(position: &Position, side: Color, row: SetRow) -> bool
     ensures { result ≡ is_non_king side (man_at position.now.men row.origin) }
 {
     let _origin = row.origin.index();
-    own_squares(position, side).has(row.origin)
+    position.non_kings(side).has(row.origin)
 }

@@ -27,7 +27,7 @@ pub use bound::proves_unwinnable;
 pub use closing::closed;
 pub use frees::freed;
 pub use goes::{comes, ends};
-pub use ground::{Ground, SideGround, own_squares};
+pub use ground::{Ground, SideGround};
 pub use mates::no_mate;
 pub use rules::rules_on_the_ground;
 pub use steps::spread;

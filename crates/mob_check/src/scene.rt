@@ -7,7 +7,6 @@ ghost use Rattle.mob_sets.specs.Rows.{sets_of};
 ghost use Rattle.mob_check.specs.Grounds.{has_own};
 ghost use Rattle.mob_check.specs.Scenes.{squares_as, all_in_reach, reach_nowhere, reach_with, reach_by_kind, has_at_most_one, scene_of};
 
-use crate::ground::own_squares;
 use crate::groups::{Group, is_own, squares_of};
 use cha_board::{Color, Kind, Position, SquareSet};
 use mob_sets::{SetRow, Sets};
@@ -132,11 +131,11 @@ fn fixed_squares(position: &Position, sets: &Sets) -> SquareSet
 }
 
 /// Whether a side has at most one man beside its king.
-#[tactic(auto, unfolding(crate::specs::Scenes::has_at_most_one))]
+#[tactic(auto, unfolding(crate::specs::Scenes::has_at_most_one, crate::specs::Grounds::has_own))]
 fn one_man(position: &Position, side: Color) -> bool
     ensures { result ≡ has_at_most_one (set_of (has_own position.now side)) }
 {
-    own_squares(position, side).len() < 2
+    position.non_kings(side).len() < 2
 }
 
 /// Where the men of a side other than its king are in reach.

@@ -2,7 +2,7 @@
 
 ghost use Rattle.std.specs.Prelude.{◌≡◌};
 ghost use Rattle.cha_board.specs.declared.men.Color.{Color as Side};
-ghost use Rattle.cha_board.specs.declared.men.Kind.TheVariants.{Pawn, Knight, Bishop, Rook, Queen, King};
+ghost use Rattle.cha_board.specs.declared.men.Kind.TheVariants.{Pawn, Knight, Bishop, Rook};
 ghost use Rattle.mob_check.specs.Steps.{spread_of};
 
 use cha_board::{Color, Kind, SquareSet};
@@ -16,8 +16,8 @@ pub fn spread(side: Color, kind: Kind, from: SquareSet) -> SquareSet
         Kind::Knight => knight_jumps(from),
         Kind::Bishop => diagonal_steps(from),
         Kind::Rook => straight_steps(from),
-        Kind::Queen => king_steps(from),
-        Kind::King => king_steps(from),
+        Kind::Queen => from.king_steps(),
+        Kind::King => from.king_steps(),
     }
 }
 
@@ -65,16 +65,4 @@ fn straight_steps(from: SquareSet) -> SquareSet
     let _number = from.bits();
     let beside = from.east().joined(from.west());
     from.north().joined(from.south()).joined(beside)
-}
-
-/// The squares one step away in all directions.
-fn king_steps(from: SquareSet) -> SquareSet
-    ensures king { (c : Side) → result ≡ spread_of c King from }
-    ensures queen { (c : Side) → result ≡ spread_of c Queen from }
-{
-    // The number of a set tells that it has 64 truth values.
-    let _number = from.bits();
-    let beside = from.east().joined(from.west());
-    let row = beside.joined(from);
-    beside.joined(row.north()).joined(row.south())
 }

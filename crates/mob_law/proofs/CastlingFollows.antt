@@ -17,9 +17,11 @@ use Rattle.mob_sets.specs.Mobility.{Sets}
 use Rattle.mob_law.specs.Closed.{Entry, EnemyReaches, Castles, IsClosed}
 use Rattle.mob_law.specs.Castling.{IsClosedButForCastling}
 use Rattle.cha_board.proofs.ManTests.{not_of_other}
-use Rattle.mob_law.proofs.Geometry.{near, king_aims, king_aims_from}
+use Rattle.cha_moves.proofs.Near.{king_aims}
+use Rattle.mob_law.proofs.Geometry.{near, king_aims_from}
 use Rattle.mob_law.proofs.Standing.{open_near}
-use Rattle.mob_law.proofs.Guards.{Guard, takes_no_pawn, some_guard, goes_there, is_king, own_unguarded, kings_apart}
+use Rattle.mob_law.proofs.FixedGuards.{Guard, some_guard}
+use Rattle.mob_law.proofs.Guards.{takes_no_pawn, goes_there, is_king, own_unguarded, kings_apart}
 
 -- who stands next to `first` stands on `second` or next to it, or on the home or next to it
 abbrev meets : Color → ℕ → ℕ → ℕ → Bool

@@ -6,10 +6,10 @@ use Rattle.cha_board.specs.declared.men.Color.{Color}
 use Rattle.cha_board.specs.declared.men.Color.TheVariants.{White, Black}
 use Rattle.cha_board.specs.Squares.{squares, rank_of, files_apart, is_rank_ahead}
 use Rattle.cha_board.specs.Board.{Board}
-use Rattle.cha_board.proofs.Scans.{all_squares_at}
 use Rattle.cha_moves.specs.Moves.{second_rank, fourth_rank, last_rank, middle}
 use Rattle.mob_sets.specs.Mobility.{Sets}
 use Rattle.mob_law.specs.Closed.{PawnsStep, PawnsDoubleStep}
+use Rattle.mob_law.proofs.Geometry.{pair_at}
 
 -- a pawn of c steps twice from u to t, and once, not onto its last rank
 twice : Color → ℕ → ℕ → Bool
@@ -43,7 +43,7 @@ unfolding over_middle twice
 two_steps c u t small small' file begins ends =
     let is : twice c u t ≡ true = and_from ((files_apart u t == 0) && (rank_of u == second_rank c)) (rank_of t == fourth_rank c)
     (and_from (files_apart u t == 0) (rank_of u == second_rank c) (eq-eqb (files_apart u t) 0 file) (eq-eqb (rank_of u) (second_rank c) begins)) (eq-eqb (rank_of t) (fourth_rank c) ends) in
-    let test : over_middle c u t ≡ true = all_squares_at (over_middle c u) t (all_squares_at (λ u. list_all (over_middle c u) squares) u (table c) small) small' in
+    let test : over_middle c u t ≡ true = pair_at (over_middle c) (table c) u t small small' in
     let both : (once c u (middle u t) && once c (middle u t) t) ≡ true = rw is at test in
     let each = and_parts (once c u (middle u t)) (once c (middle u t) t) both in
     (once_is c u (middle u t) each.0, once_is c (middle u t) t each.1)

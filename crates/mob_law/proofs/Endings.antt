@@ -16,14 +16,14 @@ use Rattle.cha_moves.specs.Step.{Move}
 use Rattle.cha_moves.specs.Moves.{goes, is_en_passant, is_short_castling, is_long_castling, promotes_well, may_enter, is_pseudo_legal, is_pseudo_legal_as, arriving, men_after, is_legal_in}
 use Rattle.cha_moves.specs.Ends.{IsMated}
 use Rattle.cha_moves.proofs.Clearing.{clear_at}
-use Rattle.cha_moves.proofs.Kept.{arrived_is, kings_kept, target_of}
+use Rattle.cha_moves.proofs.Kept.{arrived_is, kings_kept, target_of, king_place}
 use Rattle.cha_moves.proofs.Listed.{listed}
 use Rattle.cha_moves.proofs.Made.{may_gives, length-moved, moved_to, moved_from, moved_other, men_moved, makes, Plainly, Passing, Shortly, Longly}
 use Rattle.mob_law.specs.Reach.{steps_to}
 use Rattle.mob_law.specs.Threats.{ends_check}
 use Rattle.mob_law.proofs.Attackers.{some_attacker}
-use Rattle.mob_law.proofs.Geometry.{near, king_aims, aims_at_self}
-use Rattle.mob_law.proofs.Kings.{king_is_one}
+use Rattle.cha_moves.proofs.Near.{king_aims}
+use Rattle.mob_law.proofs.Geometry.{near, aims_at_self}
 use Rattle.mob_law.proofs.Ways.{steps_parts, clear_over, piece_way, pawn_way, becoming, some_arrives, not_of_kind}
 
 -- The squares of a check by w's only man beside its king: that man's on s, the loser's king's on ks and the winner's on wk.
@@ -152,12 +152,12 @@ module _ (q : Board) (w : Color) (valid : IsValid q) (mate : IsMated q (other_co
               none_some (man_at q.men t) l.man (empty_is_none (man_at q.men t) (free_between x.0)) l.found)
         ]
 
-    king_place : king_of then (other_color w) ≡ ks
-    king_place =
+    loser_place : king_of then (other_color w) ≡ ks
+    loser_place =
         let mover = may_gives q by may in
         let kings : has_one_king then (other_color w) ≡ true = rw plain at (kings_kept q by mover.0 (record { valid = valid; from = small; to = r.to; may = mover.1 }) (other_color w)) in
         let inside : ks < length then = rw (length-moved q.men n t (arriving (man_at q.men n) by.promotion), valid.size) check.ks_small in
-        king_is_one then (other_color w) ks kings inside (rw (stays ks king_not_from king_not_to) check.loser)
+        king_place then (other_color w) ks kings inside (rw (stays ks king_not_from king_not_to) check.loser)
 
     -- nobody attacks it then: the winner's king is far, and the checker is taken, or sees no longer
     unattacked : attacked then w ks ≡ true → ⊥
@@ -176,8 +176,8 @@ module _ (q : Board) (w : Color) (valid : IsValid q) (mate : IsMated q (other_co
           | inl king ↦ (
               let kind = same_kind_equal a.man.kind King king in
               let size = valid.size in
-              let here = king_is_one q.men w u (valid.kings w) (rw size from.1) (is_man_from (man_at q.men u) a.man w King stood (same_color_equal a.man.color w a.own) kind) in
-              let there = king_is_one q.men w wk (valid.kings w) (rw size check.wk_small) check.winner in
+              let here = king_place q.men w u (valid.kings w) (rw size from.1) (is_man_from (man_at q.men u) a.man w King stood (same_color_equal a.man.color w a.own) kind) in
+              let there = king_place q.men w wk (valid.kings w) (rw size check.wk_small) check.winner in
               let K : Kind → Type 0 = λ x. aims_at w x u ks ≡ true in
               let step = king_aims w u ks (subst K kind a.aims) in
               let back = (near u ks from.1 check.ks_small step).back in
@@ -199,7 +199,7 @@ module _ (q : Board) (w : Color) (valid : IsValid q) (mate : IsMated q (other_co
     unfolding in_check is_legal_in
     answered =
         let safe : in_check then (other_color w) ≡ false = false_from_ne_true (in_check then (other_color w)) (λ checked.
-        let seen : attacked then w ks ≡ true = rw (other_other, king_place) at checked in
+        let seen : attacked then w ks ≡ true = rw (other_other, loser_place) at checked in
         unattacked seen) in
         let S : Color → Type 0 = λ c. in_check (men_after q by) c ≡ false in
         let safe' : in_check (men_after q by) q.side ≡ false = subst S (sym mate.to_move) (rw plain safe) in

@@ -8,21 +8,14 @@ use Rattle.cha_board.specs.declared.men.Kind.{Kind}
 use Rattle.cha_board.specs.declared.men.Kind.TheVariants.{Pawn, Knight, Bishop, Rook, Queen, King}
 use Rattle.cha_board.specs.Board.{home_of}
 use Rattle.cha_board.specs.Squares.{squares, files_apart, ranks_apart, steps_apart, is_straight, is_diagonal, is_line, is_rank_ahead, aims_at, is_within, lies_between, between}
+use Rattle.cha_board.proofs.Identity.{if_at}
 use Rattle.cha_board.proofs.Scans.{all_squares_at}
+use Rattle.cha_moves.proofs.Near.{king_aims}
 use Rattle.mob_law.specs.Reach.{is_leaper}
 
 -- a test that holds of all pairs of squares
-pair_at : (f : ℕ → ℕ → Bool) → list_all (λ s. list_all (f s) squares) squares ≡ true → (s t : ℕ) → s < 64 → t < 64 → f s t ≡ true
+pub pair_at : (f : ℕ → ℕ → Bool) → list_all (λ s. list_all (f s) squares) squares ≡ true → (s t : ℕ) → s < 64 → t < 64 → f s t ≡ true
 pair_at f table s t small small' = all_squares_at (f s) t (all_squares_at (λ s. list_all (f s) squares) s table small) small'
-
--- a implies b
-implies : Bool → Bool → Bool
-implies a b = not a || b
-
-implied : (a b : Bool) → implies a b ≡ true → a ≡ true → b ≡ true
-unfolding implies
-implied true b h e = h
-implied false b h e = cc
 
 is_none_of : List ℕ → Bool
 is_none_of [] = true
@@ -35,26 +28,26 @@ none_of (x ∷ xs) h = cc
 
 -- a step of one square: the squares differ, it can be gone back, and nothing lies between
 near_test : ℕ → ℕ → Bool
-near_test s t = implies (steps_apart s t == 1) (not (s == t) && (steps_apart t s == 1) && is_none_of (between s t))
+near_test s t = not (steps_apart s t == 1) || (not (s == t) && (steps_apart t s == 1) && is_none_of (between s t))
 
 near_table : list_all (λ s. list_all (near_test s) squares) squares ≡ true
-unfolding near_test implies is_none_of between lies_between is_within is_straight is_diagonal is_line steps_apart files_apart ranks_apart squares
+unfolding near_test is_none_of between lies_between is_within is_straight is_diagonal is_line steps_apart files_apart ranks_apart squares
 near_table = refl
 
 -- a knight's jump has nothing between its squares
 jump_test : ℕ → ℕ → Bool
-jump_test s t = implies (aims_at White Knight s t) (is_none_of (between s t))
+jump_test s t = not (aims_at White Knight s t) || is_none_of (between s t)
 
 jump_table : list_all (λ s. list_all (jump_test s) squares) squares ≡ true
-unfolding jump_test implies aims_at is_none_of between lies_between is_within is_straight is_diagonal is_line steps_apart files_apart ranks_apart squares
+unfolding jump_test aims_at is_none_of between lies_between is_within is_straight is_diagonal is_line steps_apart files_apart ranks_apart squares
 jump_table = refl
 
 -- a pawn captures one step away
 pawn_test : Color → ℕ → ℕ → Bool
-pawn_test c s t = implies (aims_at c Pawn s t) (steps_apart s t == 1)
+pawn_test c s t = not (aims_at c Pawn s t) || (steps_apart s t == 1)
 
 pawn_table : (c : Color) → list_all (λ s. list_all (pawn_test c s) squares) squares ≡ true
-unfolding pawn_test implies aims_at is_rank_ahead steps_apart files_apart ranks_apart squares
+unfolding pawn_test aims_at is_rank_ahead steps_apart files_apart ranks_apart squares
 pawn_table White = refl
 pawn_table Black = refl
 
@@ -86,7 +79,7 @@ pub record Near (s t : ℕ) : Type 0 where
 pub near : (s t : ℕ) → s < 64 → t < 64 → (steps_apart s t == 1) ≡ true → Near s t
 unfolding near_test
 near s t small small' step =
-    let h = implied (steps_apart s t == 1) (not (s == t) && (steps_apart t s == 1) && is_none_of (between s t)) (pair_at near_test near_table s t small small') step in
+    let h = if_at (steps_apart s t == 1) (not (s == t) && (steps_apart t s == 1) && is_none_of (between s t)) (pair_at near_test near_table s t small small') step in
     let a = and_parts (not (s == t) && (steps_apart t s == 1)) (is_none_of (between s t)) h in
     let b = and_parts (not (s == t)) (steps_apart t s == 1) a.0 in
     record {
@@ -95,11 +88,7 @@ near s t small small' step =
       clear = none_of (between s t) a.1;
     }
 
--- a king aims one step away
-pub king_aims : (c : Color) (s t : ℕ) → aims_at c King s t ≡ true → (steps_apart s t == 1) ≡ true
-unfolding aims_at
-king_aims c s t h = h
-
+-- a king aims at what is one step away
 pub king_aims_from : (c : Color) (s t : ℕ) → (steps_apart s t == 1) ≡ true → aims_at c King s t ≡ true
 unfolding aims_at
 king_aims_from c s t h = h
@@ -113,12 +102,12 @@ aims_at_self c k s small =
 -- a pawn aims one step away
 pawn_near : (c : Color) (s t : ℕ) → s < 64 → t < 64 → aims_at c Pawn s t ≡ true → (steps_apart s t == 1) ≡ true
 unfolding pawn_test
-pawn_near c s t small small' aims = implied (aims_at c Pawn s t) (steps_apart s t == 1) (pair_at (pawn_test c) (pawn_table c) s t small small') aims
+pawn_near c s t small small' aims = if_at (aims_at c Pawn s t) (steps_apart s t == 1) (pair_at (pawn_test c) (pawn_table c) s t small small') aims
 
 -- a knight jumps over nothing
 jump_clear : (c : Color) (s t : ℕ) → s < 64 → t < 64 → aims_at c Knight s t ≡ true → between s t ≡ []
 unfolding jump_test aims_at
-jump_clear c s t small small' aims = none_of (between s t) (implied (aims_at White Knight s t) (is_none_of (between s t)) (pair_at jump_test jump_table s t small small') aims)
+jump_clear c s t small small' aims = none_of (between s t) (if_at (aims_at White Knight s t) (is_none_of (between s t)) (pair_at jump_test jump_table s t small small') aims)
 
 -- whatever attacks by a step or a jump, or from a square next to its own, has nothing in its way
 pub leap_clear : (c : Color) (k : Kind) (s t : ℕ) → s < 64 → t < 64 → aims_at c k s t ≡ true → (is_leaper k || (steps_apart s t == 1)) ≡ true → between s t ≡ []

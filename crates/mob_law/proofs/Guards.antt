@@ -1,51 +1,27 @@
 -- Which fixed men guard a square on which nothing is fixed, where all rules but those of castling hold.
-use Rattle.std.proofs.Common.{◌≡◌, ◌≢◌, ℕ, ◌<◌, Bool, true, false, not, ◌&&◌, ◌||◌, ◌==◌, Option, Some, None, refl, sym, subst, ap, ◌∙◌, inl, inr}
+use Rattle.std.proofs.Common.{◌≡◌, ◌≢◌, ℕ, ◌<◌, Bool, true, false, not, ◌==◌, Some, refl, sym, subst, ap, ◌∙◌, inl, inr}
 use Rattle.std.specs.List.{list_all}
-use Rattle.std.proofs.lemmas.Bool.{and_parts, both_ways, false_from_ne_true, not-true}
+use Rattle.std.proofs.lemmas.Bool.{both_ways, false_from_ne_true, not-true}
 use Rattle.cha_board.specs.declared.men.Color.{Color}
 use Rattle.cha_board.specs.declared.men.Kind.{Kind}
 use Rattle.cha_board.specs.declared.men.Kind.TheVariants.{Pawn, Knight, Bishop, Rook, Queen, King}
 use Rattle.cha_board.specs.declared.men.Man.{Man}
-use Rattle.cha_board.specs.Men.{other_color, same_color, is_man}
+use Rattle.cha_board.specs.Men.{other_color, is_man}
 use Rattle.cha_board.specs.Squares.{squares, steps_apart, aims_at}
 use Rattle.cha_board.specs.Board.{Board, man_at, in_check, home_of, IsValid}
 use Rattle.cha_board.proofs.Scans.{all_squares_at}
-use Rattle.cha_board.proofs.Identity.{same_color_equal, other_other, is_man_from}
-use Rattle.mob_law.specs.Reach.{is_fixed, is_leaper, guards_as, guards_from, is_guarded}
+use Rattle.cha_board.proofs.Identity.{other_other, is_man_from}
+use Rattle.mob_law.specs.Reach.{is_fixed, is_guarded}
 use Rattle.mob_sets.specs.Mobility.{Sets}
 use Rattle.mob_law.specs.Closed.{Entry, EnemyReaches}
 use Rattle.mob_law.specs.Castling.{IsClosedButForCastling}
 use Rattle.cha_board.proofs.ManTests.{either_color}
-use Rattle.mob_law.proofs.Geometry.{near, king_aims, leap_clear}
-use Rattle.mob_law.proofs.Kings.{king_is_one}
+use Rattle.cha_moves.proofs.Near.{king_aims}
+use Rattle.cha_moves.proofs.Kept.{king_place}
+use Rattle.mob_law.proofs.Geometry.{near, leap_clear}
+use Rattle.mob_law.proofs.FixedGuards.{Guard, some_guard}
 use Rattle.mob_law.proofs.Standing.{fixed_stands, open_near}
-use Rattle.cha_board.proofs.Contents.{some_square}
 use Rattle.mob_law.proofs.Mating.{kings_far}
-
--- a fixed man of c on f that attacks t for ever
-pub record Guard (p : Board) (s : Sets) (c : Color) (t f : ℕ) : Type 0 where
-  pub man : Man
-  pub found : man_at p.men f ≡ Some man
-  pub color : man.color ≡ c
-  pub fixed : is_fixed p s f ≡ true
-  pub aims : aims_at c man.kind f t ≡ true
-  pub near : (is_leaper man.kind || (steps_apart f t == 1)) ≡ true
-
-guard_of : (p : Board) (s : Sets) (c : Color) (t f : ℕ) (o : Option Man) → man_at p.men f ≡ o → is_fixed p s f ≡ true → guards_as c f t o ≡ true → Guard p s c t f
-unfolding guards_as
-guard_of p s c t f None found fixed h = cc
-guard_of p s c t f (Some man) found fixed h =
-    let all = and_parts (same_color man.color c && aims_at c man.kind f t) (is_leaper man.kind || (steps_apart f t == 1)) h in
-    let two = and_parts (same_color man.color c) (aims_at c man.kind f t) all.0 in
-    record { man = man; found = found; color = same_color_equal man.color c two.0; fixed = fixed; aims = two.1; near = all.1 }
-
--- what is guarded is guarded by a man
-pub some_guard : (p : Board) (s : Sets) (c : Color) (t : ℕ) → is_guarded p s c t ≡ true → (f : ℕ) × (f < 64) × Guard p s c t f
-unfolding is_guarded guards_from
-some_guard p s c t h =
-    let from = some_square (guards_from p s c t) h in
-    let both = and_parts (is_fixed p s from.0) (guards_as c from.0 t (man_at p.men from.0)) from.2 in
-    (from.0, from.1, guard_of p s c t from.0 (man_at p.men from.0) refl both.0 both.1)
 
 -- a pawn, a king, or another piece
 pub data Class (k : Kind) : Type 0 where
@@ -115,8 +91,8 @@ module _ (p : Board) (s : Sets) (valid : IsValid p) (rules : IsClosedButForCastl
         | APawn e ↦ both_ways (aims_at c Pawn f t) (not-true (aims_at c Pawn f t) (all_squares_at (takes_no_pawn c t) f no_pawn from.1)) (subst A e g.aims)
         | AKing e ↦ (
             let here = is_man_from (man_at p.men f) g.man c King g.found g.color e in
-            let there = king_is_one p.men c f (valid.kings c) (rw valid.size from.1) here in
-            let at_home = king_is_one p.men c (home_of c) (valid.kings c) (rw valid.size home) king in
+            let there = king_place p.men c f (valid.kings c) (rw valid.size from.1) here in
+            let at_home = king_place p.men c (home_of c) (valid.kings c) (rw valid.size home) king in
             let one : f ≡ home_of c = sym there ∙ at_home in
             let step : (steps_apart f t == 1) ≡ true = king_aims c f t (subst A e g.aims) in
             both_ways (steps_apart (home_of c) t == 1) far (rw one at step))
@@ -129,8 +105,8 @@ module _ (p : Board) (s : Sets) (valid : IsValid p) (rules : IsClosedButForCastl
   kings_apart c f home small king enemy step =
       let S : Color → Type 0 = λ x. in_check p.men x ≡ false in
       let safe : in_check p.men (other_color p.side) ≡ false = not-true (in_check p.men (other_color p.side)) valid.opponent in
-      let own = king_is_one p.men c (home_of c) (valid.kings c) (rw valid.size home) king in
-      let foe = king_is_one p.men (other_color c) f (valid.kings (other_color c)) (rw valid.size small) enemy in
+      let own = king_place p.men c (home_of c) (valid.kings c) (rw valid.size home) king in
+      let foe = king_place p.men (other_color c) f (valid.kings (other_color c)) (rw valid.size small) enemy in
       elim (either_color c p.side) [
         | inl e ↦ (
             let K : Color → Type 0 = λ x. is_man x King (man_at p.men (home_of c)) ≡ true in

@@ -1,6 +1,5 @@
 pub mod Facts
 pub mod Geometry
-pub mod Kings
 pub mod Attackers
 pub mod Standing
 pub mod Begin
@@ -11,6 +10,7 @@ pub mod Ways
 pub mod Endings
 pub mod Mating
 pub mod OneMan
+pub mod FixedGuards
 pub mod PieceMoves
 pub mod Pawns
 pub mod Castles

@@ -12,7 +12,7 @@ use Rattle.cha_moves.specs.Step.{Move}
 use Rattle.cha_moves.specs.Moves.{may_enter, is_pseudo_legal, moved, men_after, is_legal_in}
 use Rattle.cha_moves.specs.Ends.{IsMated}
 use Rattle.cha_board.proofs.Identity.{other_other, same_color_self, same_color_equal, same_kind_equal, ManOf, man_of, is_man_from, none_some, some_inj, on_board}
-use Rattle.cha_moves.proofs.Kept.{kings_kept}
+use Rattle.cha_moves.proofs.Kept.{kings_kept, king_place}
 use Rattle.cha_moves.proofs.Made.{may_gives, length-moved, moved_to, moved_from, moved_other}
 use Rattle.cha_moves.proofs.Listed.{listed}
 use Rattle.cha_moves.proofs.KingSquare.{king_stands}
@@ -21,11 +21,11 @@ use Rattle.mob_sets.specs.Mobility.{Sets}
 use Rattle.mob_law.specs.Threats.{HasAtMostOneMan, Checks, ends_check, Covered, Blocked, NextToKing, Attacked, Threat}
 use Rattle.mob_law.proofs.Facts.{Facts, FactsHold}
 use Rattle.cha_board.proofs.ManTests.{either_color, not_of_other, is_non_king_from}
-use Rattle.mob_law.proofs.Geometry.{near, king_aims, king_aims_from}
+use Rattle.cha_moves.proofs.Near.{king_aims}
+use Rattle.mob_law.proofs.Geometry.{near, king_aims_from}
 use Rattle.mob_law.proofs.Standing.{all_weaker, empty_not_fixed, open_from, king_on, non_king_on, origin_is_non_king}
 use Rattle.mob_law.proofs.KingSteps.{king_may, step_plain}
 use Rattle.mob_law.proofs.Attackers.{some_attacker, attacks_by, clear_near}
-use Rattle.mob_law.proofs.Kings.{king_is_one}
 use Rattle.mob_law.proofs.Counted.{counted_on, counted_here, counted_near, counted_once}
 use Rattle.mob_law.proofs.Endings.{cannot_end}
 
@@ -121,7 +121,7 @@ module _ (p : Board) (s : Sets) (q : Board) (w : Color) (origin : ℕ → ℕ) (
       let size = scene.valid.size in
       let none : same_kind a.man.kind King ≡ false = false_from_ne_true (same_kind a.man.kind King) (λ h.
       let e = same_kind_equal a.man.kind King h in
-      let place = king_is_one q.men w u (scene.valid.kings w) (omega (arith, from.1, size)) (is_man_from (man_at q.men u) a.man w King a.found (same_color_equal a.man.color w a.own) e) in
+      let place = king_place q.men w u (scene.valid.kings w) (omega (arith, from.1, size)) (is_man_from (man_at q.men u) a.man w King a.found (same_color_equal a.man.color w a.own) e) in
       let step : (steps_apart u (loser_on q w) == 1) ≡ true = king_aims w u (loser_on q w) (rw e at a.aims) in
       let back = (near u (loser_on q w) from.1 st.loser_small step).back in
       both_ways _ st.far (rw place back)) in
@@ -177,7 +177,7 @@ module _ (p : Board) (s : Sets) (q : Board) (w : Color) (origin : ℕ → ℕ) (
       let arrived : man_at men n ≡ a = moved_to q.men k n a in_n in
       let left : man_at men k ≡ None = moved_from q.men k n a in_k ne in
       let kings : has_one_king men (other_color w) ≡ true = rw same at (kings_kept q (hop q w n) mover.0 (record { valid = valid; from = st.loser_small; to = small; may = mover.1 }) (other_color w)) in
-      let place : king_of men (other_color w) ≡ n = king_is_one men (other_color w) n kings (rw (length-moved q.men k n a) in_n) (rw arrived st.loser_is) in
+      let place : king_of men (other_color w) ≡ n = king_place men (other_color w) n kings (rw (length-moved q.men k n a) in_n) (rw arrived st.loser_is) in
       let check : attacked men (other_color (other_color w)) (king_of men (other_color w)) ≡ true = rw same at (hop_checked p s q w origin scene st n small may_go) in
       let check' : attacked men w n ≡ true = rw (other_other, place) at check in
       let from = some_attacker men w n check' in
@@ -189,7 +189,7 @@ module _ (p : Board) (s : Sets) (q : Board) (w : Color) (origin : ℕ → ℕ) (
       elim (cases_Bool (same_kind e.man.kind King)) [
         | inl h ↦ (
             let f = same_kind_equal e.man.kind King h in
-            let spot = king_is_one q.men w u (valid.kings w) (omega (arith, from.1, size)) (is_man_from (man_at q.men u) e.man w King stood (same_color_equal e.man.color w e.own) f) in
+            let spot = king_place q.men w u (valid.kings w) (omega (arith, from.1, size)) (is_man_from (man_at q.men u) e.man w King stood (same_color_equal e.man.color w e.own) f) in
             let near_by : (steps_apart u n == 1) ≡ true = king_aims w u n (rw f at e.aims) in
             NextToKing (eqb-true (steps_apart (winner_on q w) n) 1 (rw spot near_by)))
         | inr h ↦ Attacked e.man.kind u (record {
@@ -222,12 +222,12 @@ module _ (p : Board) (s : Sets) (q : Board) (w : Color) (origin : ℕ → ℕ) (
   blocked_at d king (inl e) =
       let size = scene.valid.size in
       let K : Color → Type 0 = λ x. is_man x King (man_at q.men n) ≡ true in
-      let place = king_is_one q.men w n (scene.valid.kings w) (omega (arith, small, size)) (subst K e king) in
+      let place = king_place q.men w n (scene.valid.kings w) (omega (arith, small, size)) (subst K e king) in
       both_ways (steps_apart (loser_on q w) (winner_on q w) == 1) st.far (rw place step)
   blocked_at d king (inr e) =
       let size = scene.valid.size in
       let K : Color → Type 0 = λ x. is_man x King (man_at q.men n) ≡ true in
-      let place = king_is_one q.men (other_color w) n (scene.valid.kings (other_color w)) (omega (arith, small, size)) (subst K e king) in
+      let place = king_place q.men (other_color w) n (scene.valid.kings (other_color w)) (omega (arith, small, size)) (subst K e king) in
       (near (loser_on q w) n st.loser_small small step).other place
 
   -- a man that stands in its king's way does not end the check of the winner's only man

@@ -13,16 +13,16 @@ use Rattle.cha_moves.specs.Step.{Move}
 use Rattle.cha_moves.specs.Moves.{goes, is_short_castling, is_long_castling, may_enter, arriving, is_en_passant, castles_short, castles_long, captures_en_passant, men_after}
 use Rattle.cha_board.proofs.Identity.{other_other, same_color_equal, same_kind_equal, some_inj, man_of, is_man_from}
 use Rattle.cha_moves.proofs.Made.{Step, length-moved, moved_to, moved_other, men_moved}
-use Rattle.cha_moves.proofs.Kept.{stays_man, kings_kept}
-use Rattle.mob_law.specs.Reach.{is_fixed, is_open, is_leaper, guards_as, guards_from, is_guarded}
+use Rattle.cha_moves.proofs.Kept.{stays_man, kings_kept, king_place}
+use Rattle.mob_law.specs.Reach.{is_fixed, is_open, is_guarded}
 use Rattle.mob_sets.specs.Mobility.{Sets}
 use Rattle.mob_law.specs.Closed.{has_fixed_enemy, IsClosed}
 use Rattle.mob_law.proofs.Facts.{Facts}
-use Rattle.cha_board.proofs.ManTests.{other_color_of, not_of_other, kinds_differ}
-use Rattle.mob_law.proofs.Geometry.{near, king_aims, aims_at_self, leap_clear}
-use Rattle.mob_law.proofs.Kings.{king_is_one}
+use Rattle.cha_board.proofs.ManTests.{other_color_of, not_of_other, same_color_from, kinds_differ}
+use Rattle.cha_moves.proofs.Near.{king_aims}
+use Rattle.mob_law.proofs.Geometry.{near, aims_at_self, leap_clear}
+use Rattle.mob_law.proofs.FixedGuards.{some_guard}
 use Rattle.mob_law.proofs.Attackers.{attacks_by, clear_near}
-use Rattle.cha_board.proofs.Contents.{some_square}
 use Rattle.mob_law.proofs.Standing.{fixed_stands, open_from, open_near, entry_of}
 use Rattle.mob_law.proofs.KingSteps.{step_plain}
 use Rattle.mob_law.proofs.OneMan.{Lands}
@@ -45,31 +45,6 @@ module _ (p : Board) (s : Sets) (q : Board) (origin : ℕ → ℕ) (facts : Fact
       let full = (fixed_stands p s t h).0 in
       let enemy : is_non_king (other_color c) (man_at p.men t) ≡ true = rw (← same) (enemy_there c (man_at q.men t) enter (rw same full)) in
       both_ways (is_fixed p s t && is_non_king (other_color c) (man_at p.men t)) no_enemy (and_from (is_fixed p s t) (is_non_king (other_color c) (man_at p.men t)) h enemy))
-
--- the fixed man on f that guards t
-record Guard (p : Board) (s : Sets) (c : Color) (t f : ℕ) : Type 0 where
-  man : Man
-  fixed : is_fixed p s f ≡ true
-  found : man_at p.men f ≡ Some man
-  own : same_color man.color c ≡ true
-  aims : aims_at c man.kind f t ≡ true
-  leap : (is_leaper man.kind || (steps_apart f t == 1)) ≡ true
-
-guard_of : (p : Board) (s : Sets) (c : Color) (t f : ℕ) (o : Option Man) → man_at p.men f ≡ o → is_fixed p s f ≡ true → guards_as c f t o ≡ true → Guard p s c t f
-unfolding guards_as
-guard_of p s c t f None found fixed h = cc
-guard_of p s c t f (Some man) found fixed h =
-    let all = and_parts (same_color man.color c && aims_at c man.kind f t) (is_leaper man.kind || (steps_apart f t == 1)) h in
-    let two = and_parts (same_color man.color c) (aims_at c man.kind f t) all.0 in
-    record { man = man; fixed = fixed; found = found; own = two.0; aims = two.1; leap = all.1 }
-
--- a guarded square has a guard
-some_guard : (p : Board) (s : Sets) (c : Color) (t : ℕ) → is_guarded p s c t ≡ true → (f : ℕ) × (f < 64) × Guard p s c t f
-unfolding is_guarded guards_from
-some_guard p s c t h =
-    let from = some_square (guards_from p s c t) h in
-    let both = and_parts (is_fixed p s from.0) (guards_as c from.0 t (man_at p.men from.0)) from.2 in
-    (from.0, from.1, guard_of p s c t from.0 (man_at p.men from.0) refl both.0 both.1)
 
 -- the way of a man other than a pawn: it aims at its square, and no fixed man stands between
 record Way (p : Board) (s : Sets) (q : Board) (m : Move) (man : Man) : Type 0 where
@@ -127,16 +102,17 @@ module _ (p : Board) (s : Sets) (q : Board) (origin : ℕ → ℕ) (m : Move) (m
       let long = length-moved q.men m.from m.to a in
       let there : man_at (men_moved q m) m.to ≡ Some man = moved_to q.men m.from m.to a in_to ∙ arrives in
       let kings : has_one_king (men_moved q m) q.side ≡ true = rw same at (kings_kept q m man step q.side) in
-      let place : king_of (men_moved q m) q.side ≡ m.to = king_is_one (men_moved q m) q.side m.to kings (omega (arith, long, in_to)) (is_man_from (man_at (men_moved q m) m.to) man q.side King there color kind) in
+      let place : king_of (men_moved q m) q.side ≡ m.to = king_place (men_moved q m) q.side m.to kings (omega (arith, long, in_to)) (is_man_from (man_at (men_moved q m) m.to) man q.side King there color kind) in
       let some = some_guard p s (other_color q.side) m.to guarded in
       let f = some.0 in
       let g = some.2 in
+      let own = same_color_from g.man.color (other_color q.side) g.color in
       let stood : man_at q.men f ≡ Some g.man = (facts.fixed f g.fixed).0 ∙ g.found in
-      let nf : f ≢ m.from = λ e. not_of_other (other_color q.side) King (man_at q.men f) g.man stood g.own (rw (e, other_other) king) in
+      let nf : f ≢ m.from = λ e. not_of_other (other_color q.side) King (man_at q.men f) g.man stood own (rw (e, other_other) king) in
       let nt : f ≢ m.to = λ e. both_ways (aims_at (other_color q.side) g.man.kind f m.to) (rw e (aims_at_self (other_color q.side) g.man.kind m.to step.to)) g.aims in
       let now : man_at (men_moved q m) f ≡ Some g.man = moved_other q.men m.from m.to a f nf nt ∙ stood in
-      let clear = clear_near (men_moved q m) f m.to (leap_clear (other_color q.side) g.man.kind f m.to some.1 step.to g.aims g.leap) in
-      let hit = attacks_by (men_moved q m) (other_color q.side) m.to f g.man now g.own g.aims clear in
+      let clear = clear_near (men_moved q m) f m.to (leap_clear (other_color q.side) g.man.kind f m.to some.1 step.to g.aims g.near) in
+      let hit = attacks_by (men_moved q m) (other_color q.side) m.to f g.man now own g.aims clear in
       rw (same, place) (attacked_from (men_moved q m) (other_color q.side) m.to f some.1 hit)
 
   -- the rules for men other than pawns give what a move along such a way needs

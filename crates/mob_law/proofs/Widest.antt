@@ -4,12 +4,14 @@ use Rattle.std.proofs.Common.{◌≡◌, ℕ, true, false, refl}
 use Rattle.std.proofs.lemmas.Bool.{and_left, both_ways}
 use Rattle.cha_board.specs.declared.men.Color.{Color}
 use Rattle.cha_board.specs.Men.{other_color, is_non_king}
-use Rattle.cha_board.specs.Board.{Board, man_at}
+use Rattle.cha_board.specs.Board.{Board, man_at, IsValid}
+use Rattle.cha_moves.specs.Ends.{IsUnwinnable}
 use Rattle.mob_law.specs.Reach.{is_fixed}
 use Rattle.mob_sets.specs.Mobility.{Sets}
 use Rattle.mob_law.specs.Closed.{has_fixed_enemy, Enters, Castles, IsClosed}
 use Rattle.mob_law.specs.Threats.{HasNoMate}
 use Rattle.mob_law.specs.Static.{IsStaticallyUnwinnable}
+use Rattle.mob_law.proofs.Law.{static_bounded}
 use Rattle.mob_law.proofs.Standing.{loose_unfixed}
 
 abbrev pub widest : Sets
@@ -51,3 +53,7 @@ bare_has_no_mate p s w bare ks wk threat =
 -- so a side with only its king is statically unwinnable
 pub bare_is_static : (p : Board) (w : Color) → ((u : ℕ) → is_non_king w (man_at p.men u) ≡ false) → IsStaticallyUnwinnable p w
 bare_is_static p w bare = (widest, widest_closed p, bare_has_no_mate p widest w bare)
+
+-- and never mates
+pub bare_never_mates : (p : Board) (w : Color) → IsValid p → ((u : ℕ) → is_non_king w (man_at p.men u) ≡ false) → IsUnwinnable p w
+bare_never_mates p w valid bare = static_bounded p w valid (bare_is_static p w bare)

@@ -20,10 +20,11 @@ pub fn closed_sets_bound()
 {}
 
 /// What the law is about is there: some sets are closed for every position, as those in which each man reaches every square
-/// as everything, and a side that has only its king is statically unwinnable.
+/// as everything, and a side that has only its king is statically unwinnable. So a bare king never mates.
 pub fn closed_sets_exist()
     ensures closed { (p : Board) → (s : Sets) × IsClosed p s }
     ensures bare_king { (p : Board) (w : Side) → ((u : ℕ) → is_non_king w (man_at p.men u) ≡ false) → IsStaticallyUnwinnable p w }
+    ensures bare_king_never_mates { (p : Board) (w : Side) → IsValid p → ((u : ℕ) → is_non_king w (man_at p.men u) ≡ false) → IsUnwinnable p w }
 {}
 
 /// The law: where so many positions were expanded in an exploration, as many distinct ones can be reached by legal moves.

@@ -85,7 +85,7 @@ impl Sets {
         ensures err { OnErr result (self.new ≡ self.old) }
     {
         let grew = !self.has(origin, kind, at);
-        self.join(origin, kind, SquareSet::empty().with(at))?;
+        self.join(origin, kind, SquareSet::single(at))?;
         Ok(grew)
     }
 

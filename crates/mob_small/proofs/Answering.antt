@@ -14,12 +14,12 @@ use Rattle.cha_board.proofs.ManTests.{not_of_other}
 use Rattle.cha_moves.specs.Step.{Move}
 use Rattle.cha_moves.specs.Moves.{goes, promotes_well, may_enter, is_pseudo_legal, is_pseudo_legal_as, is_short_castling, is_long_castling, is_en_passant, moved, men_after, is_legal_in}
 use Rattle.cha_moves.specs.Ends.{IsMated}
-use Rattle.cha_moves.proofs.Kept.{kings_kept, no_king_entered}
+use Rattle.cha_moves.proofs.Kept.{kings_kept, no_king_entered, king_place}
 use Rattle.cha_moves.proofs.Listed.{listed}
 use Rattle.cha_moves.proofs.Made.{may_gives, length-moved, moved_to, moved_from, moved_other, makes, Plainly, Passing, Shortly, Longly}
 use Rattle.mob_law.proofs.Attackers.{Attacker, some_attacker}
-use Rattle.mob_law.proofs.Geometry.{aims_at_self, near, king_aims}
-use Rattle.mob_law.proofs.Kings.{king_is_one}
+use Rattle.cha_moves.proofs.Near.{king_aims}
+use Rattle.mob_law.proofs.Geometry.{aims_at_self, near}
 
 -- rooks and queens
 unfoldable pub is_slider : Kind → Bool
@@ -65,7 +65,7 @@ not_by_king q w k wk u man valid small small' small'' king far found own aims =
     false_from_ne_true (same_kind man.kind King) (λ h.
     let kind = same_kind_equal man.kind King h in
     let here = is_man_from (man_at q.men u) man w King found (same_color_equal man.color w own) kind in
-    let place : u ≡ wk = sym (king_is_one q.men w u (valid.kings w) (rw valid.size small'') here) ∙ king_is_one q.men w wk (valid.kings w) (rw valid.size small') king in
+    let place : u ≡ wk = sym (king_place q.men w u (valid.kings w) (rw valid.size small'') here) ∙ king_place q.men w wk (valid.kings w) (rw valid.size small') king in
     let K : Kind → Type 0 = λ x. aims_at w x u k ≡ true in
     let step = king_aims w u k (subst K kind aims) in
     let S : ℕ → Type 0 = λ x. (steps_apart k x == 1) ≡ true in
@@ -155,20 +155,20 @@ module _ (q : Board) (w : Color) (valid : IsValid q) (mate : IsMated q (other_co
       let P : ℕ → Type 0 = λ x. is_man (other_color w) King (man_at q.men x) ≡ true in
       both_ways (is_man (other_color w) King (man_at q.men t)) (no_king_entered (other_color w) (other_color w) (man_at q.men t) r.enter) (subst P e king))
 
-  king_place : king_of then (other_color w) ≡ k
-  king_place =
+  loser_place : king_of then (other_color w) ≡ k
+  loser_place =
       let mover = may_gives q by may in
       let kings : has_one_king then (other_color w) ≡ true = rw plain at (kings_kept q by mover.0 (record { valid = valid; from = r.from; to = r.to; may = mover.1 }) (other_color w)) in
       let inside : k < length then = rw (length-moved q.men n t (man_at q.men n), valid.size) small in
       let stays = moved_other q.men n t (man_at q.men n) k king_not_from king_not_to in
-      king_is_one then (other_color w) k kings inside (rw stays king)
+      king_place then (other_color w) k kings inside (rw stays king)
 
   -- so the loser has a legal move, which a mate does not leave it
   pub answered : ⊥
   unfolding in_check is_legal_in
   answered =
       let safe : in_check then (other_color w) ≡ false = false_from_ne_true (in_check then (other_color w)) (λ check.
-      let seen : attacked then w k ≡ true = rw (other_other, king_place) at check in
+      let seen : attacked then w k ≡ true = rw (other_other, loser_place) at check in
       let from = some_attacker then w k seen in
       r.safe from.0 from.1 from.2) in
       let safe' : in_check (men_after q by) q.side ≡ false = rw (plain, mate.to_move) safe in

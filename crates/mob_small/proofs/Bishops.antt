@@ -8,7 +8,7 @@ use Rattle.cha_board.specs.declared.men.Kind.{Kind}
 use Rattle.cha_board.specs.declared.men.Kind.TheVariants.{Bishop, Rook, Queen, King}
 use Rattle.cha_board.specs.declared.men.Man.{Man}
 use Rattle.cha_board.specs.Men.{other_color, same_color, is_vacant, is_man, is_non_king}
-use Rattle.cha_board.specs.Squares.{steps_apart, is_diagonal, aims_at, lies_between}
+use Rattle.cha_board.specs.Squares.{steps_apart, is_diagonal, aims_at, lies_between, color_of_square}
 use Rattle.cha_board.specs.Board.{Board, man_at, is_empty, is_clear, attacked, in_check, IsValid}
 use Rattle.cha_board.proofs.Identity.{man_of, same_color_self, same_color_equal, other_other, some_inj, empty_is_none}
 use Rattle.cha_board.proofs.ManTests.{is_non_king_from}
@@ -16,15 +16,15 @@ use Rattle.cha_moves.specs.Moves.{may_enter, moved}
 use Rattle.cha_moves.specs.Ends.{IsMated}
 use Rattle.cha_moves.proofs.Clearing.{clear_at, clear_from}
 use Rattle.cha_moves.proofs.Made.{moved_to, moved_other}
+use Rattle.cha_moves.proofs.Kept.{king_place}
 use Rattle.mob_law.specs.Threats.{Covered, Blocked, NextToKing, Attacked}
 use Rattle.mob_law.proofs.Attackers.{Attacker, some_attacker, clear_near}
 use Rattle.mob_law.proofs.Geometry.{near}
-use Rattle.mob_law.proofs.Kings.{king_is_one}
 use Rattle.mob_law.proofs.Mating.{mate_threatens}
 use Rattle.mob_small.proofs.Places.{flight_tables, reply_tables, along_rank, along_file, across}
 use Rattle.mob_small.proofs.Flights.{Flight, flight, not_both, Answer, answer}
 use Rattle.mob_small.proofs.Scene.{here, facts_here, non_king_stands, king_stands_on, one_kind_there}
-use Rattle.mob_small.specs.Lone.{color_of_square, HasMenOn, is_bishop_on}
+use Rattle.mob_small.specs.Lone.{HasMenOn, is_bishop_on}
 use Rattle.mob_small.proofs.Colors.{is_one_color, diagonal, between_diagonal, Side, side, side_tables}
 use Rattle.mob_small.proofs.Answering.{is_slider, enter_enemy, not_by_king, stood_before, aims_apart, answered}
 use Rattle.mob_small.proofs.Uncovering.{ChecksOnce}
@@ -94,7 +94,7 @@ module _ (q : Board) (w : Color) (square : Color) (valid : IsValid q) (has : Has
       let t = threat.2 in
       let loser = king_stands_on q l ks t.loser in
       let winner = king_stands_on q w wk t.winner in
-      let place = king_is_one q.men l ks (valid.kings l) (rw valid.size t.loser.small) loser in
+      let place = king_place q.men l ks (valid.kings l) (rw valid.size t.loser.small) loser in
       let seen : attacked q.men w ks ≡ true = rw (other_other, place) at mate.check in
       let from = some_attacker q.men w ks seen in
       let s = from.0 in

@@ -5,11 +5,11 @@ use Rattle.std.proofs.lemmas.Bool.{and_parts, and_from, both_ways, not-true, or_
 use Rattle.cha_board.specs.declared.men.Color.TheVariants.{White}
 use Rattle.cha_board.specs.declared.men.Kind.TheVariants.{Knight, Bishop, Queen}
 use Rattle.cha_board.specs.Men.{same_color}
-use Rattle.cha_board.specs.Squares.{squares, files_apart, ranks_apart, steps_apart, is_straight, is_diagonal, is_line, aims_at, is_within, lies_between, between}
+use Rattle.cha_board.specs.Squares.{squares, files_apart, ranks_apart, steps_apart, is_straight, is_diagonal, is_line, aims_at, is_within, lies_between, between, color_of_square}
 use Rattle.cha_board.proofs.Identity.{if_at}
 use Rattle.cha_board.proofs.Scans.{all_squares_at}
-use Rattle.mob_small.proofs.Places.{pair_at, in_rank, in_file, along_rank, along_file, across}
-use Rattle.mob_small.specs.Lone.{color_of_square}
+use Rattle.mob_law.proofs.Geometry.{pair_at}
+use Rattle.mob_small.proofs.Places.{in_rank, in_file, along_rank, along_file, across}
 
 -- two squares of one colour
 abbrev pub is_one_color : ℕ → ℕ → Bool

@@ -1,17 +1,17 @@
 -- The table is exact, and what its callers know of a position.
-use Rattle.std.proofs.Common.{◌≡◌, ◌≢◌, ℕ, ◌<◌, ◌==◌, Bool, true, false, not, ◌&&◌, ◌||◌, List, length, Option, Some, None, slice_get, ◌⊎◌, ◌↔◌, IsTrue, refl, sym, subst, ap, ◌∙◌, inl, inr}
+use Rattle.std.proofs.Common.{◌≡◌, ◌≢◌, ℕ, ◌<◌, ◌==◌, Bool, true, false, not, ◌&&◌, List, length, Option, Some, None, slice_get, ◌↔◌, IsTrue, refl, sym, subst, ap, ◌∙◌, inl, inr}
 use Rattle.std.specs.List.{list_any}
-use Rattle.std.proofs.lemmas.Bool.{and_parts, and_from, both_ways, cases_eq, ne_eqb, false_from_ne_true, true_from_ne_false, not-true, eqb-false}
+use Rattle.std.proofs.lemmas.Bool.{and_parts, and_from, both_ways, cases_eq, ne_eqb, false_from_ne_true, true_from_ne_false, not-true, eqb-false, not-false, or_cases}
 use Rattle.cha_board.specs.declared.men.Color.{Color}
 use Rattle.cha_board.specs.declared.men.Color.TheVariants.{White, Black}
 use Rattle.cha_board.specs.declared.men.Kind.{Kind}
 use Rattle.cha_board.specs.declared.men.Kind.TheVariants.{Pawn, King}
 use Rattle.cha_board.specs.declared.men.Man.{Man}
-use Rattle.cha_board.specs.Men.{other_color, same_color, same_kind, is_of, is_kind, is_man, is_pawn, is_non_king}
+use Rattle.cha_board.specs.Men.{other_color, same_color, same_kind, is_kind, is_man, is_pawn, is_non_king}
 use Rattle.cha_board.specs.Squares.{squares}
-use Rattle.cha_board.specs.SquareSets.{set_of, has_square, squares_in, set_minus, set_without, has_no_square}
+use Rattle.cha_board.specs.SquareSets.{set_of, has_square, squares_in, set_without, has_no_square}
 use Rattle.cha_board.specs.Board.{Board, man_at}
-use Rattle.cha_board.proofs.SetLaws.{same_set, has-set_of}
+use Rattle.cha_board.proofs.SetLaws.{has-set_of}
 use Rattle.cha_board.proofs.Contents.{some_square, in_set_of}
 use Rattle.cha_board.proofs.Firsts.{first_tells, none_tells}
 use Rattle.cha_board.proofs.Identity.{man_of, on_board, is_man_from, some_inj, same_color_equal}
@@ -29,20 +29,6 @@ table_exact w own other a b c d r e = (
   λ h q m. free_mates_not q w m.valid m.mate own other (sym e ∙ h) m.winner m.loser,
   λ free. e ∙ free_in_table w own other a b c d free,
 )
-
-non_king_is : (c : Color) (o : Option Man) → (is_of c o && not (is_kind King o)) ≡ is_non_king c o
-non_king_is c None = refl
-non_king_is c (Some man) = refl
-
-pub non_kings_are : (men : List (Option Man)) (c : Color) → set_minus (set_of (λ s. is_of c (man_at men s))) (set_of (λ s. is_kind King (man_at men s))) ≡ set_of (λ u. is_non_king c (man_at men u))
-unfolding set_minus
-non_kings_are men c =
-    same_set (λ s. has_square (set_of (λ x. is_of c (man_at men x))) s && not (has_square (set_of (λ x. is_kind King (man_at men x))) s)) (λ u. is_non_king c (man_at men u)) (λ s small.
-    rw (has-set_of (λ x. is_of c (man_at men x)) s small, has-set_of (λ x. is_kind King (man_at men x)) s small) (non_king_is c (man_at men s)))
-
-not_false : (b : Bool) → not b ≡ false → b ≡ true
-not_false true h = refl
-not_false false h = cc
 
 -- With the squares of the men of c other than kings, as a set:
 module _ (men : List (Option Man)) (c : Color) (size : length men ≡ 64) (set : List Bool) (is : set ≡ set_of (λ u. is_non_king c (man_at men u))) where
@@ -97,7 +83,7 @@ module _ (men : List (Option Man)) (c : Color) (size : length men ≡ 64) (set :
     unfolding set_without has_no_square
     several_beside rest k h =
         let without : ℕ → Bool = λ s. not (s == at) && has_square set s in
-        let v = some_square (has_square (set_of without)) (not_false (list_any (has_square (set_of without)) squares) rest) in
+        let v = some_square (has_square (set_of without)) (not-false (list_any (has_square (set_of without)) squares) rest) in
         let both = and_parts (not (v.0 == at)) (has_square set v.0) (in_set_of without v.0 v.2).1 in
         let apart = eqb-false v.0 at (not-true (v.0 == at) both.0) in
         not_both_beside k h v.0 apart (taken_out v.0 both.1)
@@ -145,10 +131,6 @@ module _ (p : Board) (w : Color) (no_pawn : HasNoPawn p.men) (own other : Option
     λ u. told.1 (named_free own refl u),
   )
 
-or_either : (a b : Bool) → (a || b) ≡ true → (a ≡ true) ⊎ (b ≡ true)
-or_either true b h = inl h
-or_either false b h = inr h
-
 -- a pawn, as a man
 record PawnMan (o : Option Man) : Type 0 where
   man : Man
@@ -157,7 +139,7 @@ record PawnMan (o : Option Man) : Type 0 where
 
 pawn_man : (o : Option Man) → is_pawn o ≡ true → PawnMan o
 pawn_man o h =
-    elim (or_either (is_man White Pawn o) (is_man Black Pawn o) h) [
+    elim (or_cases (is_man White Pawn o) (is_man Black Pawn o) h) [
       | inl x ↦ (let m = man_of o White Pawn x in record { man = m.man; found = m.found; kind = m.kind })
       | inr x ↦ (let m = man_of o Black Pawn x in record { man = m.man; found = m.found; kind = m.kind })
     ]
@@ -173,7 +155,7 @@ pawnless men size b e =
           let here : has_square (set_of pawns) u ≡ true = has-set_of pawns u inside ∙ (rw (m.found, m.kind) refl) in
           both_ways (list_any (has_square (set_of pawns)) squares) (not-true (list_any (has_square (set_of pawns)) squares) (sym e ∙ h)) (any_square_at (has_square (set_of pawns)) u inside here)),
       λ none. true_from_ne_false b (λ no.
-          let v = some_square (has_square (set_of pawns)) (not_false (list_any (has_square (set_of pawns)) squares) (sym e ∙ no)) in
+          let v = some_square (has_square (set_of pawns)) (not-false (list_any (has_square (set_of pawns)) squares) (sym e ∙ no)) in
           both_ways (is_pawn (man_at men v.0)) (none v.0) (pawn_kind (man_at men v.0) (in_set_of pawns v.0 v.2).1)),
     )
 

@@ -1,12 +1,13 @@
 -- What the tables say of the squares beside a king that a knight or a bishop checks.
-use Rattle.std.proofs.Common.{◌≡◌, ◌≢◌, ℕ, ◌<◌, Bool, true, false, not, ◌&&◌, ◌||◌, ◌==◌, ltb, ◌⊎◌, inl, inr}
+use Rattle.std.proofs.Common.{◌≡◌, ◌≢◌, ℕ, ◌<◌, true, false, not, ◌&&◌, ◌||◌, ◌==◌, ltb, ◌⊎◌, inl, inr}
 use Rattle.std.specs.List.{list_all}
-use Rattle.std.proofs.lemmas.Bool.{and_parts, and_from, eq-eqb, eqb-true, ltb-true, not-true}
+use Rattle.std.proofs.lemmas.Bool.{and_parts, and_from, or_cases, eq-eqb, eqb-true, ltb-true, not-true}
 use Rattle.cha_board.specs.declared.men.Color.TheVariants.{White}
 use Rattle.cha_board.specs.declared.men.Kind.{Kind}
 use Rattle.cha_board.specs.Squares.{squares, steps_apart, aims_at, lies_between, between}
 use Rattle.cha_board.proofs.Identity.{if_at, all_four}
-use Rattle.mob_small.proofs.Places.{pair_at, flight_test, far_test, far_table, in_rank, in_file, is_hole, reply_test, is_right, is_above, along_rank, along_file}
+use Rattle.mob_law.proofs.Geometry.{pair_at}
+use Rattle.mob_small.proofs.Places.{flight_test, far_test, far_table, in_rank, in_file, is_hole, reply_test, is_right, is_above, along_rank, along_file}
 
 -- a square next to the king that the man on s does not attack
 pub record Flight (k : Kind) (ks s n : ℕ) : Type 0 where
@@ -23,10 +24,6 @@ flight k n table ks s small small' aims =
     let b = and_parts (ltb (n ks s) 64) (steps_apart ks (n ks s) == 1) a.0 in
     record { small = ltb-true (n ks s) 64 b.0; step = b.1; unaimed = not-true (aims_at White k s (n ks s)) a.1 }
 
-or_parts : (a b : Bool) → (a || b) ≡ true → (a ≡ true) ⊎ (b ≡ true)
-or_parts true b h = inl h
-or_parts false b h = inr h
-
 -- the winner's king is not next to both
 pub not_both : (ks s wk : ℕ) → ks < 64 → wk < 64 → wk ≢ ks → steps_apart ks wk ≢ 1
     → (steps_apart ks (along_rank ks s) == 1) ≡ true → (steps_apart ks (along_file ks s) == 1) ≡ true
@@ -40,7 +37,7 @@ not_both ks s wk small small' distinct far first second near near' =
     (eq-eqb (steps_apart wk m) 1 near') in
     let h = if_at ((steps_apart ks n == 1) && (steps_apart ks m == 1) && (steps_apart wk n == 1) && (steps_apart wk m == 1)) ((wk == ks) || (steps_apart ks wk == 1))
     (pair_at (far_test (is_right ks s) (is_above ks s)) (far_table (is_right ks s) (is_above ks s)) ks wk small small') all in
-    elim (or_parts (wk == ks) (steps_apart ks wk == 1) h) [
+    elim (or_cases (wk == ks) (steps_apart ks wk == 1) h) [
       | inl e ↦ distinct (eqb-true wk ks e)
       | inr e ↦ far (eqb-true (steps_apart ks wk) 1 e)
     ]
@@ -65,7 +62,7 @@ answer k i n t table ks s small small' aims =
       small = ltb-true b 64 p.0;
       aims = p.1;
       over = p.2;
-      onto = elim (or_parts (b == s) (is_hole ks s a b && lies_between s ks b) p.3) [
+      onto = elim (or_cases (b == s) (is_hole ks s a b && lies_between s ks b) p.3) [
         | inl e ↦ inl (eqb-true b s e)
         | inr e ↦ inr (and_parts (is_hole ks s a b) (lies_between s ks b) e)
       ];

@@ -1,7 +1,7 @@
 -- Legal moves keep small material, and so the law.
-use Rattle.std.proofs.Common.{◌≡◌, ◌≢◌, ℕ, ◌<◌, true, false, ◌⊎◌, List, [], ◌∷◌, Option, Some, None, refl, sym, subst, ap, ◌∙◌, inl, inr}
+use Rattle.std.proofs.Common.{◌≡◌, ◌≢◌, ℕ, ◌<◌, true, ◌⊎◌, Option, Some, None, refl, subst, ap, inl, inr}
 use Rattle.std.specs.List.{list_any}
-use Rattle.std.proofs.lemmas.Bool.{and_left, both_ways, cases_Bool, false_from_ne_true, true_from_ne_false}
+use Rattle.std.proofs.lemmas.Bool.{both_ways, cases_Bool, false_from_ne_true, true_from_ne_false}
 use Rattle.cha_board.specs.declared.men.Color.{Color}
 use Rattle.cha_board.specs.declared.men.Kind.{Kind}
 use Rattle.cha_board.specs.declared.men.Kind.TheVariants.{Pawn, King}
@@ -10,76 +10,33 @@ use Rattle.cha_board.specs.Men.{other_color, is_kind, is_man, is_pawn, is_non_ki
 use Rattle.cha_board.specs.Squares.{squares}
 use Rattle.cha_board.specs.Board.{Board, man_at, IsValid}
 use Rattle.cha_board.proofs.Contents.{some_square}
-use Rattle.cha_board.proofs.Identity.{is_man_from, pawn_of, same_color_equal, same_kind_equal, same_kind_self}
+use Rattle.cha_board.proofs.Identity.{is_man_from, pawn_of, same_kind_equal}
 use Rattle.cha_board.proofs.Scans.{any_square_at}
-use Rattle.cha_moves.specs.Step.{Move}
 use Rattle.cha_moves.specs.Moves.{after}
-use Rattle.cha_moves.specs.Ends.{IsMated, IsMatingLine, IsUnwinnable}
-use Rattle.cha_moves.proofs.Listed.{is_listed}
-use Rattle.cha_moves.proofs.Validity.{after_is_valid}
-use Rattle.mob_sets.specs.Mobility.{Sets}
-use Rattle.mob_law.specs.Closed.{has_fixed_enemy, IsClosed}
-use Rattle.mob_law.specs.Reach.{is_fixed}
+use Rattle.cha_moves.specs.Ends.{IsMated, IsUnwinnable}
+use Rattle.mob_law.specs.Closed.{IsClosed}
 use Rattle.mob_law.proofs.Begin.{facts_begin}
-use Rattle.mob_law.proofs.CastlingFollows.{follows}
 use Rattle.mob_law.proofs.Facts.{Facts, FactsHold}
-use Rattle.mob_law.proofs.Keeping.{facts_kept}
-use Rattle.mob_law.proofs.Standing.{loose_unfixed, origin_is_non_king}
-use Rattle.mob_small.specs.Small.{HasNoPawn, HasOnlyKing, HasOneBeside, HasBeside, IsMateFree, IsSmallUnwinnable}
+use Rattle.mob_small.specs.Small.{HasNoPawn, HasOnlyKing, HasBeside, IsMateFree, IsSmallUnwinnable}
 use Rattle.mob_small.specs.Table.{is_free}
 use Rattle.mob_small.proofs.NoMate.{free_mates_not}
-use Rattle.mob_small.proofs.Scene.{one_kind_there, bare_mates_not, non_king_of, non_king_inside}
+use Rattle.mob_small.proofs.Scene.{bare_mates_not, non_king_inside}
 use Rattle.mob_small.proofs.Witnesses.{some_mate}
-
--- the sets in which each man reaches all squares as what it is, while nothing is fixed
-abbrev kept : Board → Sets
-kept p = record { has = λ o k u. is_kind k (man_at p.men o); loose = λ o. true }
-
-none_fixed : (p : Board) (c : Color) (t : ℕ) → has_fixed_enemy p (kept p) c t ≡ false
-unfolding has_fixed_enemy
-none_fixed p c t = and_left (is_fixed p (kept p) t) (is_non_king (other_color c) (man_at p.men t)) (loose_unfixed p (kept p) t refl)
+use Rattle.mob_small.proofs.KeptSets.{kept, kept_closed, from_non_king, one_from, never}
 
 pub pawn_kind : (o : Option Man) → is_kind Pawn o ≡ true → is_pawn o ≡ true
 pawn_kind None h = cc
 pawn_kind (Some man) h = pawn_of man.color (Some man) (is_man_from (Some man) man man.color Pawn refl refl (same_kind_equal man.kind Pawn h))
 
--- without pawns they are closed
-kept_closed : (p : Board) → IsValid p → HasNoPawn p.men → IsClosed p (kept p)
-kept_closed p valid no_pawn =
-    let none : (o : ℕ) → is_kind Pawn (man_at p.men o) ≡ true → ⊥ = λ o h. both_ways (is_pawn (man_at p.men o)) (no_pawn o) (pawn_kind (man_at p.men o) h) in
-    follows p (kept p) valid (record {
-      begins = λ o man stood. rw stood (same_kind_self man.kind);
-      pieces_move = λ o man k u t entry piece aims open_way unguarded. record { goes = λ free. entry.reach; leaves = λ free home. refl; spares = none_fixed p man.color t };
-      pawns_step = λ o man u t entry file ahead free. absurd (none o entry.reach);
-      pawns_double_step = λ o man u t entry file begins ends over free. absurd (none o entry.reach);
-      pawns_capture = λ o man u t entry aims. absurd (none o entry.reach);
-    })
+-- without pawns the sets that moves keep are closed
+pawnless_closed : (p : Board) → IsValid p → HasNoPawn p.men → IsClosed p (kept p)
+pawnless_closed p valid no_pawn = kept_closed p valid (λ o h. both_ways (is_pawn (man_at p.men o)) (no_pawn o) (pawn_kind (man_at p.men o) h))
 
 -- What moves have made of the men beside the kings:
 module _ (p : Board) (q : Board) (origin : ℕ → ℕ) (facts : Facts p (kept p) q origin) (valid : IsValid q) (c : Color) where
-  from_non_king : (u : ℕ) → is_non_king c (man_at q.men u) ≡ true → is_non_king c (man_at p.men (origin u)) ≡ true
-  from_non_king u h =
-      let m = non_king_of (man_at q.men u) c h in
-      origin_is_non_king p (kept p) q origin facts c u m.man m.found m.own m.other
-
   none_from : HasOnlyKing p.men c → HasOnlyKing q.men c
   none_from bare u =
-      false_from_ne_true (is_non_king c (man_at q.men u)) (λ h. both_ways (is_non_king c (man_at p.men (origin u))) (bare (origin u)) (from_non_king u h))
-
-  one_from : (k : Kind) → HasOneBeside p.men c k → (u : ℕ) → is_non_king c (man_at q.men u) ≡ true → HasOneBeside q.men c k
-  one_from k one u h =
-      let m = non_king_of (man_at q.men u) c h in
-      let place = one.alone (origin u) (from_non_king u h) in
-      let K : ℕ → Type 0 = λ x. is_kind m.man.kind (man_at p.men x) ≡ true in
-      let kind = one_kind_there (man_at p.men one.square) c k m.man.kind one.stands (subst K place (facts.each u m.man m.found).reach) in
-      record {
-        square = u;
-        stands = is_man_from (man_at q.men u) m.man c k m.found (same_color_equal m.man.color c m.own) kind;
-        no_king = one.no_king;
-        alone = λ v h'. (
-            let n = non_king_of (man_at q.men v) c h' in
-            facts.distinct v u n.man m.man n.found m.found (one.alone (origin v) (from_non_king v h') ∙ sym place));
-      }
+      false_from_ne_true (is_non_king c (man_at q.men u)) (λ h. both_ways (is_non_king c (man_at p.men (origin u))) (bare (origin u)) (from_non_king p q origin facts c u h))
 
   beside_kept : (k : Option Kind) → HasBeside p.men c k → HasOnlyKing q.men c ⊎ HasBeside q.men c k
   beside_kept None bare = inl (none_from bare)
@@ -87,7 +44,7 @@ module _ (p : Board) (q : Board) (origin : ℕ → ℕ) (facts : Facts p (kept p
       elim (cases_Bool (list_any (λ u. is_non_king c (man_at q.men u)) squares)) [
         | inl some ↦ (
             let u = some_square (λ x. is_non_king c (man_at q.men x)) some in
-            inr (one_from k one u.0 u.2))
+            inr (one_from p q origin facts c k one u.0 u.2))
         | inr none ↦ inl (λ u. false_from_ne_true (is_non_king c (man_at q.men u)) (λ h.
             let small : u < 64 = rw valid.size at (non_king_inside q.men c u h) in
             both_ways (list_any (λ x. is_non_king c (man_at q.men x)) squares) none (any_square_at (λ x. is_non_king c (man_at q.men x)) u small h)))
@@ -125,13 +82,11 @@ module _ (p : Board) (w : Color) (valid : IsValid p) (u : IsSmallUnwinnable p w)
         | inr own ↦ free_mates_not q w valid' mate k other.0 free own (beside_kept p q held.0 held.1 valid' l other.0 other.1)
       ]
 
-  never : (q : Board) (ms : List Move) → IsValid q → FactsHold p (kept p) q → IsMatingLine q w ms → ⊥
-  never q [] valid' held mate = (let own = u.small.few w in no_mate_at q valid' held mate own.0 own.1)
-  never q (m ∷ rest) valid' held line =
-      let found = is_listed q m line.0 in
-      never (after q m) rest (after_is_valid q m valid' found.from found.to found.legal)
-      (facts_kept p (kept p) q m (kept_closed p valid u.small.no_pawn) valid' found.from found.to found.legal held) line.1
-
 -- so w has no mate by legal moves
 pub small_bounded : (p : Board) (w : Color) → IsValid p → IsSmallUnwinnable p w → IsUnwinnable p w
-small_bounded p w valid u ms line = never p w valid u p ms valid (facts_begin p (kept p) (kept_closed p valid u.small.no_pawn)) line
+small_bounded p w valid u ms line =
+    let own = u.small.few w in
+    let closed = pawnless_closed p valid u.small.no_pawn in
+    let held = facts_begin p (kept p) closed in
+    never p w closed (λ q m valid' held' found after_held after_valid mate. no_mate_at p w valid u (after q m) after_valid after_held mate own.0 own.1) p ms valid held
+    (λ mate. no_mate_at p w valid u p valid held mate own.0 own.1) line

@@ -12,9 +12,9 @@ use Rattle.cha_board.specs.Board.{Board, man_at, is_empty, is_clear, IsValid}
 use Rattle.cha_board.proofs.Identity.{is_man_from, same_color_self, same_kind_equal, all_four}
 use Rattle.cha_board.proofs.ManTests.{either_color, is_non_king_from}
 use Rattle.cha_moves.specs.Ends.{IsMated}
+use Rattle.cha_moves.proofs.Kept.{king_place}
 use Rattle.mob_law.proofs.Attackers.{clear_near}
 use Rattle.mob_law.proofs.Geometry.{near}
-use Rattle.mob_law.proofs.Kings.{king_is_one}
 use Rattle.mob_small.specs.Small.{HasOneBeside}
 use Rattle.mob_small.proofs.Places.{reply_tables, along_rank, along_file, there}
 use Rattle.mob_small.proofs.Flights.{answer}
@@ -79,7 +79,7 @@ module _ (q : Board) (w : Color) (valid : IsValid q) (mate : IsMated q (other_co
         | inr enemy ↦ elim (cases_Bool (same_kind man.kind King)) [
           | inl h ↦ (
               let here = is_man_from (man_at q.men v) man l King found enemy (same_kind_equal man.kind King h) in
-              let place = sym (king_is_one q.men l sh.ks (valid.kings l) (rw valid.size sh.ks_small) sh.loser) ∙ king_is_one q.men l v (valid.kings l) (rw valid.size small) here in
+              let place = sym (king_place q.men l sh.ks (valid.kings l) (rw valid.size sh.ks_small) sh.loser) ∙ king_place q.men l v (valid.kings l) (rw valid.size small) here in
               (near sh.ks v sh.ks_small small all.1).other place)
           | inr h ↦ captured v small (rw found (is_non_king_from l man (rw enemy (same_color_self l)) h)) all.3 (clear_near q.men v s beside.clear)
         ]

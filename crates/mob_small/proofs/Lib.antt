@@ -4,6 +4,7 @@ pub mod Scene
 pub mod Holes
 pub mod Answering
 pub mod NoMate
+pub mod KeptSets
 pub mod Keeping
 pub mod Witnesses
 pub mod Exactness

@@ -1,11 +1,10 @@
 -- The squares beside a king towards the man that checks it, by tables over all pairs of squares.
-use Rattle.std.proofs.Common.{◌≡◌, ℕ, ◌+◌, ◌-◌, ◌<◌, Bool, true, false, not, ◌&&◌, ◌||◌, ◌==◌, cond, ltb, refl}
+use Rattle.std.proofs.Common.{◌≡◌, ℕ, ◌+◌, ◌-◌, Bool, true, false, not, ◌&&◌, ◌||◌, ◌==◌, cond, ltb, refl}
 use Rattle.std.specs.List.{list_all}
 use Rattle.cha_board.specs.declared.men.Color.TheVariants.{White}
 use Rattle.cha_board.specs.declared.men.Kind.{Kind}
 use Rattle.cha_board.specs.declared.men.Kind.TheVariants.{Knight, Bishop, Rook, Queen}
 use Rattle.cha_board.specs.Squares.{squares, file_of, rank_of, files_apart, ranks_apart, steps_apart, is_straight, is_diagonal, is_line, aims_at, is_within, lies_between, between}
-use Rattle.cha_board.proofs.Scans.{all_squares_at}
 
 -- the square beside another along the rank, up or down, and along the file
 unfoldable pub in_rank : Bool → ℕ → ℕ
@@ -30,9 +29,6 @@ along_file ks s = in_file (is_above ks s) ks
 
 unfoldable pub across : ℕ → ℕ → ℕ
 across ks s = in_file (is_above ks s) (in_rank (is_right ks s) ks)
-
-pub pair_at : (f : ℕ → ℕ → Bool) → list_all (λ s. list_all (f s) squares) squares ≡ true → (s t : ℕ) → s < 64 → t < 64 → f s t ≡ true
-pair_at f table s t small small' = all_squares_at (f s) t (all_squares_at (λ s. list_all (f s) squares) s table small) small'
 
 -- n is a square to which the king on ks could step, and the man on s does not aim at it
 unfoldable pub flight_test : Kind → (ℕ → ℕ → ℕ) → ℕ → ℕ → Bool

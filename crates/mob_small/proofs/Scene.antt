@@ -11,11 +11,11 @@ use Rattle.cha_board.specs.Board.{Board, man_at, has_one_king, IsValid}
 use Rattle.cha_board.proofs.Identity.{man_of, is_man_from, on_board, same_color_self, same_kind_self, same_kind_equal}
 use Rattle.cha_board.proofs.ManTests.{is_non_king_from, other_kind}
 use Rattle.cha_moves.specs.Ends.{IsMated}
+use Rattle.cha_moves.proofs.Kept.{king_place}
 use Rattle.mob_sets.specs.Mobility.{Sets}
 use Rattle.mob_law.specs.Reach.{is_fixed}
 use Rattle.mob_law.specs.Threats.{KingOn, NonKingOn, Covered, Blocked, NextToKing, Attacked}
 use Rattle.mob_law.proofs.Facts.{FactsHold, AtFirst}
-use Rattle.mob_law.proofs.Kings.{king_is_one}
 use Rattle.mob_law.proofs.Mating.{mate_threatens}
 use Rattle.mob_law.proofs.Standing.{loose_unfixed}
 use Rattle.mob_small.specs.Small.{HasOnlyKing, HasOneBeside}
@@ -70,7 +70,7 @@ pub king_or_other : (men : List (Option Man)) (c : Color) (k s : ℕ) → has_on
     → (u : ℕ) (man : Man) → man_at men u ≡ Some man → man.color ≡ c → (u ≡ k) ⊎ (u ≡ s)
 king_or_other men c k s one inside king alone u man found color =
     elim (cases_Bool (same_kind man.kind King)) [
-      | inl h ↦ inl (sym (king_is_one men c u one (on_board men u man found) (is_man_from (man_at men u) man c King found color (same_kind_equal man.kind King h))) ∙ king_is_one men c k one inside king)
+      | inl h ↦ inl (sym (king_place men c u one (on_board men u man found) (is_man_from (man_at men u) man c King found color (same_kind_equal man.kind King h))) ∙ king_place men c k one inside king)
       | inr h ↦ inr (alone u (rw found (is_non_king_from c man (rw color (same_color_self c)) h)))
     ]
 

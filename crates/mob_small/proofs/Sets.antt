@@ -1,5 +1,5 @@
 -- What the sets of men tell of the men that stand there.
-use Rattle.std.proofs.Common.{◌≡◌, ℕ, ◌<◌, ◌==◌, Bool, true, false, not, ◌&&◌, ◌||◌, List, length, Option, Some, None, slice_get, ◌↔◌, IsTrue, refl, sym, ap, ◌∙◌, inl, inr}
+use Rattle.std.proofs.Common.{◌≡◌, ℕ, ◌<◌, ◌==◌, Bool, true, false, not, ◌&&◌, List, length, Option, Some, None, slice_get, ◌↔◌, IsTrue, sym, ap, ◌∙◌, inl, inr}
 use Rattle.std.specs.List.{list_any}
 use Rattle.std.proofs.lemmas.Bool.{and_from, and_parts, both_ways, cases_eq, eqb-false, ne_eqb, false_from_ne_true, not-true}
 use Rattle.cha_board.specs.declared.men.Color.{Color}
@@ -7,33 +7,17 @@ use Rattle.cha_board.specs.declared.men.Color.TheVariants.{White, Black}
 use Rattle.cha_board.specs.declared.men.Kind.{Kind}
 use Rattle.cha_board.specs.declared.men.Kind.TheVariants.{King}
 use Rattle.cha_board.specs.declared.men.Man.{Man}
-use Rattle.cha_board.specs.Men.{same_color, is_man, is_non_king}
+use Rattle.cha_board.specs.Men.{is_man, is_non_king}
 use Rattle.cha_board.specs.Squares.{squares}
-use Rattle.cha_board.specs.SquareSets.{set_of, has_square, set_of_bits, squares_in, set_common, set_joined, set_without, has_no_square, is_subset}
+use Rattle.cha_board.specs.SquareSets.{set_of, has_square, squares_in, set_without, has_no_square, is_subset}
 use Rattle.cha_board.specs.Board.{man_at}
-use Rattle.cha_board.proofs.SetLaws.{same_set, has-set_of}
+use Rattle.cha_board.proofs.SetLaws.{has-set_of}
 use Rattle.cha_board.proofs.Contents.{in_set_of, some_square, subset_at, subset_from}
 use Rattle.cha_board.proofs.Scans.{any_square_at}
 use Rattle.cha_board.proofs.Firsts.{first_tells, none_tells}
 use Rattle.mob_small.specs.Small.{HasOneBeside}
 use Rattle.mob_small.proofs.Scene.{non_king_inside, non_king_man}
-use Rattle.mob_small.specs.Lone.{color_of_square, HasOnly, HasMenOn, HasOneColor}
-
--- the squares of the two colours, as numbers
-pub squares_of_color : (set_of_bits 6172840429334713770 ≡ set_of (λ u. same_color (color_of_square u) White)) × (set_of_bits 12273903644374837845 ≡ set_of (λ u. same_color (color_of_square u) Black))
-unfolding color_of_square squares
-squares_of_color = (refl, refl)
-
--- what two sets have in common, and what either has
-pub common_of : (p q : ℕ → Bool) → set_common (set_of p) (set_of q) ≡ set_of (λ s. p s && q s)
-unfolding set_common
-common_of p q =
-    same_set (λ s. has_square (set_of p) s && has_square (set_of q) s) (λ s. p s && q s) (λ s small. rw (has-set_of p s small, has-set_of q s small) refl)
-
-pub joined_of : (p q : ℕ → Bool) → set_joined (set_of p) (set_of q) ≡ set_of (λ s. p s || q s)
-unfolding set_joined
-joined_of p q =
-    same_set (λ s. has_square (set_of p) s || has_square (set_of q) s) (λ s. p s || q s) (λ s small. rw (has-set_of p s small, has-set_of q s small) refl)
+use Rattle.mob_small.specs.Lone.{HasOnly, HasMenOn, HasOneColor}
 
 -- a side has only such men where their squares are among those of such men
 pub only_within : (men : List (Option Man)) (c : Color) (test : ℕ → Option Man → Bool) → length men ≡ 64 → (b : Bool)

@@ -7,7 +7,7 @@ use Rattle.cha_board.specs.declared.men.Kind.{Kind}
 use Rattle.cha_board.specs.declared.men.Kind.TheVariants.{Pawn, Bishop, Rook, King}
 use Rattle.cha_board.specs.declared.men.Man.{Man}
 use Rattle.cha_board.specs.Men.{other_color, same_color, same_kind, is_vacant, is_man, is_non_king}
-use Rattle.cha_board.specs.Squares.{is_diagonal, aims_at, lies_between}
+use Rattle.cha_board.specs.Squares.{is_diagonal, aims_at, lies_between, color_of_square}
 use Rattle.cha_board.specs.Board.{Board, man_at, is_empty, is_clear, attacked, king_of, in_check, IsValid}
 use Rattle.cha_board.proofs.Identity.{man_of, is_man_from, same_color_self, same_color_equal, same_kind_equal, other_other, none_some, some_inj, one_kind, empty_is_none}
 use Rattle.cha_board.proofs.ManTests.{is_non_king_from, not_of_other}
@@ -15,13 +15,12 @@ use Rattle.cha_board.proofs.Sightings.{attacked_from}
 use Rattle.cha_moves.specs.Step.{Move}
 use Rattle.cha_moves.specs.Moves.{is_pseudo_legal, is_en_passant, arriving, moved, men_after, is_legal_in}
 use Rattle.cha_moves.proofs.Clearing.{clear_at, clear_from}
-use Rattle.cha_moves.proofs.Kept.{from_to, stays_man, short_castling, long_castling}
+use Rattle.cha_moves.proofs.Kept.{from_to, stays_man, short_castling, long_castling, king_place}
 use Rattle.cha_moves.proofs.Made.{Mover, may_gives, moved_to, moved_from, moved_other, makes, Plainly, Passing, Shortly, Longly}
 use Rattle.mob_law.proofs.Attackers.{Attacker, attacks_by}
 use Rattle.mob_law.proofs.Geometry.{aims_at_self}
-use Rattle.mob_law.proofs.Kings.{king_is_one}
 use Rattle.mob_small.proofs.Scene.{non_king_man}
-use Rattle.mob_small.specs.Lone.{color_of_square, HasOnly, is_bishop_on}
+use Rattle.mob_small.specs.Lone.{HasOnly, is_bishop_on}
 use Rattle.mob_small.proofs.Colors.{between_diagonal, Ray, behind_one, farther}
 
 -- a square does not lie between itself and another
@@ -86,7 +85,7 @@ module _ (q : Board) (m : Move) (valid : IsValid q) (from : m.from < 64) (to : m
     unfolding in_check
     unattacked u by small' found own aims clear =
         let hit = attacked_from q.men q.side k u small' (attacks_by q.men q.side k u by found own aims clear) in
-        let place = king_is_one q.men (other_color q.side) k (valid.kings (other_color q.side)) (rw valid.size small) stood in
+        let place = king_place q.men (other_color q.side) k (valid.kings (other_color q.side)) (rw valid.size small) stood in
         let safe = not-true (in_check q.men (other_color q.side)) valid.opponent in
         let seen : attacked q.men (other_color (other_color q.side)) (king_of q.men (other_color q.side)) ≡ true = rw (other_other, place) hit in
         both_ways (attacked q.men (other_color (other_color q.side)) (king_of q.men (other_color q.side))) safe seen

@@ -1,18 +1,13 @@
 -- Lone minor men: a knight beside queens, and bishops of one colour beside rooks, queens and such bishops (this project).
-use Rattle.std.specs.Prelude.{◌≡◌, ℕ, ◌+◌, ◌%◌, ◌==◌, Bool, true, ◌&&◌, ◌||◌, List, Option, if◌then◌else◌}
+use Rattle.std.specs.Prelude.{◌≡◌, ℕ, Bool, true, ◌&&◌, ◌||◌, List, Option}
 use Rattle.cha_board.specs.declared.men.Color.{Color}
-use Rattle.cha_board.specs.declared.men.Color.TheVariants.{White, Black}
 use Rattle.cha_board.specs.declared.men.Kind.TheVariants.{Knight, Bishop, Rook, Queen}
 use Rattle.cha_board.specs.declared.men.Man.{Man}
 use Rattle.cha_board.specs.Men.{other_color, same_color, is_man, is_non_king}
-use Rattle.cha_board.specs.Squares.{file_of, rank_of}
+use Rattle.cha_board.specs.Squares.{color_of_square}
 use Rattle.cha_board.specs.Board.{Board, man_at}
 use Rattle.cha_moves.specs.Ends.{IsMated}
 use Rattle.mob_small.specs.Small.{HasOneBeside}
-
--- a square is white or black, a1 is black, and squares side by side are of two colours (Laws of Chess, Article 2.1)
-unfoldable pub color_of_square : ℕ → Color
-color_of_square s = if (file_of s + rank_of s) % 2 == 0 then Black else White
 
 -- each man of c beside its king passes a test of its square and of what stands there
 abbrev pub HasOnly : List (Option Man) → Color → (ℕ → Option Man → Bool) → Type 0

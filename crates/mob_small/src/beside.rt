@@ -1,13 +1,10 @@
 //! The men that a side has beside its king.
 
-ghost use Rattle.std.specs.Prelude.{◌≡◌, OnErr, IfOk};
-ghost use Rattle.cha_board.specs.Men.{is_non_king};
-ghost use Rattle.cha_board.specs.Board.{man_at};
-ghost use Rattle.cha_board.specs.SquareSets.{set_of};
+ghost use Rattle.std.specs.Prelude.{OnErr, IfOk};
 ghost use Rattle.mob_small.specs.Small.{HasBeside};
 ghost use Rattle.mob_small.specs.Table.{HasSeveral};
 
-use cha_board::{Color, Kind, Position, SquareSet};
+use cha_board::{Color, Kind, Position};
 
 /// A side has several men beside its king.
 #[derive(Clone, Copy, Debug, PartialEq, Eq)]
@@ -19,7 +16,7 @@ pub(crate) fn kind_beside(position: &Position, of: Color) -> Result<Option<Kind>
     ensures err { OnErr result (HasSeveral position.now.men of) }
 {
     position.known();
-    let beside = non_kings(position, of);
+    let beside = position.non_kings(of);
     match beside.first() {
         None => Ok(None),
         Some(at) => {
@@ -32,12 +29,4 @@ pub(crate) fn kind_beside(position: &Position, of: Color) -> Result<Option<Kind>
             }
         }
     }
-}
-
-/// The squares of a side's men other than kings.
-pub(crate) fn non_kings(position: &Position, of: Color) -> SquareSet
-    ensures { result ≡ set_of (λ u. is_non_king of (man_at position.now.men u)) }
-{
-    let men = position.placement();
-    men.of_side(of).minus(men.all_of_kind(Kind::King))
 }

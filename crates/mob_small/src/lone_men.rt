@@ -6,7 +6,6 @@ ghost use Rattle.cha_board.specs.Men.{other_color};
 ghost use Rattle.mob_small.specs.Small.{HasOneBeside};
 ghost use Rattle.mob_small.specs.Lone.{HasOnly, is_queen, HasMenOn, HasOneColor, IsLoneUnwinnable};
 
-use crate::beside::non_kings;
 use crate::one_color::{bishops_on, heavy_or_bishops_on};
 use cha_board::{Color, Kind, Position};
 use cha_moves::is_mate;
@@ -43,7 +42,7 @@ fn has_one_knight(position: &Position, of: Color) -> bool
     position.known();
     match position.men(of, Kind::Knight).first() {
         None => false,
-        Some(at) => non_kings(position, of).without(at).is_empty(),
+        Some(at) => position.non_kings(of).without(at).is_empty(),
     }
 }
 
@@ -52,7 +51,7 @@ fn has_only_queens(position: &Position, of: Color) -> bool
     ensures { IsTrue result ↔ HasOnly position.now.men of (is_queen of) }
 {
     position.known();
-    non_kings(position, of).within(position.men(of, Kind::Queen))
+    position.non_kings(of).within(position.men(of, Kind::Queen))
 }
 
 /// Whether a side has only bishops on squares of this colour, and the other only rooks, queens and such bishops.
@@ -61,6 +60,10 @@ fn has_bishops_on(position: &Position, winner: Color, square: Color) -> bool
 {
     position.known();
     let loser = winner.other();
-    non_kings(position, winner).within(bishops_on(position, winner, square))
-        && non_kings(position, loser).within(heavy_or_bishops_on(position, loser, square))
+    position
+        .non_kings(winner)
+        .within(bishops_on(position, winner, square))
+        && position
+            .non_kings(loser)
+            .within(heavy_or_bishops_on(position, loser, square))
 }

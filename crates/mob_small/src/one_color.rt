@@ -1,10 +1,9 @@
 //! Bishops on squares of one colour, rooks and queens, as sets of squares.
 
 ghost use Rattle.std.specs.Prelude.{◌≡◌};
-ghost use Rattle.cha_board.specs.Men.{same_color};
 ghost use Rattle.cha_board.specs.Board.{man_at};
 ghost use Rattle.cha_board.specs.SquareSets.{set_of};
-ghost use Rattle.mob_small.specs.Lone.{color_of_square, is_bishop_on, is_heavy_or_bishop_on};
+ghost use Rattle.mob_small.specs.Lone.{is_bishop_on, is_heavy_or_bishop_on};
 
 use cha_board::{Color, Kind, Position, SquareSet};
 
@@ -12,7 +11,9 @@ use cha_board::{Color, Kind, Position, SquareSet};
 pub(crate) fn bishops_on(position: &Position, of: Color, square: Color) -> SquareSet
     ensures { result ≡ set_of (λ u. is_bishop_on square of u (man_at position.now.men u)) }
 {
-    position.men(of, Kind::Bishop).common(squares_of(square))
+    position
+        .men(of, Kind::Bishop)
+        .common(SquareSet::of_color(square))
 }
 
 /// The squares of a side's rooks and queens, and of its bishops that stand on squares of this colour.
@@ -23,14 +24,4 @@ pub(crate) fn heavy_or_bishops_on(position: &Position, of: Color, square: Color)
         .men(of, Kind::Rook)
         .joined(position.men(of, Kind::Queen))
         .joined(bishops_on(position, of, square))
-}
-
-/// The squares of a colour (Laws of Chess, Article 2.1).
-fn squares_of(color: Color) -> SquareSet
-    ensures { result ≡ set_of (λ u. same_color (color_of_square u) color) }
-{
-    match color {
-        Color::White => SquareSet::from_bits(0x55AA_55AA_55AA_55AA),
-        Color::Black => SquareSet::from_bits(0xAA55_AA55_AA55_AA55),
-    }
 }

@@ -1,5 +1,5 @@
 -- Sets into which others are entered.
-use Rattle.std.proofs.Common.{◌≡◌, ℕ, ◌<◌, ◌≤◌, Bool, true, false, ◌&&◌, ◌==◌, List, [], length, refl, sym, ap, subst, arith, inl, inr}
+use Rattle.std.proofs.Common.{◌≡◌, ℕ, ◌<◌, ◌≤◌, Bool, true, ◌&&◌, ◌==◌, List, [], length, refl, sym, ap, subst, arith, inl, inr}
 use Rattle.std.proofs.lemmas.Bool.{and_parts, or_cases, or_left, or_right, and_from, both_ways, cases_lt, eq-eqb, eqb-true}
 use Rattle.std.proofs.lemmas.List.{get_or_past}
 use Rattle.cha_board.specs.declared.men.Kind.{Kind}
@@ -13,7 +13,7 @@ use Rattle.mob_solve.specs.declared.reach.Reach.{Reach}
 use Rattle.mob_solve.specs.Least.{IsLeast}
 use Rattle.mob_solve.specs.Reaching.{sets_in}
 use Rattle.cha_board.specs.Board.{Board}
-use Rattle.cha_board.proofs.Contents.{in_empty}
+use Rattle.cha_board.proofs.Contents.{in_empty, same_test}
 
 pub within_then : (s r t : Sets) → IsWithin s r → IsWithin r t → IsWithin s t
 within_then s r t a b = record { has = λ o k u h. b.has o k u (a.has o k u h); loose = λ o h. b.loose o (a.loose o h) }
@@ -97,17 +97,11 @@ for_each_kind P p n b r q k Rook = r
 for_each_kind P p n b r q k Queen = q
 for_each_kind P p n b r q k King = k
 
-same_truth : (a b : Bool) → (a ≡ true → b ≡ true) → (b ≡ true → a ≡ true) → a ≡ b
-same_truth true true h k = refl
-same_truth true false h k = (let e = h refl in cc)
-same_truth false true h k = (let e = k refl in cc)
-same_truth false false h k = refl
-
 -- sets within each other are the same
 pub within_both : (s r : Sets) → IsWithin s r → IsWithin r s → s ≡ r
 within_both s r a b =
-    let each = λ (o : ℕ) (k : Kind) (u : ℕ). same_truth (s.has o k u) (r.has o k u) (a.has o k u) (b.has o k u) in
-    let loose = λ (o : ℕ). same_truth (s.loose o) (r.loose o) (a.loose o) (b.loose o) in
+    let each = λ (o : ℕ) (k : Kind) (u : ℕ). same_test (s.has o k u) (r.has o k u) (a.has o k u) (b.has o k u) in
+    let loose = λ (o : ℕ). same_test (s.loose o) (r.loose o) (a.loose o) (b.loose o) in
     λ i. record { has = λ o k u. each o k u i; loose = λ o. loose o i }
 
 pub least_entered : (p : Board) (s r : Sets) → IsWithin s r → IsWithin r s → IsLeast p s → IsLeast p r

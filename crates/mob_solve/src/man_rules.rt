@@ -22,7 +22,7 @@ pub fn grow_man(ground: &Ground, reach: &mut Reach, origin: Square, man: Man) ->
     ensures rules { result ≡ false → ManRules ground.now (sets_in reach.old) origin man }
     ensures inside { (r : Sets) → ManRules ground.now r origin man → IsWithin (sets_in reach.old) r → IsWithin (sets_in reach.new) r }
 {
-    let begun = reach.join(origin, man.kind, SquareSet::empty().with(origin));
+    let begun = reach.join(origin, man.kind, SquareSet::single(origin));
     let pawn = grow_row(ground, reach, origin, man.color, Kind::Pawn);
     let pieces = grow_pieces(ground, reach, origin, man.color);
     begun || pawn || pieces

@@ -9,7 +9,7 @@ ghost use Rattle.mob_solve.specs.Reaching.{sets_in};
 
 use crate::reach::Reach;
 use cha_board::{Color, Kind, Position, Square, SquareSet};
-use mob_check::{Ground, own_squares};
+use mob_check::Ground;
 
 /// The ground that sets as they grow make of a position.
 pub fn ground_of(position: &Position, reach: &Reach) -> Ground
@@ -29,7 +29,7 @@ pub fn ground_of(position: &Position, reach: &Reach) -> Ground
 fn reached_squares(position: &Position, reach: &Reach, side: Color) -> SquareSet
     ensures { result ≡ set_of (is_reached position.now (sets_in reach.now) side) }
 {
-    let own = own_squares(position, side);
+    let own = position.non_kings(side);
     let mut squares = SquareSet::empty();
     for index in 0..64 {
         let origin = Square::at(index);

@@ -58,10 +58,12 @@ impl Army {
         if self.bishops.is_empty() || !self.others().within(self.bishops) {
             return None;
         }
-        if self.bishops.within(dark()) {
-            Some(dark())
-        } else if self.bishops.within(light()) {
-            Some(light())
+        let dark = SquareSet::of_color(Color::Black);
+        let light = SquareSet::of_color(Color::White);
+        if self.bishops.within(dark) {
+            Some(dark)
+        } else if self.bishops.within(light) {
+            Some(light)
         } else {
             None
         }
@@ -73,17 +75,12 @@ impl Army {
     }
 }
 
-/// The dark squares, a1 among them.
-fn dark() -> SquareSet {
-    SquareSet::from_bits(0xaa55_aa55_aa55_aa55)
-}
-
-/// The light squares.
-fn light() -> SquareSet {
-    SquareSet::from_bits(0x55aa_55aa_55aa_55aa)
-}
-
 /// The squares of the colour of a square.
 pub fn color_of(at: Square) -> SquareSet {
-    if dark().has(at) { dark() } else { light() }
+    let dark = SquareSet::of_color(Color::Black);
+    if dark.has(at) {
+        dark
+    } else {
+        SquareSet::of_color(Color::White)
+    }
 }

@@ -5,6 +5,7 @@ ghost use Rattle.std.specs.Prelude.{◌<◌, ◌≤◌, IfSome};
 use crate::army::{Army, color_of};
 use crate::reach::steps_to_nearest;
 use cha_board::{Color, Square, SquareSet, squares_between};
+use cha_moves::promotion_rank;
 
 /// What each rank to the last one counts.
 const RANK: u32 = 2;
@@ -18,19 +19,11 @@ const STEP_TO_PAWN: u32 = 4;
 /// The most that a way counts.
 pub const LONGEST_WAY: u32 = 40;
 
-/// The last rank of a side.
-fn last_rank(side: Color) -> SquareSet {
-    match side {
-        Color::White => SquareSet::of_rank(7),
-        Color::Black => SquareSet::of_rank(0),
-    }
-}
-
 /// How many ranks the most advanced pawn of a set is from the last rank of its side. `None` where there is none.
 pub fn ranks_to_promotion(side: Color, pawns: SquareSet) -> Option<u8>
     ensures { IfSome result (λ ranks. ranks < 8) }
 {
-    let last = last_rank(side);
+    let last = SquareSet::of_rank(promotion_rank(side));
     let mut moved = pawns;
     for ranks in 0..8 {
         if !moved.common(last).is_empty() {
@@ -43,10 +36,7 @@ pub fn ranks_to_promotion(side: Color, pawns: SquareSet) -> Option<u8>
 
 /// The squares in front of a pawn on its file.
 fn in_front(side: Color, pawn: Square) -> SquareSet {
-    let end = match side {
-        Color::White => Square::at(56 + pawn.file()),
-        Color::Black => Square::at(pawn.file()),
-    };
+    let end = Square::at(8 * promotion_rank(side) + pawn.file());
     squares_between(pawn, end).with(end)
 }
 

@@ -7,17 +7,11 @@ use cha_board::{Square, SquareSet};
 /// How many rounds of king's steps there are at most: one for each square.
 const ROUNDS: u8 = 64;
 
-/// The squares of a set and those next to them.
-fn spread(set: SquareSet) -> SquareSet {
-    let wide = set.joined(set.east()).joined(set.west());
-    wide.joined(wide.north()).joined(wide.south())
-}
-
 /// The squares that king's steps reach from a square over squares of a set.
 pub fn region(from: Square, over: SquareSet) -> SquareSet {
     let mut reached = SquareSet::single(from);
     for _ in 0..ROUNDS {
-        let grown = spread(reached).common(over).joined(reached);
+        let grown = reached.king_steps().common(over).joined(reached);
         if grown.within(reached) {
             return reached;
         }
@@ -30,12 +24,12 @@ pub fn region(from: Square, over: SquareSet) -> SquareSet {
 pub fn steps_to_nearest(from: Square, set: SquareSet) -> Option<u8>
     ensures { IfSome result (λ steps. steps < 8) }
 {
-    let mut near = SquareSet::single(from);
+    let mut at = SquareSet::single(from);
     for steps in 0..8 {
-        if !near.common(set).is_empty() {
+        if !at.common(set).is_empty() {
             return Some(steps);
         }
-        near = spread(near);
+        at = at.king_steps();
     }
     None
 }

@@ -6,7 +6,8 @@ use Rattle.cha_board.specs.Squares.{aims_at}
 use Rattle.cha_board.specs.Board.{man_at}
 use Rattle.cha_board.proofs.SetLaws.{same_set}
 use Rattle.cha_moves.specs.Shields.{aims_as}
-use Rattle.cha_moves.proofs.Facing.{joined_of, six_kinds}
+use Rattle.cha_moves.proofs.Facing.{six_kinds}
+use Rattle.cha_moves.proofs.Goings.{joined_of}
 use Rattle.cha_moves.proofs.shields.aimers.Goals as goal
 
 pub returns : goal.returns

@@ -35,7 +35,7 @@ returns-then-rank-first_pawn_rank c =
     let one = c.ahead-one.ensures ∙ ap (λ x. ahead_of x s) c.side-side.ensures in
     let free = stands_at q.men c.occupied-occupied.result c.ahead-one.result (ahead_of q.side s) c.has.result c.occupied-occupied.ensures one (ahead_small q.side s small inner) c.has.ensures ∙ ap not c.if-has.false in
     let late = ne_eqb (rank_of s) (second_rank q.side) (λ e. c.if-rank-first_pawn_rank.true (c.rank-2.ensures.value ∙ e ∙ sym (c.first_pawn_rank.ensures ∙ ap second_rank c.side-side.ensures))) in
-    c.with-steps.ensures ∙ rw (c.empty-2.ensures, one) (with_of (λ _. false) (ahead_of q.side s))
+    c.single-steps.ensures ∙ rw one (with_of (λ _. false) (ahead_of q.side s))
     ∙ pushes_one q s small inner free (and_left (rank_of s == second_rank q.side) (is_empty q.men (ahead_of q.side (ahead_of q.side s))) late)
 
 pub returns-then-has-2 : goal.returns-then-has-2
@@ -49,7 +49,7 @@ returns-then-has-2 c =
     let begins = eq-eqb (rank_of s) (second_rank q.side) (sym c.rank-2.ensures.value ∙ c.if-rank-first_pawn_rank.false ∙ c.first_pawn_rank.ensures ∙ ap second_rank c.side-side.ensures) in
     let two = c.ahead-two.ensures ∙ ap (λ x. ahead_of x c.ahead-one.result) c.side-side.ensures ∙ ap (ahead_of q.side) one in
     let stands = stands_at q.men c.occupied-occupied.result c.ahead-two.result (ahead_of q.side (ahead_of q.side s)) c.has-2.result c.occupied-occupied.ensures two (two_small q.side s small begins) c.has-2.ensures ∙ ap not c.if-has-2.true in
-    c.with-steps.ensures ∙ rw (c.empty-2.ensures, one) (with_of (λ _. false) (ahead_of q.side s))
+    c.single-steps.ensures ∙ rw one (with_of (λ _. false) (ahead_of q.side s))
     ∙ pushes_one q s small inner free (and_right (rank_of s == second_rank q.side) (is_empty q.men (ahead_of q.side (ahead_of q.side s))) stands)
 
 pub returns : goal.returns
@@ -63,5 +63,5 @@ returns c =
     let begins = eq-eqb (rank_of s) (second_rank q.side) (sym c.rank-2.ensures.value ∙ c.if-rank-first_pawn_rank.false ∙ c.first_pawn_rank.ensures ∙ ap second_rank c.side-side.ensures) in
     let two = c.ahead-two.ensures ∙ ap (λ x. ahead_of x c.ahead-one.result) c.side-side.ensures ∙ ap (ahead_of q.side) one in
     let free' = stands_at q.men c.occupied-occupied.result c.ahead-two.result (ahead_of q.side (ahead_of q.side s)) c.has-2.result c.occupied-occupied.ensures two (two_small q.side s small begins) c.has-2.ensures ∙ ap not c.if-has-2.false in
-    let steps : c.with-steps.result ≡ set_of (λ t. (t == ahead_of q.side s) || false) = c.with-steps.ensures ∙ rw (c.empty-2.ensures, one) (with_of (λ _. false) (ahead_of q.side s)) in
+    let steps : c.single-steps.result ≡ set_of (λ t. (t == ahead_of q.side s) || false) = c.single-steps.ensures ∙ rw one (with_of (λ _. false) (ahead_of q.side s)) in
     c.with.ensures ∙ rw (steps, two) (with_of (λ t. (t == ahead_of q.side s) || false) (ahead_of q.side (ahead_of q.side s))) ∙ pushes_two q s small inner free begins free'

@@ -1,5 +1,5 @@
-use Rattle.std.proofs.Common.{◌≡◌, ◌<◌, ◌∙◌, List, Bool, sym, ap, arith}
-use Rattle.cha_board.specs.SquareSets.{empty_set, set_with, set_common}
+use Rattle.std.proofs.Common.{◌<◌, ◌∙◌, sym, arith}
+use Rattle.cha_board.specs.SquareSets.{set_common}
 use Rattle.mob_check.proofs.Freeing.{left_none, left_some}
 use Rattle.mob_check.proofs.frees.left.Goals as goal
 
@@ -7,16 +7,14 @@ pub returns-then-is_empty : goal.returns-then-is_empty
 unfolding set_common
 returns-then-is_empty c =
     let small : c.args.origin < 64 = omega arith in
-    let one : c.with-single.result ≡ set_with empty_set c.args.origin = c.with-single.ensures ∙ ap (λ (x : List Bool). set_with x c.args.origin) c.empty.ensures in
-    c.empty-then-is_empty.ensures
-    ∙ left_none c.args.ground.now c.args.origin c.args.side c.args.kind c.args.row c.with-single.result c.common.result c.entered.result small
-    one c.common.ensures c.entered.ensures (sym c.is_empty.ensures ∙ c.if-is_empty.true)
+    c.empty.ensures
+    ∙ left_none c.args.ground.now c.args.origin c.args.side c.args.kind c.args.row c.single-single.result c.common.result c.entered.result small
+    c.single-single.ensures c.common.ensures c.entered.ensures (sym c.is_empty.ensures ∙ c.if-is_empty.true)
 
 pub returns-else-is_empty : goal.returns-else-is_empty
 unfolding set_common
 returns-else-is_empty c =
     let small : c.args.origin < 64 = omega arith in
-    let one : c.with-single.result ≡ set_with empty_set c.args.origin = c.with-single.ensures ∙ ap (λ (x : List Bool). set_with x c.args.origin) c.empty.ensures in
-    one
-    ∙ left_some c.args.ground.now c.args.origin c.args.side c.args.kind c.args.row c.with-single.result c.common.result c.entered.result small
-    one c.common.ensures c.entered.ensures (sym c.is_empty.ensures ∙ c.if-is_empty.false)
+    c.single-single.ensures
+    ∙ left_some c.args.ground.now c.args.origin c.args.side c.args.kind c.args.row c.single-single.result c.common.result c.entered.result small
+    c.single-single.ensures c.common.ensures c.entered.ensures (sym c.is_empty.ensures ∙ c.if-is_empty.false)

@@ -1,5 +1,5 @@
 use Rattle.cha_board.specs.SquareSets.{set_common, set_minus}
-use Rattle.mob_check.proofs.Pulls.{width_of}
+use Rattle.cha_board.proofs.Pulls.{width_of}
 use Rattle.mob_check.proofs.Going.{pawns_enter}
 use Rattle.mob_check.proofs.goes.pawns_go.Goals as goal
 

@@ -1,6 +1,5 @@
 use Rattle.std.proofs.Common.{sym, ap, ◌∙◌}
 use Rattle.cha_board.specs.Men.{same_color}
-use Rattle.cha_board.specs.SquareSets.{set_with}
 use Rattle.mob_check.proofs.Grounds.{no_target, target_of_other, target_of_own}
 use Rattle.mob_check.proofs.ground.target_squares.Goals as goal
 
@@ -9,7 +8,7 @@ returns-in-None c = c.empty.ensures ∙ no_target c.args.position.now c.args.sid
 
 pub returns-then-is : goal.returns-then-is
 returns-then-is c =
-    c.with.ensures ∙ ap (λ s. set_with s c.in-Some.target) c.empty-then-is.ensures
+    c.single.ensures
     ∙ target_of_own c.args.position.now c.args.side c.in-Some.target (sym c.target.ensures ∙ c.in-Some.is) (ap (λ x. same_color c.args.side x) (sym c.side.ensures) ∙ sym c.is.ensures ∙ c.if-is.true)
 
 pub returns-else-is : goal.returns-else-is

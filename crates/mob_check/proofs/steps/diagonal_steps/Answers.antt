@@ -1,5 +1,6 @@
 use Rattle.std.proofs.Common.{◌≡◌, length}
-use Rattle.mob_check.proofs.Pulls.{sides, up, down, pull_up, pull_down, pull_joined, pull_sides, width_of, bishop_spreads}
+use Rattle.cha_board.proofs.Pulls.{sides, up, down, pull_up, pull_down, pull_joined, pull_sides, width_of}
+use Rattle.mob_check.proofs.Spreads.{bishop_spreads}
 use Rattle.mob_check.proofs.steps.diagonal_steps.Goals as goal
 
 pub returns : goal.returns

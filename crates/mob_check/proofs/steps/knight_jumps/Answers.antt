@@ -1,5 +1,6 @@
 use Rattle.std.proofs.Common.{◌≡◌, length}
-use Rattle.mob_check.proofs.Pulls.{here, sides, far_sides, up, down, left, right, either, pull_here, pull_up, pull_down, pull_left, pull_right, pull_joined, pull_sides, width_of, knight_spreads}
+use Rattle.cha_board.proofs.Pulls.{here, sides, up, down, left, right, either, pull_here, pull_up, pull_down, pull_left, pull_right, pull_joined, pull_sides, width_of}
+use Rattle.mob_check.proofs.Spreads.{far_sides, knight_spreads}
 use Rattle.mob_check.proofs.steps.knight_jumps.Goals as goal
 
 pub returns : goal.returns

@@ -2,7 +2,8 @@ use Rattle.std.proofs.Common.{◌≡◌, ◌∙◌, length, sym, ap}
 use Rattle.cha_board.specs.declared.men.Color.{Color}
 use Rattle.cha_board.specs.declared.men.Kind.TheVariants.{Pawn}
 use Rattle.mob_check.specs.Steps.{spread_of}
-use Rattle.mob_check.proofs.Pulls.{sides, pull_up, pull_down, pull_sides, width_of, white_spreads, black_spreads}
+use Rattle.cha_board.proofs.Pulls.{sides, pull_up, pull_down, pull_sides, width_of}
+use Rattle.mob_check.proofs.Spreads.{white_spreads, black_spreads}
 use Rattle.mob_check.proofs.steps.pawn_captures.Goals as goal
 
 pub returns-in-White : goal.returns-in-White

@@ -4,7 +4,7 @@ use Rattle.cha_board.specs.declared.men.Kind.TheVariants.{Rook, Queen}
 use Rattle.cha_board.specs.Men.{is_man}
 use Rattle.cha_board.specs.Board.{man_at}
 use Rattle.mob_small.specs.Lone.{is_bishop_on}
-use Rattle.mob_small.proofs.Sets.{joined_of}
+use Rattle.cha_moves.proofs.Goings.{joined_of}
 use Rattle.mob_small.proofs.one_color.heavy_or_bishops_on.Goals as goal
 
 pub returns : goal.returns

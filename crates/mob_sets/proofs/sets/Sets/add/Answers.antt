@@ -1,5 +1,4 @@
 use Rattle.std.proofs.Common.{◌<◌, List, Bool, ap, ◌∙◌, arith}
-use Rattle.cha_board.specs.SquareSets.{set_with}
 use Rattle.mob_sets.specs.Rows.{sets_of, sets_joined}
 use Rattle.mob_sets.proofs.Joining.{joined_one}
 use Rattle.mob_sets.proofs.sets.Sets.add.Goals as goal
@@ -9,5 +8,5 @@ returns-clause-ok c =
     let small : c.args.at < 64 = omega arith in
     let s = sets_of c.args.self.now in
     c.in_ok-join.ensures.ok
-    ∙ ap (λ (x : List Bool). sets_joined s c.args.origin c.args.kind x) (c.with.ensures ∙ ap (λ (x : List Bool). set_with x c.args.at) c.empty.ensures)
+    ∙ ap (λ (x : List Bool). sets_joined s c.args.origin c.args.kind x) c.single.ensures
     ∙ joined_one s c.args.origin c.args.kind c.args.at small

@@ -1,20 +1,14 @@
 -- Sets made of others by moves of one square: from which squares of the first set each of their squares comes.
 use Rattle.std.proofs.Common.{◌≡◌, ℕ, ◌+◌, ◌-◌, ◌<◌, Bool, true, false, not, ◌&&◌, ◌||◌, ◌==◌, List, length, refl, sym, ap, subst, ◌∙◌, arith, inl, inr}
 use Rattle.std.specs.List.{list_all, list_any}
-use Rattle.std.proofs.lemmas.Bool.{and_parts, and_from, and_right, or_cases, or_left, or_right, cases_Bool, not-true, eq-eqb, eqb-true, eqb-false}
-use Rattle.cha_board.specs.declared.men.Color.{Color}
-use Rattle.cha_board.specs.declared.men.Color.TheVariants.{White, Black}
-use Rattle.cha_board.specs.declared.men.Kind.{Kind}
-use Rattle.cha_board.specs.declared.men.Kind.TheVariants.{Pawn, Knight, Bishop, Rook, Queen, King}
-use Rattle.cha_board.specs.Squares.{squares, file_of, rank_of, files_apart, ranks_apart, steps_apart, is_straight, is_diagonal, is_line, is_rank_ahead, aims_at}
-use Rattle.cha_board.specs.SquareSets.{set_of, has_square, set_of_bits, set_joined}
 use Rattle.std.specs.Int.{bit_at}
+use Rattle.std.proofs.lemmas.Bool.{and_parts, and_from, and_right, or_cases, or_left, or_right, cases_Bool, not-true, eq-eqb, eqb-true, eqb-false}
+use Rattle.cha_board.specs.Squares.{squares, file_of, rank_of, files_apart, ranks_apart, steps_apart}
+use Rattle.cha_board.specs.SquareSets.{set_of, has_square, set_of_bits, set_joined}
+use Rattle.cha_board.specs.Shifts.{is_above, is_below, is_right_of, is_left_of, is_king_step}
 use Rattle.cha_board.proofs.SetLaws.{length-set_of, has-set_of, same_squares}
 use Rattle.cha_board.proofs.Scans.{any_square_at, no_square, all_squares_at}
 use Rattle.cha_board.proofs.Contents.{some_square, same_test}
-use Rattle.mob_law.specs.Reach.{steps_to}
-use Rattle.mob_check.specs.Steps.{is_stepped_to, spread_of}
-use Rattle.cha_board.specs.Shifts.{is_above, is_below, is_right_of, is_left_of}
 
 -- a square of the board is in the set where a square of the first set leads to it
 pub record Pulls (a x : List Bool) (leads : ℕ → ℕ → Bool) : Type 0 where
@@ -159,7 +153,7 @@ unfoldable pub agree : Bool → Bool → Bool
 agree true b = b
 agree false b = not b
 
-agreed : (a b : Bool) → agree a b ≡ true → a ≡ b
+pub agreed : (a b : Bool) → agree a b ≡ true → a ≡ b
 unfolding agree
 agreed true true h = refl
 agreed false false h = refl
@@ -181,80 +175,21 @@ sides = either (right here) (left here)
 abbrev pub king_way : ℕ → ℕ → Bool
 king_way = either (either sides (up (either sides here))) (down (either sides here))
 
-abbrev pub rook_way : ℕ → ℕ → Bool
-rook_way = either (either (up here) (down here)) sides
-
-abbrev pub bishop_way : ℕ → ℕ → Bool
-bishop_way = either (up sides) (down sides)
-
-abbrev pub far_sides : ℕ → ℕ → Bool
-far_sides = either (right (right here)) (left (left here))
-
-abbrev pub knight_way : ℕ → ℕ → Bool
-knight_way = either (either (up (up sides)) (down (down sides))) (either (up far_sides) (down far_sides))
-
-king_table : pairs king_way (steps_to White King) ≡ true
-unfolding pairs agree steps_to aims_at steps_apart files_apart ranks_apart squares
-king_table = refl
-
-queen_table : pairs king_way (steps_to White Queen) ≡ true
-unfolding pairs agree steps_to aims_at is_line is_straight is_diagonal steps_apart files_apart ranks_apart squares
-queen_table = refl
-
-rook_table : pairs rook_way (steps_to White Rook) ≡ true
-unfolding pairs agree steps_to aims_at is_straight steps_apart files_apart ranks_apart squares
-rook_table = refl
-
-bishop_table : pairs bishop_way (steps_to White Bishop) ≡ true
-unfolding pairs agree steps_to aims_at is_diagonal steps_apart files_apart ranks_apart squares
-bishop_table = refl
-
-knight_table : pairs knight_way (steps_to White Knight) ≡ true
-unfolding pairs agree steps_to aims_at steps_apart files_apart ranks_apart squares
-knight_table = refl
-
-white_table : pairs (up sides) (steps_to White Pawn) ≡ true
-unfolding pairs agree steps_to aims_at is_rank_ahead steps_apart files_apart ranks_apart squares
-white_table = refl
-
-black_table : pairs (down sides) (steps_to Black Pawn) ≡ true
-unfolding pairs agree steps_to aims_at is_rank_ahead steps_apart files_apart ranks_apart squares
-black_table = refl
-
--- pieces step alike for both sides
-any_color : (c : Color) (u t : ℕ) → (steps_to c King u t ≡ steps_to White King u t) × (steps_to c Queen u t ≡ steps_to White Queen u t) × (steps_to c Rook u t ≡ steps_to White Rook u t)
-    × (steps_to c Bishop u t ≡ steps_to White Bishop u t) × (steps_to c Knight u t ≡ steps_to White Knight u t)
-unfolding steps_to aims_at
-any_color c u t = (refl, refl, refl, refl, refl)
-
-spreads : (c : Color) (k : Kind) (a x : List Bool) (way : ℕ → ℕ → Bool) → ((u t : ℕ) → u < 64 → t < 64 → way u t ≡ steps_to c k u t) → Pulls a x way → x ≡ spread_of c k a
-unfolding is_stepped_to
-spreads c k a x way same p = pulled a x (steps_to c k) (pull_is a x way (steps_to c k) same p)
-
-pub king_spreads : (c : Color) (a x : List Bool) → Pulls a x king_way → (x ≡ spread_of c King a) × (x ≡ spread_of c Queen a)
-king_spreads c a x p = (
-  spreads c King a x king_way (λ u t small small'. from_pairs king_way (steps_to White King) king_table u t small small' ∙ sym (any_color c u t).0) p,
-  spreads c Queen a x king_way (λ u t small small'. from_pairs king_way (steps_to White Queen) queen_table u t small small' ∙ sym (any_color c u t).1) p,
-)
-
-pub rook_spreads : (c : Color) (a x : List Bool) → Pulls a x rook_way → x ≡ spread_of c Rook a
-rook_spreads c a x p = spreads c Rook a x rook_way (λ u t small small'. from_pairs rook_way (steps_to White Rook) rook_table u t small small' ∙ sym (any_color c u t).2) p
-
-pub bishop_spreads : (c : Color) (a x : List Bool) → Pulls a x bishop_way → x ≡ spread_of c Bishop a
-bishop_spreads c a x p = spreads c Bishop a x bishop_way (λ u t small small'. from_pairs bishop_way (steps_to White Bishop) bishop_table u t small small' ∙ sym (any_color c u t).3) p
-
-pub knight_spreads : (c : Color) (a x : List Bool) → Pulls a x knight_way → x ≡ spread_of c Knight a
-knight_spreads c a x p = spreads c Knight a x knight_way (λ u t small small'. from_pairs knight_way (steps_to White Knight) knight_table u t small small' ∙ sym (any_color c u t).4) p
-
-pub white_spreads : (a x : List Bool) → Pulls a x (up sides) → x ≡ spread_of White Pawn a
-white_spreads a x p = spreads White Pawn a x (up sides) (from_pairs (up sides) (steps_to White Pawn) white_table) p
-
-pub black_spreads : (a x : List Bool) → Pulls a x (down sides) → x ≡ spread_of Black Pawn a
-black_spreads a x p = spreads Black Pawn a x (down sides) (from_pairs (down sides) (steps_to Black Pawn) black_table) p
-
 pub pull_sides : (a e w s : List Bool) → length a ≡ 64 → e ≡ set_of (is_right_of a) → w ≡ set_of (is_left_of a) → s ≡ set_joined e w → Pulls a s sides
 pull_sides a e w s long east west both =
     pull_joined a e w s (right here) (left here) (pull_right a a e here (pull_here a long) east) (pull_left a a w here (pull_here a long) west) both
 
 pub width_of : (a : List Bool) (n : ℕ) → a ≡ set_of_bits n → length a ≡ 64
 width_of a n is = ap (λ (x : List Bool). length x) is ∙ length-set_of (λ (s : ℕ). bit_at n s == 1)
+
+-- two squares are a step of a king apart
+abbrev pub king_step : ℕ → ℕ → Bool
+king_step u t = steps_apart u t == 1
+
+king_table : pairs king_way king_step ≡ true
+unfolding pairs agree steps_apart files_apart ranks_apart squares
+king_table = refl
+
+pub king_stepped : (a x : List Bool) → Pulls a x king_way → x ≡ set_of (is_king_step a)
+unfolding is_king_step
+king_stepped a x p = pulled a x king_step (pull_is a x king_way king_step (from_pairs king_way king_step king_table) p)

@@ -1,5 +1,5 @@
 -- The entries that the searches make, one after another.
-use Rattle.std.proofs.Common.{◌≡◌, List, [], ◌∷◌, ◌++◌, Result, Ok, subst, ap, sym, ◌∙◌, refl}
+use Rattle.std.proofs.Common.{◌≡◌, List, [], ◌∷◌, ◌++◌, Result, Ok, subst, refl}
 use Rattle.std.specs.Result.{IsErr}
 use Rattle.std.proofs.lemmas.List.Elements.{Contains-append_left, Contains-append_right}
 use Rattle.cha_list.specs.declared.memory.NoMemory.{NoMemory}
@@ -31,14 +31,6 @@ probe_right xs ys q w h = (h.0, Contains-append_right xs ys _ h.1)
 
 module _ {S : Type 0} (made : S → List Entry → S → Type 0) (joined : (a b c : S) (xs ys : List Entry) → made a xs b → made b ys c → made a (xs ++ ys) c) where
   -- nothing was asked where memory is refused before a search
-  pub asked_nothing : (s : S) (q : Board) (w : Color) (result : Result Verdict NoMemory) → made s [] s → IsErr result → AskedFor made s s q w result
-  asked_nothing s q w result none refused = record {
-    entries = [];
-    entered = none;
-    asked = λ v is. (let P : Result Verdict NoMemory → Type 0 = λ x. IsErr x in let h = subst P is refused in cc);
-  }
-
-  -- nor of a side
   pub decided_nothing : (s : S) (q : Board) (result : Result Decision NoMemory) → made s [] s → IsErr result → Asked made s s q result
   decided_nothing s q result none refused = record {
     entries = [];

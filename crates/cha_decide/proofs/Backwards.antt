@@ -1,5 +1,5 @@
 -- What is found on the way back through a game.
-use Rattle.std.proofs.Common.{◌≡◌, ℕ, ◌+◌, ◌-◌, ◌<◌, ◌≤◌, ◌||◌, Bool, true, false, List, [], ◌++◌, length, Option, Some, None, slice_get, refl, sym, ◌∙◌, subst, ap, arith}
+use Rattle.std.proofs.Common.{◌≡◌, ℕ, ◌+◌, ◌-◌, ◌<◌, false, List, [], ◌++◌, length, Option, Some, None, slice_get, refl, ◌∙◌, subst, arith}
 use Rattle.cha_board.specs.declared.men.Color.{Color}
 use Rattle.cha_board.specs.declared.men.Color.TheVariants.{White, Black}
 use Rattle.cha_board.specs.Board.{Board}
@@ -14,7 +14,7 @@ use Rattle.cha_limits.specs.Bounds.{Bounds}
 use Rattle.cha_verdict.specs.Verdicts.{is_winnable, is_skipped, IsPrintable}
 use Rattle.cha_verdict.specs.Sound.{IsSound}
 use Rattle.cha_verdict.specs.Scans.{IsEarlier, IsOpenEdge, HasEdge}
-use Rattle.cha_decide.specs.declared.scanning.Before.TheVariants.{Dead, Open}
+use Rattle.cha_decide.specs.declared.scanning.Before.TheVariants.{Dead}
 use Rattle.cha_decide.specs.declared.scanning.DeadPly.{DeadPly}
 use Rattle.cha_decide.specs.declared.scanning.OpenPly.{OpenPly}
 use Rattle.cha_decide.specs.Shown.{MadeSome}
@@ -94,13 +94,6 @@ module _ (qs : List Board) (first : Color) (limits : Bounds) where
         sound = record { earlier = shown.earlier; edge = edge_there dead.ply is.0 at.edge (omega (arith, next)) there is.2 };
         printable = shown.printable;
       }
-
-  -- a dead start
-  pub found_at_start : (dead : DeadPly) → IsShownAt qs dead → dead.ply ≡ 0 → IsScanFound qs first limits (record { ply = 0; edge = Start; earlier = dead.certs })
-  found_at_start dead shown is = record {
-    sound = record { earlier = subst (λ k. IsEarlier qs k dead.certs) is shown.earlier; edge = refl };
-    printable = shown.printable;
-  }
 
 module _ {S : Type 0} (made : S → List Entry → S → Type 0) where
   pub made_none : (s : S) → made s [] s → MadeSome made s s

@@ -1,5 +1,5 @@
 -- The verdicts on both sides.
-use Rattle.std.proofs.Common.{◌≡◌, true, false, List, [], ◌∷◌, ◌++◌, Result, Ok, refl}
+use Rattle.std.proofs.Common.{◌≡◌, false}
 use Rattle.cha_board.specs.declared.men.Color.{Color}
 use Rattle.cha_board.specs.declared.men.Color.TheVariants.{White, Black}
 use Rattle.cha_board.specs.Men.{other_color}
@@ -7,7 +7,6 @@ use Rattle.cha_board.specs.Board.{Board}
 use Rattle.cha_verdict.specs.declared.verdicts.Verdict.{Verdict}
 use Rattle.cha_limits.specs.Bounds.{Bounds}
 use Rattle.cha_verdict.specs.Verdicts.{is_winnable, is_skipped}
-use Rattle.cha_verdict.specs.declared.decisions.Decision.{Decision}
 use Rattle.cha_verdict.specs.Sound.{IsTrueOf, IsSound, verdict_on}
 
 -- what is found about each side makes the whole, whichever side was examined first

@@ -15,6 +15,13 @@ use Rattle.cha_fact.specs.Entries.{Entry, HasProbe, HasFound, HasStore, IsSearch
 abbrev pub Within : List Entry → List Entry → Type 0
 Within some more = (e : Entry) → Contains some e → Contains more e
 
+-- the two parts of a joined list
+pub front_within : (xs ys : List Entry) → Within xs (xs ++ ys)
+front_within xs ys e there = Contains-append_left xs ys e there
+
+pub back_within : (xs ys : List Entry) → Within ys (xs ++ ys)
+back_within xs ys e there = Contains-append_right xs ys e there
+
 pub within_both : (before entries behind : List Entry) → Within entries (before ++ entries ++ behind)
 within_both before entries behind e there = Contains-append_left (before ++ entries) behind e (Contains-append_right before entries e there)
 

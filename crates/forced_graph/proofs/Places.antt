@@ -1,33 +1,12 @@
 -- The nodes of an exploration by their names, as one is added or becomes a leaf.
-use Rattle.std.proofs.Common.{◌≡◌, ℕ, zero, suc, ◌<◌, ◌⊎◌, inl, inr, List, [], ◌∷◌, ◌++◌, length, Option, Some, slice_get, set, refl, sym, ap, subst, ◌∙◌, arith}
+use Rattle.std.proofs.Common.{◌≡◌, ℕ, zero, suc, ◌<◌, ◌⊎◌, inl, inr, List, [], ◌∷◌, ◌++◌, length, Option, Some, slice_get, set, refl, sym, ap, subst, arith}
 use Rattle.std.specs.List.{Contains}
 use Rattle.std.proofs.lemmas.Option.{same_Some, slice_get_read}
 use Rattle.std.proofs.lemmas.List.Elements.{Contains-append_left}
 use Rattle.cha_board.specs.Board.{Board}
 use Rattle.cha_moves.proofs.Contained.{Contains-cons_here, Contains-cons_there}
 use Rattle.node_store.specs.declared.origin.Origin.{Origin}
-use Rattle.node_store.specs.Nodes.{Node, positions, origins, mark, IsAt}
-use Rattle.node_store.proofs.Marking.{same_positions}
-
--- two numbers are one, or they are not
-pub one_or_two : (a b : ℕ) → (a ≡ b) ⊎ (a ≡ b → ⊥)
-one_or_two zero zero = inl refl
-one_or_two zero (suc b) = inr (λ e. cc)
-one_or_two (suc a) zero = inr (λ e. cc)
-one_or_two (suc a) (suc b) = elim (one_or_two a b) [
-  | inl is ↦ inl (ap suc is)
-  | inr other ↦ inr (λ e. other (omega (arith, e)))
-]
-
-pub within_get : {X : Type 0} (xs : List X) (i : ℕ) (x : X) → slice_get xs i ≡ Some x → i < length xs
-within_get [] i x at = cc
-within_get (y ∷ ys) zero x at = omega arith
-within_get (y ∷ ys) (suc i) x at = (let rest : i < length ys = within_get ys i x at in omega arith)
-
-pub some_get : {X : Type 0} (xs : List X) (i : ℕ) → i < length xs → (x : X) × (slice_get xs i ≡ Some x)
-some_get [] i within = absurd (omega (arith, within))
-some_get (y ∷ ys) zero within = (y, refl)
-some_get (y ∷ ys) (suc i) within = some_get ys i (omega arith)
+use Rattle.node_store.specs.Nodes.{Node, positions, origins, mark}
 
 -- what stands at a place is contained
 pub get_contained : {X : Type 0} (xs : List X) (i : ℕ) (x : X) → slice_get xs i ≡ Some x → Contains xs x
@@ -56,12 +35,6 @@ unfolding mark
 same_origins [] name = refl
 same_origins (n ∷ ns) zero = refl
 same_origins (n ∷ ns) (suc name) = ap (λ (os : List (Option Origin)). n.origin ∷ os) (same_origins ns name)
-
-pub marked_at : (nodes : List Node) (name i : ℕ) (q : Board) → IsAt (mark nodes name) i q → IsAt nodes i q
-marked_at nodes name i q at = sym (ap (λ (ps : List Board). slice_get ps i) (same_positions nodes name)) ∙ at
-
-pub at_marked : (nodes : List Node) (name i : ℕ) (q : Board) → IsAt nodes i q → IsAt (mark nodes name) i q
-at_marked nodes name i q at = ap (λ (ps : List Board). slice_get ps i) (same_positions nodes name) ∙ at
 
 -- a node more
 pub positions_more : (ns ms : List Node) → positions (ns ++ ms) ≡ positions ns ++ positions ms

@@ -2,6 +2,7 @@
 use Rattle.std.proofs.Common.{◌≡◌, ℕ, zero, suc, ◌<◌, inl, inr, List, [], ◌∷◌, ◌++◌, length, Option, None, Some, slice_get, set, replicate, length-set, refl, sym, ap, subst, ◌∙◌, arith}
 use Rattle.std.specs.List.{Contains}
 use Rattle.std.specs.Option.{IfSome, IfNone}
+use Rattle.std.proofs.lemmas.Bool.{cases_eq}
 use Rattle.std.proofs.lemmas.Option.{same_Some}
 use Rattle.std.proofs.lemmas.List.Elements.{Contains-append_left, Contains-push, Contains-push_cases}
 use Rattle.cha_board.specs.declared.men.Color.{Color}
@@ -16,14 +17,14 @@ use Rattle.node_store.specs.declared.origin.Origin.{Origin}
 use Rattle.node_store.specs.Lists.{list_at, Has, put, first_name, without_first}
 use Rattle.node_store.specs.Nodes.{Node, positions, origins, mark, IsAt}
 use Rattle.node_store.specs.Graphs.{HasOrigin, IsStore}
-use Rattle.node_store.proofs.Marking.{same_positions}
+use Rattle.node_store.proofs.Marking.{same_positions, same_length, at_marked, at_unmarked}
 use Rattle.node_store.proofs.Paths.{at_within}
 use Rattle.forced_graph.specs.Counts.{how_many}
 use Rattle.forced_graph.specs.Grown.{IsGrown}
 use Rattle.forced_graph.specs.Regions.{Waits, IsLeaf, IsLeafPart, IsOpen, IsSettled, AreLed, AreExpanded, IsMap, Between, Popped, Expanding}
 use Rattle.forced_graph.proofs.Waiting.{none_waits, fewer_wait, first_waits, waits_on, waited, waits_nowhere, put_waits}
 use Rattle.forced_graph.proofs.Members.{IsNext, grown_none, grown_more}
-use Rattle.forced_graph.proofs.Places.{one_or_two, get_contained, contained_get, get_set, same_origins, marked_at, at_marked}
+use Rattle.forced_graph.proofs.Places.{get_contained, contained_get, get_set, same_origins}
 
 at_one : (root : Board) (node : Node) (i : ℕ) (q : Board) → node.position ≡ root → IsAt (node ∷ []) i q → (i ≡ 0) × (root ≡ q)
 at_one root node zero q is at = (refl, sym is ∙ same_Some node.position q at)
@@ -125,12 +126,6 @@ pop_none None root w count nodes more waiting left parts was first left_is same 
     let unchanged : left ≡ waiting = left_is ∙ none_first waiting (sym first) in
     (moved root w count nodes more waiting left parts was same unchanged, (λ name waits. none_waits waiting (sym first) name (subst (λ (ls : List (List ℕ)). Waits ls name) unchanged waits)))
 
-same_length : (nodes : List Node) (name : ℕ) → length (mark nodes name) ≡ length nodes
-unfolding mark
-same_length [] name = refl
-same_length (n ∷ ns) zero = refl
-same_length (n ∷ ns) (suc name) = ap suc (same_length ns name)
-
 -- the node that was taken is a leaf
 pub marked : (name : ℕ) (root : Board) (w : Color) (count : ℕ) (nodes : List Node) (waiting : List (List ℕ)) (parts : List Part) (part : Part) → Popped name root w count nodes waiting parts → IsLeafPart nodes name w part → Between root w count (mark nodes name) waiting (set parts name part)
 unfolding IsSettled AreExpanded AreLed IsLeafPart
@@ -140,21 +135,21 @@ marked name root w count nodes waiting parts part was leaf = record {
   grown = was.grown;
   map = record {
     size = length-set parts name part ∙ was.map.size ∙ sym (same_length nodes name);
-    begins = at_marked nodes name 0 root was.map.begins;
-    running = λ i q at. was.map.running i q (marked_at nodes name i q at);
+    begins = at_unmarked nodes name 0 root was.map.begins;
+    running = λ i q at. was.map.running i q (at_marked nodes name i q at);
     placed = λ q there. subst (λ (ps : List Board). Contains ps q) (sym (same_positions nodes name)) (was.map.placed q there);
     inner = λ i p waits has. elim (get_set parts name part i p has) [
       | inl here ↦ absurd (waits_nowhere waiting name was.taken (subst (Waits waiting) here.0 waits))
       | inr there ↦ was.map.inner i p waits there.1
     ];
-    fresh = λ i q waits at. was.map.fresh i q waits (marked_at nodes name i q at);
+    fresh = λ i q waits at. was.map.fresh i q waits (at_marked nodes name i q at);
     parents = λ i o from. (
         let before = was.map.parents i o (sym (ap (λ (os : List (Option Origin)). slice_get os i) (same_origins nodes name)) ∙ from) in
-        (before.0, at_marked nodes name o.parent before.0 before.1, before.2));
+        (before.0, at_unmarked nodes name o.parent before.0 before.1, before.2));
   };
   settled = λ i q p at has. elim (get_set parts name part i p has) [
-    | inl here ↦ inr (inr (subst (IsLeaf w q) here.1 (leaf q (subst (λ (k : ℕ). IsAt nodes k q) here.0 (marked_at nodes name i q at)))))
-    | inr there ↦ was.settled i q p there.0 (marked_at nodes name i q at) there.1
+    | inl here ↦ inr (inr (subst (IsLeaf w q) here.1 (leaf q (subst (λ (k : ℕ). IsAt nodes k q) here.0 (at_marked nodes name i q at)))))
+    | inr there ↦ was.settled i q p there.0 (at_marked nodes name i q at) there.1
   ];
   expanded = λ q there m fits. record {
     met = subst (λ (ps : List Board). Contains ps (after q m)) (sym (same_positions nodes name)) (was.expanded q there m fits).met;
@@ -233,7 +228,7 @@ opened name root w count nodes waiting parts store was unshown =
         ];
         parents = λ i o from. (let before = was.map.parents i o from in (before.0, before.1, Contains-append_left was.members (was.here ∷ []) before.0 before.2));
       };
-      settled = λ i q part at has. elim (one_or_two i name) [
+      settled = λ i q part at has. elim (cases_eq i name) [
         | inl one ↦ (
             let q_is : was.here ≡ q = same_Some was.here q (sym was.is_here ∙ subst (λ (k : ℕ). IsAt nodes k q) one at) in
             inr (inl (subst (Contains (was.members ++ was.here ∷ [])) q_is (Contains-push was.members was.here), was.part part (subst (λ (k : ℕ). slice_get parts k ≡ Some part) one has))))

@@ -1,7 +1,7 @@
 -- How a node is expanded: the positions after its moves become nodes, one after the other.
 use Rattle.std.proofs.Common.{◌≡◌, ℕ, ◌+◌, ◌<◌, ◌≤◌, inl, inr, false, List, [], ◌∷◌, ◌++◌, length, get_or, take, Option, Some, slice_get, refl, sym, ap, subst, ◌∙◌, arith}
 use Rattle.std.specs.List.{Contains}
-use Rattle.std.proofs.lemmas.Option.{same_Some}
+use Rattle.std.proofs.lemmas.Option.{same_Some, slice_get_within}
 use Rattle.std.proofs.lemmas.List.{length_push, take_more, take_all}
 use Rattle.std.proofs.lemmas.List.Elements.{Contains-push, Contains-push_cases}
 use Rattle.cha_board.specs.declared.men.Color.{Color}
@@ -19,7 +19,7 @@ use Rattle.node_store.proofs.Pushing.{push_cases, map_push_cases, map_push_keeps
 use Rattle.forced_graph.specs.declared.region.Region.{Region}
 use Rattle.forced_graph.specs.Regions.{Waits, IsSettled, IsLed, AreLed, AreExpanded, IsMap, Between, Expanding, IsExpanding, IsMet, IsSameTask}
 use Rattle.forced_graph.proofs.Waiting.{put_waits, put_waits_on, put_waited}
-use Rattle.forced_graph.proofs.Places.{within_get, contained_get, get_contained, contained_more}
+use Rattle.forced_graph.proofs.Places.{contained_get, get_contained, contained_more}
 
 -- a node that came from one move more
 abbrev pub node_by : Board → ℕ → Move → Node
@@ -78,7 +78,7 @@ map_more root w nodes waiting parts members b q here name m was is_here member n
       placed = λ r there. contained_more nodes (n ∷ []) r (was.placed r there);
       inner = λ i part waits has. elim (push_cases parts Inner i part has) [
         | inl before ↦ elim (put_waited waiting b (length nodes) i waits) [
-          | inl is ↦ (let small = within_get parts i part before in absurd (omega arith))
+          | inl is ↦ (let small = slice_get_within parts i part before in absurd (omega arith))
           | inr waited ↦ was.inner i part waited before
         ]
         | inr last ↦ sym last.1
@@ -187,14 +187,6 @@ all_tried name ms i root w count now nodes waiting parts here e end listed at on
         | inr is ↦ subst (λ (b : Board). AreLed nodes w b (legal b)) is led
       ];
     }
-
-none : (ms : List Move) → [] ≡ take 0 ms
-none [] = refl
-none (m ∷ ms) = refl
-
--- no move was tried yet
-pub none_tried : (name : ℕ) (ms : List Move) (root : Board) (w : Color) (count : ℕ) (nodes : List Node) (waiting : List (List ℕ)) (parts : List Part) → Expanding name [] root w count nodes waiting parts → Expanding name (take 0 ms) root w count nodes waiting parts
-none_tried name ms root w count nodes waiting parts e = subst (λ (x : List Move). Expanding name x root w count nodes waiting parts) (none ms) e
 
 -- the node whose moves are tried stays
 pub still_at : (old new : Region) (name : ℕ) (m : Move) (here q : Board) → IsMet old new name m q → IsAt old.store.nodes name here → IsAt new.store.nodes name here

@@ -61,7 +61,7 @@ and_the_empty q (suc d) n u ms h some one =
     )
 
 -- a line that begins with one of some moves begins with one of more
-still_begins : (q : Board) (d : ℕ) (ms more : List Move) → ((m : Move) → Contains ms m → Contains more m) → (line : List Move) → Begins q d ms line → Begins q d more line
+pub still_begins : (q : Board) (d : ℕ) (ms more : List Move) → ((m : Move) → Contains ms m → Contains more m) → (line : List Move) → Begins q d ms line → Begins q d more line
 still_begins q d ms more all [] h = absurd h
 still_begins q d ms more all (m ∷ rest) h = (all m h.0, h.1, h.2, h.3)
 
@@ -84,9 +84,6 @@ led_line q d m ms line there legal h = (there, legal, h.0, (let few = h.1 in ome
 
 same_tail : (m : Move) (a b : List Move) → m ∷ a ≡ m ∷ b → a ≡ b
 same_tail m a b e = cc
-
-same_head : (m k : Move) (a b : List Move) → m ∷ a ≡ k ∷ b → m ≡ k
-same_head m k a b e = cc
 
 first_is : (q : Board) (d : ℕ) (ms : List Move) (m : Move) (line whole : List Move) → m ∷ line ≡ whole → Begins q d ms whole → Contains ms m
 first_is q d ms m line whole e h = (let P : List Move → Type 0 = λ l. Begins q d ms l in (subst P (sym e) h).0)

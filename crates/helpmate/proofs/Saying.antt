@@ -1,5 +1,5 @@
 -- What a found fact decides, and what answers say.
-use Rattle.std.proofs.Common.{◌≡◌, ℕ, ◌-◌, ◌<◌, ◌≤◌, nat_lt, Bool, true, false, if◌then◌else◌, List, length, Option, Some, None, IsNone, Result, Ok, IsErr, rules, refl, sym, ◌∙◌, ap, subst, arith}
+use Rattle.std.proofs.Common.{◌≡◌, ℕ, ◌-◌, ◌≤◌, nat_lt, Bool, true, false, if◌then◌else◌, List, length, Option, Some, None, IsNone, Result, Ok, IsErr, rules, refl, sym, ◌∙◌, ap, subst, arith}
 use Rattle.std.proofs.lemmas.Bool.Decides.{nat_tests}
 use Rattle.cha_list.specs.declared.memory.NoMemory.{NoMemory}
 use Rattle.cha_board.specs.declared.men.Color.{Color}
@@ -17,31 +17,6 @@ pub answer_longer : (q : Board) (w : Color) (d most more : ℕ) (a : RoundAnswer
 answer_longer q w d most more (Mate line) longer h = (h.0, (let few = h.1 in omega arith))
 answer_longer q w d most more NoneWithin longer h = h
 answer_longer q w d most more Spent longer h = h
-
--- what is seen at depth 0
-pub answer_seen : (q : Board) (w : Color) (d most : ℕ) (a : RoundAnswer) → d ≡ 0 → IsAnswer q w 0 0 a → IsAnswer q w d most a
-answer_seen q w d most a none h =
-    let P : ℕ → Type 0 = λ n. IsAnswer q w n most a in
-    subst P (sym none) (answer_longer q w 0 0 most a (omega arith) h)
-
--- at depth 0 nothing is spent
-pub none_spent : (q : Board) (w : Color) (most : ℕ) (a : RoundAnswer) → IsAnswer q w 0 most a → a ≡ Spent → ⊥
-none_spent q w most (Mate line) h e = cc
-none_spent q w most NoneWithin h e = cc
-none_spent q w most Spent h e = (let some : 0 < 0 = h in omega arith)
-
-chosen_mate : (b : Bool) (line : List Move) → (if b then None else Some (Mate line)) ≡ Some Spent → ⊥
-chosen_mate true line e = cc
-chosen_mate false line e = cc
-
-chosen_none : (b : Bool) → (if b then None else Some NoneWithin) ≡ Some Spent → ⊥
-chosen_none true e = cc
-chosen_none false e = cc
-
--- no fact says that an allowance is spent
-pub not_spent : (d : ℕ) (f : Fact) → decided_by d f ≡ Some Spent → ⊥
-not_spent d (MateFact line) e = chosen_mate (nat_lt 32 (length line)) line e
-not_spent d (NoneFact n) e = chosen_none (nat_lt n d) e
 
 mate_or_none : (b : Bool) (line : List Move) → (if b then None else Some (Mate line)) ≡ Some NoneWithin → ⊥
 mate_or_none true line e = cc

@@ -2,7 +2,7 @@
 use Rattle.std.proofs.Common.{◌≡◌, ℕ, zero, suc, ◌+◌, ◌-◌, ◌<◌, ◌≤◌, List, [], ◌∷◌, ◌++◌, length, get_or, take, Option, Some, None, Result, Ok, inl, inr, refl, sym, ◌∙◌, ap, subst, arith}
 use Rattle.std.specs.List.{Contains}
 use Rattle.std.proofs.lemmas.List.{take_more, take_all}
-use Rattle.std.proofs.lemmas.List.Elements.{Contains-append_left, Contains-append_right, Contains-push, Contains-push_cases}
+use Rattle.std.proofs.lemmas.List.Elements.{Contains-append_right, Contains-push, Contains-push_cases}
 use Rattle.cha_list.specs.declared.memory.NoMemory.{NoMemory}
 use Rattle.cha_board.specs.declared.men.Color.{Color}
 use Rattle.cha_board.specs.Men.{other_color}
@@ -17,7 +17,7 @@ use Rattle.cha_fact.specs.declared.calls.Stored.{Stored}
 use Rattle.cha_fact.specs.Truths.{Claim}
 use Rattle.cha_fact.specs.Keys.{key_of}
 use Rattle.cha_fact.specs.Entries.{Entry, probe_entry, store_entry, none_within, HasProbe, HasFound, HasStore, IsSearched}
-use Rattle.cha_fact.proofs.Searching.{Within, searched_more}
+use Rattle.cha_fact.proofs.Searching.{front_within, back_within, searched_more}
 use Rattle.helpmate.specs.declared.answers.RoundAnswer.{RoundAnswer}
 use Rattle.helpmate.specs.declared.answers.RoundAnswer.TheVariants.{NoneWithin}
 use Rattle.helpmate.specs.declared.answers.RoundDone.{RoundDone}
@@ -61,12 +61,6 @@ Tried made old new q w d ms = (entries : List Entry) × made old entries new × 
 pub none_tried : {S : Type 0} (made : S → List Entry → S → Type 0) (s : S) (q : Board) (w : Color) (d : ℕ) → made s [] s → Tried made s s q w d []
 unfolding Tried AreSearched
 none_tried made s q w d none = ([], none, (λ m there. absurd (not_in_nothing m there)))
-
-front_within : (xs ys : List Entry) → Within xs (xs ++ ys)
-front_within xs ys e there = Contains-append_left xs ys e there
-
-back_within : (xs ys : List Entry) → Within ys (xs ++ ys)
-back_within xs ys e there = Contains-append_right xs ys e there
 
 pub one_more_tried : {S : Type 0} (made : S → List Entry → S → Type 0) (old mid new : S) (q r : Board) (w : Color) (d units : ℕ) (ms : List Move) (i : ℕ) (m : Move) (result : Result RoundAnswer NoMemory)
     → ((a b c : S) (xs ys : List Entry) → made a xs b → made b ys c → made a (xs ++ ys) c)
@@ -114,12 +108,6 @@ all_tried made old mid new q w d ms i row reply result both tried end listed sto
       )),
     )
 
--- a search to depth 0 makes no call
-pub makes_no_call : {S : Type 0} (made : S → List Entry → S → Type 0) (s : S) (q : Board) (w : Color) (d units : ℕ) (result : Result RoundAnswer NoMemory) → made s [] s → d ≡ 0 → Searches made s s q w d units result
-makes_no_call made s q w d units result none zero_plies =
-    let P : ℕ → Type 0 = λ n. IsSearched [] q w n in
-    record { entries = []; entered = none; searched = λ same. subst P (sym zero_plies) tt; first = λ some. absurd (omega arith) }
-
 found_here : (entries : List Entry) (q : Board) (w : Color) (d : ℕ) (row : Claim) → Contains entries (probe_entry (key_of q w) (Found row)) → decided_by d row.fact ≡ Some NoneWithin → HasFound entries q w d
 unfolding HasFound
 found_here entries q w d row there e = (let s = says_none d row.fact e in (row, s.0, s.1, s.2, there))
@@ -128,7 +116,7 @@ by_found : (entries : List Entry) (q : Board) (w : Color) (d : ℕ) → 0 < d �
 by_found entries q w zero some found = absurd (omega arith)
 by_found entries q w (suc d) some found = inl found
 
-the_same : (a b : RoundAnswer) (o : Option RoundAnswer) → o ≡ Some a → o ≡ Some b → a ≡ b
+pub the_same : (a b : RoundAnswer) (o : Option RoundAnswer) → o ≡ Some a → o ≡ Some b → a ≡ b
 the_same a b o e f = cc
 
 the_answer : (a b : RoundAnswer) (o : Result RoundAnswer NoMemory) → o ≡ Ok a → o ≡ Ok b → a ≡ b

@@ -2,14 +2,13 @@
 use Rattle.std.proofs.Common.{◌≡◌, ℕ, zero, suc, ◌+◌, ◌-◌, ◌%◌, ◌<◌, ◌≤◌, ◌⊎◌, List, [], ◌∷◌, ◌++◌, length, get_or, take, Some, Result, Ok, IfOk, Contains, Vec, Global, inl, inr, refl, sym, ◌∙◌, ap, subst, arith}
 use Rattle.std.specs.List.{slice_get}
 use Rattle.std.proofs.Math.Nat.{mod-lt}
-use Rattle.std.proofs.lemmas.List.{take_more, take_all, get_or_append_left, get_or_push, length-append}
+use Rattle.std.proofs.lemmas.List.{take_more, take_all}
 use Rattle.std.proofs.lemmas.List.Elements.{Contains-append_left, Contains-push, Contains-push_cases}
 use Rattle.std.proofs.lemmas.Option.{slice_get_read, get_or_from_slice_get}
 use Rattle.cha_list.specs.declared.memory.NoMemory.{NoMemory}
 use Rattle.cha_moves.specs.Step.{Move}
 use Rattle.cha_moves.specs.Moves.{after}
 use Rattle.cha_moves.specs.MateLines.{mate_lines}
-use Rattle.cha_moves.proofs.Contained.{not_in_nothing}
 use Rattle.helpmate_list.specs.Shortest.{most_lines}
 use Rattle.helpmate_list.specs.Parts.{IsBehindRoot, HasRoot, IsPart, AreParts}
 use Rattle.helpmate_list.specs.declared.parts.Task.{Task}
@@ -19,14 +18,6 @@ use Rattle.helpmate_list.specs.declared.parts.RootLines.{RootLines}
 pub record IsPartBelow (task : Task) (moves : List Move) (number count upto : ℕ) (found : List RootLines) : Type 0 where
   pub right : (behind : RootLines) → Contains found behind → IsBehindRoot task moves behind
   pub whole : (i : ℕ) → i < upto → i % count ≡ number → HasRoot found i
-
-pub no_part : (task : Task) (moves : List Move) (number count : ℕ) (found : List RootLines) → found ≡ [] → IsPartBelow task moves number count 0 found
-no_part task moves number count found none =
-    let C : RootLines → List RootLines → Type 0 = λ behind l. Contains l behind in
-    record {
-      right = λ behind there. absurd (not_in_nothing behind (subst (C behind) none there));
-      whole = λ i less mine. absurd (omega (arith, less));
-    }
 
 has_more : (found : List RootLines) (one : RootLines) (i : ℕ) → HasRoot found i → HasRoot (found ++ one ∷ []) i
 unfolding HasRoot
@@ -67,12 +58,6 @@ part_same task moves number count i found before other = record {
   ];
 }
 
-pub part_done : (task : Task) (moves : List Move) (number count i : ℕ) (found : List RootLines) → IsPartBelow task moves number count i found → length moves ≤ i → IsPart task moves number count found
-part_done task moves number count i found before all = record {
-  right = before.right;
-  whole = λ k less mine. before.whole k (omega (arith, less, all)) mine;
-}
-
 -- the first lines behind a root move
 pub behind_here : (task : Task) (moves : List Move) (behind : RootLines) (m : Move) (i : ℕ) → behind.root_move ≡ i → i < length moves → m ≡ get_or moves i m → behind.lines ≡ take (suc most_lines) (mate_lines (task.plies - 1) (after task.position m) task.winner) → IsBehindRoot task moves behind
 unfolding IsBehindRoot
@@ -98,9 +83,6 @@ none_named found root i one before less here not behind there named =
       | inr e ↦ not (subst R (sym (here ∙ e)) named)
     ]
 
-pub none_at_first : (found : List RootLines) (root : ℕ) (behind : RootLines) → Contains (take 0 found) behind → behind.root_move ≡ root → ⊥
-none_at_first found root behind there named = not_in_nothing behind there
-
 pub some_named : (found : List RootLines) (root i : ℕ) → HasRoot found root → ((behind : RootLines) → Contains (take i found) behind → behind.root_move ≡ root → ⊥) → length found ≤ i → ⊥
 unfolding HasRoot
 some_named found root i h none all =
@@ -111,28 +93,6 @@ some_named found root i h none all =
 pub record ArePartsBelow (task : Task) (moves : List Move) (count upto : ℕ) (parts : List (Result (Vec RootLines Global) NoMemory)) : Type 0 where
   pub size : length parts ≡ upto
   pub each : (i : ℕ) (d : Result (Vec RootLines Global) NoMemory) → i < upto → IfOk (get_or parts i d) (λ found. IsPart task moves i count found.items)
-
-pub no_parts : (task : Task) (moves : List Move) (count : ℕ) (parts : List (Result (Vec RootLines Global) NoMemory)) → parts ≡ [] → ArePartsBelow task moves count 0 parts
-no_parts task moves count parts none = record { size = ap length none; each = λ i d less. absurd (omega (arith, less)) }
-
-pub parts_more : (task : Task) (moves : List Move) (count n : ℕ) (parts new : List (Result (Vec RootLines Global) NoMemory)) (one : Result (Vec RootLines Global) NoMemory) → ArePartsBelow task moves count n parts → new ≡ parts ++ one ∷ [] → IfOk one (λ found. IsPart task moves n count found.items) → ArePartsBelow task moves count (n + 1) new
-parts_more task moves count n parts new one before is here =
-    let W : List (Result (Vec RootLines Global) NoMemory) → Type 0 = λ l. ArePartsBelow task moves count (n + 1) l in
-    subst W (sym is) (record {
-      size = length-append parts (one ∷ []) ∙ ap (λ k. k + 1) before.size;
-      each = λ i d less. elim (below_or_here i n less) [
-        | inl h ↦ (
-            let P : Result (Vec RootLines Global) NoMemory → Type 0 = λ r. IfOk r (λ found. IsPart task moves i count found.items) in
-            let size = before.size in
-            subst P (sym (get_or_append_left parts (one ∷ []) d i (omega (arith, h, size)))) (before.each i d h)
-            )
-        | inr e ↦ (
-            let P : Result (Vec RootLines Global) NoMemory → Type 0 = λ r. IfOk r (λ found. IsPart task moves i count found.items) in
-            let Q : ℕ → Type 0 = λ k. IfOk one (λ found. IsPart task moves k count found.items) in
-            subst P (sym (get_or_push parts one d i (before.size ∙ e))) (subst Q e here)
-            )
-      ];
-    })
 
 pub parts_done : (task : Task) (moves : List Move) (count n : ℕ) (parts : List (Result (Vec RootLines Global) NoMemory)) → ArePartsBelow task moves count n parts → n ≡ count → AreParts task moves count parts
 unfolding AreParts

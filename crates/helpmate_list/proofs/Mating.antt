@@ -11,18 +11,14 @@ use Rattle.cha_moves.specs.Moves.{after, legal}
 use Rattle.cha_moves.specs.Ends.{IsMatingLine, HasNoMateWithin}
 use Rattle.cha_moves.specs.MateLines.{is_mated, mate_lines}
 use Rattle.cha_moves.proofs.Contained.{not_in_nothing, Contains-cons_here}
-use Rattle.cha_moves.proofs.MateLines.{mating_line, line_of_mate}
+use Rattle.cha_moves.proofs.MateLines.{begun, mating_line, line_of_mate}
 use Rattle.helpmate_list.specs.Shortest.{HasNoMateBelow}
 use Rattle.helpmate_list.proofs.Taking.{join_one, join_all}
 
--- the lines that begin with a move
-abbrev pub led_lines : Board → Color → ℕ → Move → List (List Move)
-led_lines q winner n m = map (λ ms. m ∷ ms) (mate_lines n (after q m) winner)
-
-pub led_by_legal : (q : Board) (winner : Color) (p : ℕ) → 1 ≤ p → flat_map (led_lines q winner (p - 1)) (legal q) ≡ mate_lines p q winner
+pub led_by_legal : (q : Board) (winner : Color) (p : ℕ) → 1 ≤ p → flat_map (begun q winner (p - 1)) (legal q) ≡ mate_lines p q winner
 unfolding mate_lines
 led_by_legal q winner zero some = absurd (omega (arith, some))
-led_by_legal q winner (suc p) some = let e : suc p - 1 ≡ p = omega arith in ap (λ n. flat_map (led_lines q winner n) (legal q)) e
+led_by_legal q winner (suc p) some = let e : suc p - 1 ≡ p = omega arith in ap (λ n. flat_map (begun q winner n) (legal q)) e
 
 -- before the first ply there is no shorter line
 pub none_below_zero : (q : Board) (winner : Color) → HasNoMateBelow q winner 0
@@ -88,15 +84,15 @@ none_below_at q next winner p i m ms none listed less here is some =
     none_below_after q next winner p m none (subst C listed (subst M (sym here) (Contains-get_or ms i m less))) is some
 
 -- the first lines that begin with some of the moves, and with one more
-pub led_more : (q next : Board) (winner : Color) (p most i : ℕ) (now new kept : List (List Move)) (ms : List Move) (m : Move) → now ≡ take most (flat_map (led_lines q winner p) (take i ms)) → kept ≡ take most (mate_lines p next winner) → next ≡ after q m
-    → new ≡ take most (now ++ map (λ line. m ∷ line) kept) → i < length ms → m ≡ get_or ms i m → new ≡ take most (flat_map (led_lines q winner p) (take (i + 1) ms))
+pub led_more : (q next : Board) (winner : Color) (p most i : ℕ) (now new kept : List (List Move)) (ms : List Move) (m : Move) → now ≡ take most (flat_map (begun q winner p) (take i ms)) → kept ≡ take most (mate_lines p next winner) → next ≡ after q m
+    → new ≡ take most (now ++ map (λ line. m ∷ line) kept) → i < length ms → m ≡ get_or ms i m → new ≡ take most (flat_map (begun q winner p) (take (i + 1) ms))
 led_more q next winner p most i now new kept ms m is kept_is next_is new_is less here =
-    join_one most most i now new (λ line. m ∷ line) kept (mate_lines p next winner) (led_lines q winner p) ms m is kept_is (let e : most ≤ most = omega arith in e) (ap (λ b. map (λ line. m ∷ line) (mate_lines p b winner)) (sym next_is)) new_is less here
+    join_one most most i now new (λ line. m ∷ line) kept (mate_lines p next winner) (begun q winner p) ms m is kept_is (let e : most ≤ most = omega arith in e) (ap (λ b. map (λ line. m ∷ line) (mate_lines p b winner)) (sym next_is)) new_is less here
 
 -- the first lines that begin with all of the legal moves
-pub led_all : (q : Board) (winner : Color) (p most i : ℕ) (now : List (List Move)) (ms : List Move) → now ≡ take most (flat_map (led_lines q winner (p - 1)) (take i ms)) → length ms ≤ i → ms ≡ legal q → 1 ≤ p → now ≡ take most (mate_lines p q winner)
+pub led_all : (q : Board) (winner : Color) (p most i : ℕ) (now : List (List Move)) (ms : List Move) → now ≡ take most (flat_map (begun q winner (p - 1)) (take i ms)) → length ms ≤ i → ms ≡ legal q → 1 ≤ p → now ≡ take most (mate_lines p q winner)
 led_all q winner p most i now ms is all listed some =
-    join_all most i now (led_lines q winner (p - 1)) ms is all ∙ ap (λ l. take most (flat_map (led_lines q winner (p - 1)) l)) listed ∙ ap (take most) (led_by_legal q winner p some)
+    join_all most i now (begun q winner (p - 1)) ms is all ∙ ap (λ l. take most (flat_map (begun q winner (p - 1)) l)) listed ∙ ap (take most) (led_by_legal q winner p some)
 
 one_or_none : {X : Type 0} (b : Bool) (x : X) (most : ℕ) → 1 ≤ most → length (if b then (x ∷ []) else []) ≤ most
 one_or_none true x most some = some

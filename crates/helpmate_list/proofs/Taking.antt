@@ -2,7 +2,7 @@
 use Rattle.std.proofs.Common.{◌≡◌, ℕ, zero, suc, ◌+◌, ◌<◌, ◌≤◌, List, [], ◌∷◌, ◌++◌, length, map, take, min, get_or, refl, sym, ◌∙◌, ap, subst, arith}
 use Rattle.std.specs.List.{flat_map}
 use Rattle.std.proofs.Math.Nat.{min-le_left}
-use Rattle.std.proofs.lemmas.List.{length-take, map_more, take_more, take-map, take_all, flat_map_more, append-nil, append_assoc}
+use Rattle.std.proofs.lemmas.List.{length-take, take_more, take-map, take_all, flat_map_more}
 
 pub first_of_first : {X : Type 0} (n k : ℕ) (ys : List X) → n ≤ k → take n (take k ys) ≡ take n ys
 first_of_first zero k ys few = refl
@@ -17,43 +17,11 @@ first_both (suc n) zero xs ys few = absurd (omega (arith, few))
 first_both (suc n) (suc k) [] ys few = first_of_first (suc n) (suc k) ys few
 first_both (suc n) (suc k) (x ∷ xs) ys few = ap (λ l. x ∷ l) (first_both n (suc k) xs ys (omega (arith, few)))
 
--- one more where there is room
-one_more : {X : Type 0} (n : ℕ) (xs : List X) (y : X) → length (take n xs) < n → take n xs ++ y ∷ [] ≡ take n (xs ++ y ∷ [])
-one_more zero xs y less = absurd (omega (arith, less))
-one_more (suc zero) [] y less = refl
-one_more (suc (suc n)) [] y less = refl
-one_more (suc n) (x ∷ xs) y less = ap (λ l. x ∷ l) (one_more n xs y (omega (arith, less)))
-
 -- none where there is no room
 none_more : {X : Type 0} (n : ℕ) (xs ys : List X) → n ≤ length (take n xs) → take n xs ≡ take n (xs ++ ys)
 none_more zero xs ys full = refl
 none_more (suc n) [] ys full = absurd (omega (arith, full))
 none_more (suc n) (x ∷ xs) ys full = ap (λ l. x ∷ l) (none_more n xs ys (omega (arith, full)))
-
--- nothing behind what is not too long
-pub all_so_far : {X Y : Type 0} (n : ℕ) (xs : List X) (f : Y → X) (ys : List Y) → length xs ≤ n → xs ≡ take n (xs ++ map f (take 0 ys))
-all_so_far n xs f ys few = sym (ap (take n) (append-nil xs) ∙ take_all n xs few)
-
--- one more of the elements behind, where there is room
-pub add_one : {X Y : Type 0} (n i : ℕ) (now old : List X) (f : Y → X) (ys : List Y) (y : Y) → now ≡ take n (old ++ map f (take i ys)) → i < length ys → y ≡ get_or ys i y → length now < n → now ++ f y ∷ [] ≡ take n (old ++ map f (take (i + 1) ys))
-add_one n i now old f ys y is less here room =
-    let before = old ++ map f (take i ys) in
-    let R : List _ → Type 0 = λ l. length l < n in
-    ap (λ l. l ++ f y ∷ []) is ∙ one_more n before (f y) (subst R is room)
-    ∙ ap (take n) (append_assoc old (map f (take i ys)) (f y ∷ []) ∙ ap (λ l. old ++ l) (ap (λ x. map f (take i ys) ++ f x ∷ []) here ∙ sym (map_more f ys i y less)))
-
--- and where there is none
-pub add_none : {X Y : Type 0} (n i : ℕ) (now old : List X) (f : Y → X) (ys : List Y) (y : Y) → now ≡ take n (old ++ map f (take i ys)) → i < length ys → n ≤ length now → now ≡ take n (old ++ map f (take (i + 1) ys))
-add_none n i now old f ys y is less full =
-    let before = old ++ map f (take i ys) in
-    let R : List _ → Type 0 = λ l. n ≤ length l in
-    is ∙ none_more n before (f (get_or ys i y) ∷ []) (subst R is full)
-    ∙ ap (take n) (append_assoc old (map f (take i ys)) (f (get_or ys i y) ∷ []) ∙ ap (λ l. old ++ l) (sym (map_more f ys i y less)))
-
--- the first elements of the lists of some of the items
-pub join_none : {X Y : Type 0} (n : ℕ) (f : Y → List X) (ys : List Y) → take n (flat_map f (take 0 ys)) ≡ []
-join_none zero f ys = refl
-join_none (suc n) f ys = refl
 
 joined_more : {X Y : Type 0} (i : ℕ) (f : Y → List X) (ys : List Y) (y : Y) → i < length ys → y ≡ get_or ys i y → flat_map f (take i ys) ++ f y ≡ flat_map f (take (i + 1) ys)
 joined_more i f ys y less here =

@@ -1,5 +1,5 @@
 -- what public contracts say
 pub mod Shortest
--- inside the crate
 pub mod Parts
+-- inside the crate
 pub mod Turns

@@ -1,16 +1,16 @@
 -- What an expansion leaves, and lines that end in a mate.
-use Rattle.std.proofs.Common.{◌≡◌, ℕ, zero, suc, ◌<◌, ◌≤◌, ◌⊎◌, inl, inr, false, List, [], ◌∷◌, ◌++◌, length, Option, None, Some, replicate, refl, sym, subst, ◌∙◌, arith}
-use Rattle.std.specs.List.{Contains}
+use Rattle.std.proofs.Common.{◌≡◌, ℕ, ◌<◌, ◌≤◌, ◌⊎◌, inl, inr, false, List, [], ◌∷◌, ◌++◌, length, Option, None, Some, replicate, refl, sym, subst, ◌∙◌, arith}
 use Rattle.std.specs.Option.{IfNone}
 use Rattle.std.proofs.lemmas.Option.{same_Some}
 use Rattle.cha_board.specs.declared.men.Color.{Color}
 use Rattle.cha_board.specs.Men.{other_color}
 use Rattle.cha_board.specs.Board.{Board}
 use Rattle.cha_moves.specs.Step.{Move}
-use Rattle.cha_moves.specs.Moves.{legal, after}
+use Rattle.cha_moves.specs.Moves.{after}
 use Rattle.cha_moves.specs.Ends.{IsMated, IsMatingLine, HasNoMateWithin}
-use Rattle.node_store.specs.Nodes.{Node, IsAt, IsReached, IsLine, IsPath}
+use Rattle.node_store.specs.Nodes.{Node, IsAt, IsLine, IsPath}
 use Rattle.node_store.specs.Lists.{put, first_name}
+use Rattle.node_store.proofs.Pushing.{map_push_keeps, map_within}
 use Rattle.mate_hunt.specs.Mates.{IsMatingMove, HasNoMatingMove, IsMateAfter, HasNoMateAfter, Keeps}
 
 -- nodes stay, and further ones are added behind
@@ -18,14 +18,9 @@ pub keeps_same : (old new : List Node) → new ≡ old → Keeps old new
 unfolding Keeps
 keeps_same old new e name q at = subst (λ (ns : List Node). IsAt ns name q) (sym e) at
 
-at_behind : (old : List Node) (n : Node) (name : ℕ) (q : Board) → IsAt old name q → IsAt (old ++ n ∷ []) name q
-at_behind [] n name q at = absurd cc
-at_behind (x ∷ xs) n zero q at = at
-at_behind (x ∷ xs) n (suc name) q at = at_behind xs n name q at
-
 pub keeps_added : (old new : List Node) (n : Node) → new ≡ old ++ n ∷ [] → Keeps old new
 unfolding Keeps
-keeps_added old new n e name q at = subst (λ (ns : List Node). IsAt ns name q) (sym e) (at_behind old n name q at)
+keeps_added old new n e name q at = subst (λ (ns : List Node). IsAt ns name q) (sym e) (map_push_keeps (λ (k : Node). k.position) old (n ∷ []) name q at)
 
 pub keeps_both : (a b c : List Node) → Keeps a b → Keeps b c → Keeps a c
 unfolding Keeps
@@ -35,15 +30,10 @@ pub kept : (old new : List Node) (name : ℕ) (q : Board) → Keeps old new → 
 unfolding Keeps
 kept old new name q keeps at = keeps name q at
 
-within : (ns : List Node) (name : ℕ) (q : Board) → IsAt ns name q → name < length ns
-within [] name q at = absurd cc
-within (x ∷ xs) zero q at = omega arith
-within (x ∷ xs) (suc name) q at = (let h = within xs name q at in omega arith)
-
 -- a mating move from the node of a name
 pub mates_within : (ns : List Node) (name : ℕ) (w : Color) (m : Move) → IsMateAfter ns name w m → name < length ns
 unfolding IsMateAfter
-mates_within ns name w m mates = within ns name mates.0 mates.1
+mates_within ns name w m mates = map_within (λ (k : Node). k.position) ns name mates.0 mates.1
 
 pub mates_after : (ns : List Node) (name : ℕ) (w : Color) (m : Move) (q : Board) → IsAt ns name q → IsMatingMove q w m → IsMateAfter ns name w m
 unfolding IsMateAfter
@@ -56,10 +46,6 @@ no_mate_after ns name w q at none p there = subst (λ (x : Board). HasNoMatingMo
 pub none_mates : (q : Board) (w : Color) → ((m : Move) → IsMatingMove q w m → ⊥) → HasNoMatingMove q w
 unfolding HasNoMatingMove
 none_mates q w none = none
-
--- what the position of a node and a legal move reach
-pub reached_by : (ns : List Node) (name : ℕ) (m : Move) (q next : Board) → IsAt ns name q → Contains (legal q) m → next ≡ after q m → IsReached ns name m next
-reached_by ns name m q next at legal is = (q, at, (legal, sym is))
 
 -- the root of a store of one node
 pub root_of : (ns : List Node) (q : Board) → ns ≡ record { position = q; origin = None; leaf = false } ∷ [] → IsAt ns 0 q

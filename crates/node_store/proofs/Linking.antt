@@ -1,6 +1,6 @@
 -- Lists by links, as names are added, put in front and taken away.
 use Rattle.std.proofs.Common.{◌≡◌, ◌≢◌, ℕ, zero, suc, ◌+◌, ◌-◌, ◌<◌, ◌≤◌, inl, inr, List, [], ◌∷◌, ◌++◌, length, replicate, refl, sym, ap, subst, ◌∙◌, arith, Some, None, length-set, set, get_or, get_or-set_same, get_or-set_other}
-use Rattle.std.proofs.lemmas.List.{length-map, length_push, get_or_append_left, map-set, set-get_or, get_or_read}
+use Rattle.std.proofs.lemmas.List.{length_push, get_or_append_left, map-set, set-get_or, get_or_read}
 use Rattle.node_store.specs.declared.chains.Head.{Head}
 use Rattle.node_store.specs.Lists.{list_at, Has, AreBelow, put, front_of, rest_of, take_from}
 use Rattle.node_store.specs.Chained.{AreChained}
@@ -115,9 +115,6 @@ module _ (heads : List Head) (links : List ℕ) where
         sym (ap (set (lists_of heads links) b) rest ∙ set-get_or (lists_of heads links) b [])
 
     module _ (was : AreChained (lists_of heads links) (length links)) where
-      pub heads_size : length heads ≡ 64
-      heads_size = let size = was.size in let same : length (lists_of heads links) ≡ length heads = length-map heads (list_of links) in omega arith
-
       -- fewer names are counted than there are
       pub room : (name : ℕ) → AreBelow (list_at (lists_of heads links) b) name → here.count ≤ name
       room name above =

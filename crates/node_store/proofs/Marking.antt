@@ -19,7 +19,7 @@ same_positions [] name = refl
 same_positions (n ∷ ns) zero = refl
 same_positions (n ∷ ns) (suc name) = ap (λ (ps : List Board). n.position ∷ ps) (same_positions ns name)
 
-same_length : (nodes : List Node) (name : ℕ) → length (mark nodes name) ≡ length nodes
+pub same_length : (nodes : List Node) (name : ℕ) → length (mark nodes name) ≡ length nodes
 unfolding mark
 same_length [] name = refl
 same_length (n ∷ ns) zero = refl
@@ -42,10 +42,10 @@ other_leaf (n ∷ ns) zero (suc i) b other at = at
 other_leaf (n ∷ ns) (suc name) zero b other at = at
 other_leaf (n ∷ ns) (suc name) (suc i) b other at = other_leaf ns name i b (λ e. other (ap suc e)) at
 
-at_marked : (nodes : List Node) (name i : ℕ) (q : Board) → IsAt (mark nodes name) i q → IsAt nodes i q
+pub at_marked : (nodes : List Node) (name i : ℕ) (q : Board) → IsAt (mark nodes name) i q → IsAt nodes i q
 at_marked nodes name i q at = sym (ap (λ (ps : List Board). slice_get ps i) (same_positions nodes name)) ∙ at
 
-at_unmarked : (nodes : List Node) (name i : ℕ) (q : Board) → IsAt nodes i q → IsAt (mark nodes name) i q
+pub at_unmarked : (nodes : List Node) (name i : ℕ) (q : Board) → IsAt nodes i q → IsAt (mark nodes name) i q
 at_unmarked nodes name i q at = ap (λ (ps : List Board). slice_get ps i) (same_positions nodes name) ∙ at
 
 origin_marked : (nodes : List Node) (name i : ℕ) (q : Board) (origin : Option Origin) → HasOrigin nodes i q origin → HasOrigin (mark nodes name) i q origin

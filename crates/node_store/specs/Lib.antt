@@ -1,8 +1,7 @@
 -- what public contracts say
 pub mod Lists
 pub mod Chained
+pub mod Links
 pub mod Nodes
 pub mod Graphs
--- what only loops and lemmas use
-pub mod Links
 pub mod Places

@@ -13,7 +13,7 @@ use Rattle.cha_board.specs.Men.{same_color, same_kind, is_man}
 use Rattle.cha_board.specs.Squares.{file_of, rank_of, files_apart, ranks_apart, steps_apart, aims_at}
 use Rattle.cha_board.specs.Board.{Board, man_at, home_of, in_check}
 use Rattle.cha_board.specs.Letters.{kind_of}
-use Rattle.cha_board.proofs.Identity.{same_kind_equal}
+use Rattle.cha_board.proofs.Identity.{same_kind_equal, same_kind_self}
 use Rattle.cha_moves.specs.Step.{Move}
 use Rattle.cha_moves.specs.Moves.{last_rank, goes, promotes_well, is_short_castling, is_long_castling, is_promotion, is_pseudo_legal, is_legal_in, men_after, legal}
 use Rattle.cha_moves.proofs.Contained.{not_in_nothing, Contains-cons_here, Contains-cons_there, Contains-filter_from, Contains-filter_parts}
@@ -197,17 +197,9 @@ six_parts true true true true false f h = cc
 six_parts true true true true true false h = cc
 six_parts true true true true true true h = (refl, refl, refl, refl, refl, refl)
 
-same_self : (k : Kind) → same_kind k k ≡ true
-same_self Pawn = refl
-same_self Knight = refl
-same_self Bishop = refl
-same_self Rook = refl
-same_self Queen = refl
-same_self King = refl
-
 promotes_self : (p : Option Kind) → promotes_as p p ≡ true
 promotes_self None = refl
-promotes_self (Some k) = same_self k
+promotes_self (Some k) = same_kind_self k
 
 one_square : (s t : ℕ) → file_of s ≡ file_of t → rank_of s ≡ rank_of t → s ≡ t
 one_square s t file rank = omega (arith, file, rank)
@@ -232,7 +224,7 @@ unfolding fits fits_parts
 plain_named q m man there may h =
     let listed = is_listed q m there in
     let word = kind_text man.kind ++ way_of m.from m.to m.promotion in
-    let own : is_man q.side man.kind (man_at q.men m.from) ≡ true = ap (is_man q.side man.kind) may.found ∙ (let a = may.own in let b = same_self man.kind in rw (a, b) refl) in
+    let own : is_man q.side man.kind (man_at q.men m.from) ≡ true = ap (is_man q.side man.kind) may.found ∙ (let a = may.own in let b = same_kind_self man.kind in rw (a, b) refl) in
     let file : (file_of m.from == file_of m.from) ≡ true = eq-eqb (file_of m.from) (file_of m.from) refl in
     let rank : (rank_of m.from == rank_of m.from) ≡ true = eq-eqb (rank_of m.from) (rank_of m.from) refl in
     let to : (m.to == m.to) ≡ true = eq-eqb m.to m.to refl in

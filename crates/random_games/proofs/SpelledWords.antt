@@ -2,6 +2,7 @@
 use Rattle.std.proofs.Common.{◌≡◌, ℕ, ◌+◌, ◌<◌, ◌≤◌, ◌==◌, Bool, true, false, List, ◌∷◌, ◌++◌, Option, Some, None, length, refl, sym, subst, ◌∙◌, arith, append_assoc, if◌then◌else◌}
 use Rattle.std.specs.Prelude.{codes}
 use Rattle.std.specs.List.{list_all}
+use Rattle.std.proofs.lemmas.Bool.{ne_eqb}
 use Rattle.std.proofs.lemmas.Bool.Decides.{nat_tests}
 use Rattle.cha_board.specs.declared.men.Kind.{Kind}
 use Rattle.cha_board.specs.declared.men.Kind.TheVariants.{Pawn, Knight, Bishop, Rook, Queen, King}
@@ -20,11 +21,9 @@ use Rattle.pgn_lex.specs.Tokens.{piece}
 use Rattle.pgn_games.specs.Cutting.{mark_of}
 use Rattle.random_games.specs.Words.{kind_text, man_text, promotion_text, castling_text, plain_text, move_word}
 use Rattle.random_games.proofs.GameTokens.{IsMoveWord}
+use Rattle.random_games.proofs.WordParts.{way_of}
 
 -- a letter is none of these bytes
-other_than : (b n : ℕ) → (b ≡ n → ⊥) → (b == n) ≡ false
-other_than b n ne = grind (arith, nat_tests)
-
 letter_range : (b : ℕ) → is_letter b ≡ true → (65 ≤ b) × (b ≤ 122) × ((b ≡ 91) → ⊥)
 letter_range b h = grind (arith, nat_tests)
 
@@ -55,15 +54,15 @@ letter_begins b h first bs =
     let range = letter_range b h in
     let low = range.0 in
     let high = range.1 in
-    let escape : (b == 37) ≡ false = other_than b 37 (λ e. absurd (omega (arith, e, low))) in
+    let escape : (b == 37) ≡ false = ne_eqb b 37 (λ e. absurd (omega (arith, e, low))) in
     let white = not_white b low in
-    let line : (b == 59) ≡ false = other_than b 59 (λ e. absurd (omega (arith, e, low))) in
-    let comment : (b == 123) ≡ false = other_than b 123 (λ e. absurd (omega (arith, e, high))) in
-    let tag : (b == 91) ≡ false = other_than b 91 range.2 in
-    let enter : (b == 40) ≡ false = other_than b 40 (λ e. absurd (omega (arith, e, low))) in
-    let leave : (b == 41) ≡ false = other_than b 41 (λ e. absurd (omega (arith, e, low))) in
-    let star : (b == 42) ≡ false = other_than b 42 (λ e. absurd (omega (arith, e, low))) in
-    let note : (b == 36) ≡ false = other_than b 36 (λ e. absurd (omega (arith, e, low))) in
+    let line : (b == 59) ≡ false = ne_eqb b 59 (λ e. absurd (omega (arith, e, low))) in
+    let comment : (b == 123) ≡ false = ne_eqb b 123 (λ e. absurd (omega (arith, e, high))) in
+    let tag : (b == 91) ≡ false = ne_eqb b 91 range.2 in
+    let enter : (b == 40) ≡ false = ne_eqb b 40 (λ e. absurd (omega (arith, e, low))) in
+    let leave : (b == 41) ≡ false = ne_eqb b 41 (λ e. absurd (omega (arith, e, low))) in
+    let star : (b == 42) ≡ false = ne_eqb b 42 (λ e. absurd (omega (arith, e, low))) in
+    let note : (b == 36) ≡ false = ne_eqb b 36 (λ e. absurd (omega (arith, e, low))) in
     let word = letter_in_word b h in
     by_first first b bs escape white line comment tag enter leave star note word
 
@@ -73,8 +72,8 @@ letter_word b bs h run short =
     let low = (letter_range b h).0 in
     let digit = not_digit b low in
     let mark = not_mark b low in
-    let one : (b == 49) ≡ false = other_than b 49 (λ e. absurd (omega (arith, e, low))) in
-    let nil : (b == 48) ≡ false = other_than b 48 (λ e. absurd (omega (arith, e, low))) in
+    let one : (b == 49) ≡ false = ne_eqb b 49 (λ e. absurd (omega (arith, e, low))) in
+    let nil : (b == 48) ≡ false = ne_eqb b 48 (λ e. absurd (omega (arith, e, low))) in
     record {
       spelled = record { byte = b; more = bs; is = refl; begins = letter_begins b h; run = run; told = rw (digit, mark) refl; short = short };
       no_mark = rw (one, nil) refl;
@@ -107,11 +106,7 @@ promotion_run (Some Rook) = (refl, omega arith)
 promotion_run (Some Queen) = (refl, omega arith)
 promotion_run (Some King) = (refl, omega arith)
 
--- two squares and what a pawn becomes
-abbrev way_text : ℕ → ℕ → Option Kind → List ℕ
-way_text s t p = (file_of s + 97) ∷ (rank_of s + 49) ∷ (file_of t + 97) ∷ (rank_of t + 49) ∷ promotion_text p
-
-way_run : (s t : ℕ) (p : Option Kind) → s < 64 → t < 64 → list_all (in_pgn_class WordByte) (way_text s t p) ≡ true
+way_run : (s t : ℕ) (p : Option Kind) → s < 64 → t < 64 → list_all (in_pgn_class WordByte) (way_of s t p) ≡ true
 way_run s t p in_s in_t =
     let a = letter_in_word (file_of s + 97) (file_letter s) in
     let b = rank_digit s in_s in
@@ -120,7 +115,7 @@ way_run s t p in_s in_t =
     let e = (promotion_run p).0 in
     rw (a, b, c, d, e) refl
 
-way_word : (s t : ℕ) (p : Option Kind) → s < 64 → t < 64 → IsMoveWord (way_text s t p)
+way_word : (s t : ℕ) (p : Option Kind) → s < 64 → t < 64 → IsMoveWord (way_of s t p)
 way_word s t p in_s in_t =
     let b = rank_digit s in_s in
     let c = letter_in_word (file_of t + 97) (file_letter t) in
@@ -129,12 +124,12 @@ way_word s t p in_s in_t =
     let few = (promotion_run p).1 in
     letter_word (file_of s + 97) ((rank_of s + 49) ∷ (file_of t + 97) ∷ (rank_of t + 49) ∷ promotion_text p) (file_letter s) (rw (b, c, d, e) refl) (omega (arith, few))
 
-led_word : (b s t : ℕ) (p : Option Kind) → is_letter b ≡ true → s < 64 → t < 64 → IsMoveWord (b ∷ way_text s t p)
+led_word : (b s t : ℕ) (p : Option Kind) → is_letter b ≡ true → s < 64 → t < 64 → IsMoveWord (b ∷ way_of s t p)
 led_word b s t p h in_s in_t =
     let few = (promotion_run p).1 in
-    letter_word b (way_text s t p) h (way_run s t p in_s in_t) (omega (arith, few))
+    letter_word b (way_of s t p) h (way_run s t p in_s in_t) (omega (arith, few))
 
-kind_word : (k : Kind) (s t : ℕ) (p : Option Kind) → s < 64 → t < 64 → IsMoveWord (kind_text k ++ way_text s t p)
+kind_word : (k : Kind) (s t : ℕ) (p : Option Kind) → s < 64 → t < 64 → IsMoveWord (kind_text k ++ way_of s t p)
 kind_word Pawn s t p in_s in_t = way_word s t p in_s in_t
 kind_word Knight s t p in_s in_t = led_word 78 s t p refl in_s in_t
 kind_word Bishop s t p in_s in_t = led_word 66 s t p refl in_s in_t
@@ -142,17 +137,17 @@ kind_word Rook s t p in_s in_t = led_word 82 s t p refl in_s in_t
 kind_word Queen s t p in_s in_t = led_word 81 s t p refl in_s in_t
 kind_word King s t p in_s in_t = led_word 75 s t p refl in_s in_t
 
-man_word : (o : Option Man) (s t : ℕ) (p : Option Kind) → s < 64 → t < 64 → IsMoveWord (man_text o ++ way_text s t p)
+man_word : (o : Option Man) (s t : ℕ) (p : Option Kind) → s < 64 → t < 64 → IsMoveWord (man_text o ++ way_of s t p)
 man_word None s t p in_s in_t = way_word s t p in_s in_t
 man_word (Some man) s t p in_s in_t = kind_word man.kind s t p in_s in_t
 
-plain_parts : (front : List ℕ) (s t : ℕ) (p : Option Kind) → front ++ square_text s ++ square_text t ++ promotion_text p ≡ front ++ way_text s t p
+plain_parts : (front : List ℕ) (s t : ℕ) (p : Option Kind) → front ++ square_text s ++ square_text t ++ promotion_text p ≡ front ++ way_of s t p
 unfolding square_text
 plain_parts front s t p =
     append_assoc (front ++ square_text s) (square_text t) (promotion_text p) ∙ append_assoc front (square_text s) (square_text t ++ promotion_text p)
 
 -- a plain word in its parts
-pub plain_is : (q : Board) (m : Move) → plain_text q m ≡ man_text (man_at q.men m.from) ++ way_text m.from m.to m.promotion
+pub plain_is : (q : Board) (m : Move) → plain_text q m ≡ man_text (man_at q.men m.from) ++ way_of m.from m.to m.promotion
 unfolding plain_text
 plain_is q m = plain_parts (man_text (man_at q.men m.from)) m.from m.to m.promotion
 

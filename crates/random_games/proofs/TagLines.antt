@@ -3,7 +3,7 @@ use Rattle.std.proofs.Common.{◌≡◌, ℕ, ◌+◌, ◌-◌, ◌≤◌, ◌==
 use Rattle.std.specs.Prelude.{codes}
 use Rattle.std.specs.List.{list_all}
 use Rattle.std.proofs.lemmas.List.{take_all, length-append}
-use Rattle.std.proofs.lemmas.Bool.{and_parts}
+use Rattle.std.proofs.lemmas.Bool.{and_parts, not-true}
 use Rattle.std.proofs.lemmas.Bool.Decides.{nat_tests}
 use Rattle.cha_list.specs.declared.classes.Class.TheVariants.{InLine}
 use Rattle.cha_list.specs.Bytes.{in_class}
@@ -20,17 +20,13 @@ use Rattle.random_games.proofs.Passed.{first_behind, passed, new_line}
 abbrev pub is_plain : ℕ → Bool
 is_plain b = not (b == 34) && (in_class InLine b && not (b == 92))
 
-unsaid : (b : Bool) → not b ≡ true → b ≡ false
-unsaid true e = cc
-unsaid false e = refl
-
 value_byte : (b : ℕ) (bs : List ℕ) → is_plain b ≡ true → value_after false (b ∷ bs) ≡ onto b (value_after false bs)
 unfolding value_after
 value_byte b bs h =
     let one = and_parts (not (b == 34)) (in_class InLine b && not (b == 92)) h in
     let two = and_parts (in_class InLine b) (not (b == 92)) one.1 in
-    let quote : (b == 34) ≡ false = unsaid (b == 34) one.0 in
-    let slash : (b == 92) ≡ false = unsaid (b == 92) two.1 in
+    let quote : (b == 34) ≡ false = not-true (b == 34) one.0 in
+    let slash : (b == 92) ≡ false = not-true (b == 92) two.1 in
     let inside : in_class InLine b ≡ true = two.0 in
     rw (quote, inside, slash) refl
 

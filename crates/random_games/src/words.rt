@@ -17,11 +17,10 @@ fn put_man(found: Option<Man>, text: &mut Text) -> Result<(), NoMemory>
         None => Ok(()),
         Some(man) => match man.kind {
             Kind::Pawn => Ok(()),
-            Kind::Knight => text.append(b"N"),
-            Kind::Bishop => text.append(b"B"),
-            Kind::Rook => text.append(b"R"),
-            Kind::Queen => text.append(b"Q"),
-            Kind::King => text.append(b"K"),
+            _ => {
+                text.push(man.kind.letter())?;
+                Ok(())
+            }
         },
     }
 }

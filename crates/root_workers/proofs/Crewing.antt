@@ -1,5 +1,6 @@
 -- Workers of a crew, one after the other.
 use Rattle.std.proofs.Common.{◌≡◌, ◌≢◌, ℕ, zero, suc, ◌+◌, ◌%◌, ◌<◌, ◌≤◌, ◌⊎◌, Result, inl, inr, List, [], ◌∷◌, ◌++◌, length, take, drop, slice_set, slice_index_or, refl, sym, ◌∙◌, ap, subst, arith}
+use Rattle.std.proofs.lemmas.Bool.{cases_lt}
 use Rattle.std.proofs.lemmas.List.{get_or-set_same, get_or-set_other, get_or_default, get_or_append_left, length-append}
 use Rattle.std.proofs.Math.Seq.{get_or-append_seam, take-append_seam}
 use Rattle.cha_list.specs.declared.memory.NoMemory.{NoMemory}
@@ -21,7 +22,6 @@ use Rattle.root_workers.specs.declared.answers.RoundsDone.{RoundsDone}
 use Rattle.root_workers.specs.Ends.{RoundsCalls}
 use Rattle.root_workers.specs.Shares.{IsShare, ShareCalls, AllGrow}
 use Rattle.root_workers.specs.Crews.{IsCrew, CrewMakes, LeavesWork, WorkerDone}
-use Rattle.root_workers.proofs.Numbering.{less_or_not}
 
 -- what all calls keep is kept by a worker's part of a round
 pub calls_keep : {S X : Type 0} (made : S → List Entry → S → Type 0) (f : S → X) (a b : S) (task : Task) (moves : List Move) (number count : ℕ) (work : Work)
@@ -73,7 +73,7 @@ no_workers table crew is =
     })
 
 worker_at : (P : ℕ → Worker → Type 0) (crew : List Worker) (w : Worker) → ((i : ℕ) (d : Worker) → i < length crew → P i (slice_index_or crew i d)) → P (length crew) w → (i : ℕ) (d : Worker) → i < length (crew ++ w ∷ []) → P i (slice_index_or (crew ++ w ∷ []) i d)
-worker_at P crew w before here i d less = elim (less_or_not i (length crew)) [
+worker_at P crew w before here i d less = elim (cases_lt i (length crew)) [
   | inl low ↦ subst (λ (x : Worker). P i x) (sym (get_or_append_left crew (w ∷ []) d i low)) (before i d low)
   | inr high ↦
       let e : length crew ≡ i = (let n = length-append crew (w ∷ []) in omega (arith, less, high, n)) in

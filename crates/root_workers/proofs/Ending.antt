@@ -2,7 +2,8 @@
 use Rattle.std.proofs.Common.{◌≡◌, ℕ, ◌-◌, ◌%◌, ◌<◌, ◌≤◌, ◌⊎◌, List, [], ◌∷◌, ◌++◌, length, Option, Some, None, Result, Ok, Err, IfOk, inl, inr, refl, sym, ◌∙◌, ap, subst, arith}
 use Rattle.std.specs.List.{Contains, slice_get}
 use Rattle.std.proofs.Math.Nat.{mod-lt}
-use Rattle.std.proofs.lemmas.List.Elements.{Contains-append_left, Contains-append_right, Contains-push}
+use Rattle.std.proofs.lemmas.Bool.{cases_lt}
+use Rattle.std.proofs.lemmas.List.Elements.{Contains-push}
 use Rattle.cha_list.specs.declared.memory.NoMemory.{NoMemory}
 use Rattle.cha_board.specs.declared.men.Color.{Color}
 use Rattle.cha_board.specs.Board.{Board}
@@ -19,11 +20,12 @@ use Rattle.cha_fact.specs.declared.calls.Probe.TheVariants.{Found, Miss}
 use Rattle.cha_fact.specs.Keys.{key_of}
 use Rattle.cha_fact.specs.Truths.{Claim}
 use Rattle.cha_fact.specs.Entries.{Entry, probe_entry, store_entry, HasFound, IsSearched}
-use Rattle.cha_fact.proofs.Searching.{Within, searched_more}
+use Rattle.cha_fact.proofs.Searching.{front_within, back_within, searched_more}
 use Rattle.helpmate.specs.declared.answers.RoundAnswer.{RoundAnswer}
 use Rattle.helpmate.specs.declared.answers.RoundAnswer.TheVariants.{NoneWithin as NoneAnswer}
 use Rattle.helpmate.specs.Rounds.{decided_by}
 use Rattle.helpmate.proofs.Saying.{says_none}
+use Rattle.helpmate.proofs.Trying.{the_same}
 use Rattle.root_workers.specs.declared.task.Task.{Task}
 use Rattle.root_workers.specs.declared.work.Work.{Work}
 use Rattle.root_workers.specs.declared.answers.RoundsEnd.{RoundsEnd}
@@ -32,7 +34,7 @@ use Rattle.root_workers.specs.declared.answers.RoundsDone.{RoundsDone}
 use Rattle.root_workers.specs.Shares.{IsShare, AreSharesSearched, ShareCalls, AllGrow}
 use Rattle.root_workers.specs.Ends.{IsMateEnd, IsEnd, IsAmple, IsDecidedEnd, FollowsFirst, IsUndecided, HasEndStore, RoundsCalls, claim_of}
 use Rattle.root_workers.specs.Deepens.{plies_of, IsFrom, DeepenCalls, KeepCalls, KeptCalls}
-use Rattle.root_workers.proofs.Numbering.{less_or_not}
+use Rattle.root_workers.proofs.Going.{the_done, none_depth}
 
 -- lines of fewer moves are lines of at most more
 lines_up : (q : Board) (d e n : ℕ) → d ≤ e → HasLines q d n → HasLines q e n
@@ -48,7 +50,7 @@ to_limit q limits d ample most (inr lines) (inr least) = omega (arith, most, lea
 ample_mate : (q : Board) (w : Color) (limits : Bounds) (end : RoundsEnd) → IsEnd q w limits end → (line : List Move) → IsAmple q limits → IsMatingLine q w line → length line ≤ limits.depth → IsMateEnd end
 ample_mate q w limits (Mate found) e line ample mates short = tt
 ample_mate q w limits (NoneWithin d) e line ample mates short =
-    let same = to_limit q limits d ample e.2 e.3 (less_or_not d limits.depth) in
+    let same = to_limit q limits d ample e.2 e.3 (cases_lt d limits.depth) in
     absurd (e.0 line (omega (arith, same, short)) mates)
 
 pub finds : (q : Board) (w : Color) (limits : Bounds) (result : Result RoundsDone NoMemory) → IfOk result (λ (done : RoundsDone). IsEnd q w limits done.end) → IfOk result (λ (done : RoundsDone). (line : List Move) → IsAmple q limits → IsMatingLine q w line → length line ≤ limits.depth → IsMateEnd done.end)
@@ -57,29 +59,14 @@ finds q w limits (Err refused) e = tt
 
 ample_none : (q : Board) (w : Color) (limits : Bounds) (end : RoundsEnd) → IsEnd q w limits end → IsAmple q limits → IsUnwinnable q w → end ≡ NoneWithin limits.depth
 ample_none q w limits (Mate found) e ample none = absurd (none found e.0)
-ample_none q w limits (NoneWithin d) e ample none = ap NoneWithin (to_limit q limits d ample e.2 e.3 (less_or_not d limits.depth))
+ample_none q w limits (NoneWithin d) e ample none = ap NoneWithin (to_limit q limits d ample e.2 e.3 (cases_lt d limits.depth))
 
 pub finds_none : (q : Board) (w : Color) (limits : Bounds) (result : Result RoundsDone NoMemory) → IfOk result (λ (done : RoundsDone). IsEnd q w limits done.end) → IfOk result (λ (done : RoundsDone). IsAmple q limits → IsUnwinnable q w → done.end ≡ NoneWithin limits.depth)
 finds_none q w limits (Ok done) e = ample_none q w limits done.end e
 finds_none q w limits (Err refused) e = tt
 
-front_within : (xs ys : List Entry) → Within xs (xs ++ ys)
-front_within xs ys e there = Contains-append_left xs ys e there
-
-back_within : (xs ys : List Entry) → Within ys (xs ++ ys)
-back_within xs ys e there = Contains-append_right xs ys e there
-
-the_done : (a b : RoundsDone) (o : Result RoundsDone NoMemory) → o ≡ Ok a → o ≡ Ok b → a ≡ b
-the_done a b o e f = cc
-
 some_none : {A : Type 0} (a : A) (o : Option A) → o ≡ Some a → o ≡ None → ⊥
 some_none a o e f = cc
-
-one_answer : (a b : RoundAnswer) (o : Option RoundAnswer) → o ≡ Some a → o ≡ Some b → a ≡ b
-one_answer a b o e f = cc
-
-none_depth : (d e : ℕ) → NoneWithin d ≡ NoneWithin e → d ≡ e
-none_depth d e same = cc
 
 -- what was found of no mate within so many plies is found among more entries
 found_first : (q : Board) (w : Color) (reply : Probe) (rest : List Entry) (row : Claim) (d n : ℕ) → reply ≡ Found row → row.fact ≡ NoneFact n → d ≤ n → HasFound (probe_entry (key_of q w) reply ∷ rest) q w d
@@ -99,7 +86,7 @@ decided_none made made_by count old new q w limits reply row depth entered grow 
       entered = entered;
       follows = λ done ends. subst (λ (x : RoundsDone). FollowsFirst limits.depth reply x) (the_done one done (Ok one) refl ends)
           (subst (λ (p : Probe). FollowsFirst limits.depth p one) (sym is) (λ answer says. (
-            subst (λ (a : RoundAnswer). IsDecidedEnd limits.depth a (NoneWithin depth)) (one_answer NoneAnswer answer (decided_by limits.depth row.fact) dec says) (ap NoneWithin same),
+            subst (λ (a : RoundAnswer). IsDecidedEnd limits.depth a (NoneWithin depth)) (the_same NoneAnswer answer (decided_by limits.depth row.fact) dec says) (ap NoneWithin same),
             refl,
           )));
       stores = λ done ends und. absurd (some_none NoneAnswer (decided_by limits.depth row.fact) dec (subst (λ (p : Probe). IsUndecided limits.depth p) is und));
@@ -118,9 +105,6 @@ follows_none depth (Found row) done und = λ answer says. absurd (some_none answ
 
 ok_holds : (P : RoundsDone → Type 0) (result : Result RoundsDone NoMemory) (done : RoundsDone) → IfOk result P → result ≡ Ok done → P done
 ok_holds P result done holds is = subst (λ (r : Result RoundsDone NoMemory). IfOk r P) is holds
-
-from_least : (from d : ℕ) (end : RoundsEnd) → IsFrom from end → end ≡ NoneWithin d → from ≤ d
-from_least from d end holds is = subst (λ (x : RoundsEnd). IsFrom from x) is holds
 
 two_least : (q : Board) (w : Color) (limits : Bounds) (d : ℕ) (end : RoundsEnd) → IsEnd q w limits end → end ≡ NoneWithin d → 2 ≤ d
 two_least q w limits d end holds is = (subst (λ (x : RoundsEnd). IsEnd q w limits x) is holds).1
@@ -151,7 +135,7 @@ rounds_calls made made_by count other from old mid new q w limits reply result b
           let small : i % count < count = mod-lt i some in
           let g = grow (i % count) small in
           let c = deepened (i % count) (omega (arith, small, same)) in
-          elim (less_or_not from d) [
+          elim (cases_lt from d) [
             | inl less ↦ (
               g.0 ++ c.0,
               both_by (i % count) old mid new g.0 c.0 g.1 c.1,

@@ -39,9 +39,6 @@ pub mate_or : (task : Task) (moves : List Move) (o : Option RootMate) → ((x : 
 mate_or task moves None each = tt
 mate_or task moves (Some x) each = each x refl
 
-pub mate_of_or : (task : Task) (moves : List Move) (o : Option RootMate) (x : RootMate) → IsRootMateOr task moves o → o ≡ Some x → IsRootMate task moves x
-mate_of_or task moves o x holds is = subst (λ (p : Option RootMate). IsRootMateOr task moves p) is holds
-
 -- one of two mates of the root is one
 pub either_mate : (task : Task) (moves : List Move) (best mate result : Option RootMate) → IsRootMateOr task moves best → IsRootMateOr task moves mate → (result ≡ best) ⊎ (result ≡ mate) → IsRootMateOr task moves result
 either_mate task moves best mate result one two (inl e) = subst (λ (p : Option RootMate). IsRootMateOr task moves p) (sym e) one

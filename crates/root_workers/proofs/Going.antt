@@ -1,6 +1,5 @@
 -- The rounds one after the other, and their calls.
 use Rattle.std.proofs.Common.{◌≡◌, ℕ, ◌+◌, ◌-◌, ◌<◌, ◌≤◌, List, [], ◌∷◌, ◌++◌, Some, Result, Ok, refl, sym, ◌∙◌, ap, subst, arith}
-use Rattle.std.proofs.lemmas.List.Elements.{Contains-append_left, Contains-append_right}
 use Rattle.cha_list.specs.declared.memory.NoMemory.{NoMemory}
 use Rattle.cha_board.specs.declared.men.Color.{Color}
 use Rattle.cha_board.specs.Board.{Board}
@@ -10,7 +9,7 @@ use Rattle.cha_moves.specs.Lines.{HasLines}
 use Rattle.cha_fact.specs.declared.calls.Stored.{Stored}
 use Rattle.cha_fact.specs.Truths.{Claim}
 use Rattle.cha_fact.specs.Entries.{Entry, store_entry}
-use Rattle.cha_fact.proofs.Searching.{Within, searched_more}
+use Rattle.cha_fact.proofs.Searching.{Within, front_within, back_within, searched_more}
 use Rattle.root_workers.specs.declared.task.Task.{Task}
 use Rattle.root_workers.specs.declared.work.Work.{Work}
 use Rattle.root_workers.specs.declared.answers.RoundsEnd.TheVariants.{Mate, NoneWithin}
@@ -18,12 +17,6 @@ use Rattle.root_workers.specs.declared.answers.RoundsDone.{RoundsDone}
 use Rattle.root_workers.specs.Shares.{IsShare, IsSpent, AreSharesSearched, ShareCalls, AllGrow}
 use Rattle.root_workers.specs.Gathers.{AreShares, AreWhole}
 use Rattle.root_workers.specs.Deepens.{WorkerCalls, CrewCalls, RoundSearches, DeepenCalls, KeepCalls}
-
-front_within : (xs ys : List Entry) → Within xs (xs ++ ys)
-front_within xs ys e there = Contains-append_left xs ys e there
-
-back_within : (xs ys : List Entry) → Within ys (xs ++ ys)
-back_within xs ys e there = Contains-append_right xs ys e there
 
 shares_within : (xs ys : List Entry) (q : Board) (w : Color) (d : ℕ) (moves : List Move) (number count : ℕ) → Within xs ys → AreSharesSearched xs q w d moves number count → AreSharesSearched ys q w d moves number count
 unfolding AreSharesSearched
@@ -93,10 +86,10 @@ last_round made_by old new q w from depth count result before depths i less =
           subst P (sym e) (b.2 (omega (arith, more, e)))),
     )
 
-the_done : (a b : RoundsDone) (o : Result RoundsDone NoMemory) → o ≡ Ok a → o ≡ Ok b → a ≡ b
+pub the_done : (a b : RoundsDone) (o : Result RoundsDone NoMemory) → o ≡ Ok a → o ≡ Ok b → a ≡ b
 the_done a b o e f = cc
 
-none_depth : (d e : ℕ) → NoneWithin d ≡ NoneWithin e → d ≡ e
+pub none_depth : (d e : ℕ) → NoneWithin d ≡ NoneWithin e → d ≡ e
 none_depth d e same = cc
 
 not_mate : (line : List Move) (d : ℕ) (P : Type 0) → Mate line ≡ NoneWithin d → P

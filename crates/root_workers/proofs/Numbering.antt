@@ -1,5 +1,6 @@
 -- Which of the numbers are one worker's.
 use Rattle.std.proofs.Common.{◌≡◌, ℕ, zero, suc, ◌+◌, ◌*◌, ◌/◌, ◌%◌, ◌<◌, ◌≤◌, ◌⊎◌, inl, inr, refl, ◌∙◌, ap, arith}
+use Rattle.std.proofs.lemmas.Bool.{cases_lt}
 use Rattle.std.proofs.lemmas.Nat.{div-add-mod'}
 use Rattle.std.proofs.Math.Nat.{add-mod_right, suc-mul, mod-eq_of_lt}
 
@@ -25,18 +26,9 @@ lower_or_here : (i k c n : ℕ) → 0 < c → k % c ≡ n → i % c ≡ n → i 
 lower_or_here i k c n some own also most (inl less) = inl less
 lower_or_here i k c n some own also most (inr least) = inr (none_between i k c n some own also least most)
 
-less_suc : (i k : ℕ) → (i < k) ⊎ (k ≤ i) → (suc i < suc k) ⊎ (suc k ≤ suc i)
-less_suc i k (inl less) = inl (omega (arith, less))
-less_suc i k (inr least) = inr (omega (arith, least))
-
-pub less_or_not : (i k : ℕ) → (i < k) ⊎ (k ≤ i)
-less_or_not i zero = inr (omega arith)
-less_or_not zero (suc k) = inl (omega arith)
-less_or_not (suc i) (suc k) = less_suc i k (less_or_not i k)
-
 -- up to a worker's next number, its own are those before its number and this one
 pub before_or_here : (i k c n : ℕ) → 0 < c → k % c ≡ n → i % c ≡ n → i < k + c → (i < k) ⊎ (i ≡ k)
-before_or_here i k c n some own also most = lower_or_here i k c n some own also most (less_or_not i k)
+before_or_here i k c n some own also most = lower_or_here i k c n some own also most (cases_lt i k)
 
 -- the next number is the worker's own too
 pub next_own : (k c n : ℕ) → k % c ≡ n → (k + c) % c ≡ n

@@ -2,7 +2,7 @@
 use Rattle.std.proofs.Common.{◌≡◌, ℕ, zero, suc, ◌+◌, ◌-◌, ◌*◌, ◌%◌, ◌^◌, ◌<◌, ◌≤◌, Bool, true, false, IsNone, List, [], ◌∷◌, ◌++◌, length, get_or, take, Option, Some, None, Result, Ok, inl, inr, refl, sym, ◌∙◌, ap, subst, arith}
 use Rattle.std.specs.List.{Contains, slice_get}
 use Rattle.std.proofs.Math.Nat.{mod-eq_of_lt}
-use Rattle.std.proofs.lemmas.List.Elements.{Contains-append_left, Contains-append_right, Contains-push, Contains-push_cases}
+use Rattle.std.proofs.lemmas.List.Elements.{Contains-append_left, Contains-push, Contains-push_cases}
 use Rattle.std.proofs.lemmas.Option.{slice_get_within, slice_get_read, get_or_from_slice_get, same_Some, none-some}
 use Rattle.cha_list.specs.declared.memory.NoMemory.{NoMemory}
 use Rattle.cha_list.specs.Distinct.{AreDistinct}
@@ -15,13 +15,13 @@ use Rattle.cha_moves.specs.Lines.{IsLegalLine, HasLines}
 use Rattle.cha_moves.proofs.Contained.{not_in_nothing, Contains-cons_cases, Contains-cons_here, Contains-cons_there}
 use Rattle.cha_fact.specs.Keys.{key_of}
 use Rattle.cha_fact.specs.Entries.{Entry, probe_entry, IsSearched}
-use Rattle.cha_fact.proofs.Searching.{Within, searched_more}
+use Rattle.cha_fact.proofs.Searching.{front_within, back_within, searched_more}
 use Rattle.helpmate.specs.declared.answers.RoundAnswer.{RoundAnswer}
 use Rattle.helpmate.specs.declared.answers.RoundAnswer.TheVariants.{Mate, NoneWithin}
 use Rattle.helpmate.specs.declared.answers.RoundDone.{RoundDone}
 use Rattle.helpmate.specs.Lines.{AreUnits}
 use Rattle.helpmate.specs.Rounds.{IsAnswer, IsAllowed, RoundCalls}
-use Rattle.helpmate.proofs.Counting.{Begins, HasLinesFrom, from_one_more}
+use Rattle.helpmate.proofs.Counting.{Begins, HasLinesFrom, from_one_more, still_begins}
 use Rattle.root_workers.specs.declared.task.Task.{Task}
 use Rattle.root_workers.specs.declared.work.RootMate.{RootMate}
 use Rattle.root_workers.specs.declared.work.Work.{Work}
@@ -52,14 +52,10 @@ take_within (suc a) (suc b) (y ∷ ys) x few there = elim (Contains-cons_cases y
   | inr h ↦ Contains-cons_there y (take b ys) x (take_within a b ys x (omega (arith, few)) h)
 ]
 
-begins_still : (q : Board) (d : ℕ) (ms more : List Move) → ((m : Move) → Contains ms m → Contains more m) → (line : List Move) → Begins q d ms line → Begins q d more line
-begins_still q d ms more all [] h = absurd h
-begins_still q d ms more all (m ∷ rest) h = (all m h.0, h.1, h.2, h.3)
-
 -- lines that begin with some of the moves begin with some of more
 lines_more : (q : Board) (d n a b : ℕ) (ms : List Move) → a ≤ b → HasLinesFrom q d (take a ms) n → HasLinesFrom q d (take b ms) n
 unfolding HasLinesFrom
-lines_more q d n a b ms few h = (h.0, h.1, h.2, (λ line there. begins_still q d (take a ms) (take b ms) (λ m. take_within a b ms m few) line (h.3 line there)))
+lines_more q d n a b ms few h = (h.0, h.1, h.2, (λ line there. still_begins q d (take a ms) (take b ms) (λ m. take_within a b ms m few) line (h.3 line there)))
 
 line_of : (q : Board) (d : ℕ) (ms line : List Move) → Begins q d ms line → IsLegalLine q line × (length line ≤ d)
 unfolding IsLegalLine
@@ -198,12 +194,6 @@ SharesTried made old new task moves number count index =
 pub shares_none : {S : Type 0} (made : S → List Entry → S → Type 0) (s : S) (task : Task) (moves : List Move) (number count : ℕ) → made s [] s → number < count → SharesTried made s s task moves number count number
 unfolding SharesTried
 shares_none made s task moves number count none few = ([], none, (λ i m is less own. absurd (none_below i count number few own less)))
-
-front_within : (xs ys : List Entry) → Within xs (xs ++ ys)
-front_within xs ys e there = Contains-append_left xs ys e there
-
-back_within : (xs ys : List Entry) → Within ys (xs ++ ys)
-back_within xs ys e there = Contains-append_right xs ys e there
 
 pub shares_more : {S : Type 0} (made : S → List Entry → S → Type 0) (old mid new : S) (task : Task) (moves : List Move) (number count index : ℕ) (m : Move) (result : Result RoundDone NoMemory) (done : RoundDone)
     → ((a b c : S) (xs ys : List Entry) → made a xs b → made b ys c → made a (xs ++ ys) c)

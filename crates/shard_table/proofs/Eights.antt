@@ -102,15 +102,6 @@ join_first old new others first joined k lt =
     let a = joined k lt in let z = joined 0 (omega arith) in let o = first k lt in
     (a.same.0 ∙ o.0, a.same.1 ∙ (o.1 ∙ sym z.same.1), a.joins ∙ (ap (λ n. n + 1) o.2 ∙ sym z.joins))
 
--- at each shard the first pass has number 0, and may be split where the table's may
-pub first_at : (pass : TablePass) → IsFirstPass pass → (k : ℕ) → k < 8 → (pass_at pass k).number ≡ 0
-unfolding IsFirstPass
-first_at pass first k lt = (first k lt).0
-
-pub few_at : (pass : TablePass) → IsFirstPass pass → splits_of pass < 1000 → (k : ℕ) → k < 8 → (pass_at pass k).splits < 1000
-unfolding IsFirstPass
-few_at pass first few k lt = let e = (first k lt).1 in omega (arith, e, few)
-
 module _ (table : Table) (pass : TablePass) (k : ℕ) (cell : _) (p : _) (at_cell : slice_get table.cells k ≡ Some cell) (at_pass : slice_get pass.passes k ≡ Some p) where
   -- where as many passes were taken back as were split off, the first pass is alone at each shard
   pub alone_at : IsOfTable table pass → IsFirstPass pass → joins_of pass ≡ splits_of pass → k < 8 → IsOf cell p × IsFirst p × (joins p ≡ splits p)

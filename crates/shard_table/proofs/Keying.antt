@@ -1,43 +1,30 @@
 -- When two keys are one.
-use Rattle.std.proofs.Common.{◌≡◌, ℕ, Bool, true, false, ◌&&◌, List, nat_eq, IsTrue, ◌↔◌, refl, subst}
+use Rattle.std.proofs.Common.{◌≡◌, ℕ, true, List, nat_eq, IsTrue, ◌↔◌, refl, subst}
+use Rattle.std.proofs.lemmas.Bool.{and_parts}
 use Rattle.std.proofs.lemmas.Bool.Decides.{Decides-eqb}
 use Rattle.std.proofs.lemmas.Slice.Eq.{slice_eq-Decides}
 use Rattle.std.specs.Cmp.Lexicographic.{pointwise}
 use Rattle.cha_board.specs.declared.men.Color.{Color}
 use Rattle.cha_board.specs.declared.men.Color.TheVariants.{White, Black}
 use Rattle.cha_board.specs.Men.{same_color}
+use Rattle.cha_board.proofs.Identity.{same_color_equal, same_color_self}
 use Rattle.cha_fact.specs.declared.key.Key.{Key}
 use Rattle.cha_fact.specs.contracts.key.KeyPartialEq.TheImpl.{eq-value}
 use Rattle.shard_table.specs.Shards.{same_key}
-
-sides_tell : (v w : Color) → same_color v w ≡ true → v ≡ w
-sides_tell White White e = refl
-sides_tell White Black e = cc
-sides_tell Black White e = cc
-sides_tell Black Black e = refl
-
-same_side : (v : Color) → same_color v v ≡ true
-same_side White = refl
-same_side Black = refl
-
-halves : (a b : Bool) → (a && b) ≡ true → (a ≡ true) × (b ≡ true)
-halves true true e = (refl, refl)
-halves true false e = cc
-halves false b e = cc
 
 -- keys that the test calls one are one
 pub key_exact : (a b : Key) → same_key a b ≡ true → a ≡ b
 unfolding same_key
 key_exact a b e =
-    let parts = halves (pointwise nat_eq a.packed.words b.packed.words) (same_color a.winner b.winner) e in
+    let parts = and_parts (pointwise nat_eq a.packed.words b.packed.words) (same_color a.winner b.winner) e in
     let words = (slice_eq-Decides Decides-eqb a.packed.words b.packed.words _ refl).0 parts.0 in
-    let winner = sides_tell a.winner b.winner parts.1 in
+    let winner = same_color_equal a.winner b.winner parts.1 in
     λ i. record { packed = record { words = words i }; winner = winner i }
 
 -- a key is itself
-key_itself : (a : Key) → same_key a a ≡ true
+pub key_itself : (a : Key) → same_key a a ≡ true
 unfolding same_key
-key_itself a = rw ((slice_eq-Decides Decides-eqb a.packed.words a.packed.words _ refl).1 refl, same_side a.winner) refl
+key_itself a = rw ((slice_eq-Decides Decides-eqb a.packed.words a.packed.words _ refl).1 refl, same_color_self a.winner) refl
 
 -- the test is equality
 pub key_tells : (a b : Key) → IsTrue (same_key a b) ↔ (a ≡ b)

@@ -135,9 +135,6 @@ module _ (eq : Key → Key → Bool) (k : Key) (agrees : (b : Key) → eq k b �
   pub displaced_new : lookup (eq k) c.entries ≡ None → displaced eq c k v ≡ slice_get c.entries (c.cap - 1)
   displaced_new none = ap (λ o. option_map_or (λ old. Some (k, old)) o (slice_get c.entries (c.cap - 1))) none
 
-  pub displaced_there : (row : Claim) → lookup (eq k) c.entries ≡ Some row → displaced eq c k v ≡ Some (k, row)
-  displaced_there row found = ap (λ o. option_map_or (λ old. Some (k, old)) o (slice_get c.entries (c.cap - 1))) found
-
 -- no entry stands behind the last
 pub not_full : (es : List (Key × Claim)) (n : ℕ) → slice_get es n ≡ None → length es ≤ n
 not_full [] n none = omega arith

@@ -12,7 +12,7 @@ use Rattle.cha_fact.specs.declared.calls.FactCall.TheVariants.{Probe as Asked, S
 use Rattle.cha_fact.specs.declared.calls.FactReply.{FactReply}
 use Rattle.cha_fact.specs.declared.calls.FactReply.TheVariants.{Probed, Stored as StoredAs}
 use Rattle.cha_fact.specs.Truths.{Claim, rank_of}
-use Rattle.shard_table.proofs.Keying.{key_exact, key_tells}
+use Rattle.shard_table.proofs.Keying.{key_exact, key_itself}
 use Rattle.shard_table.proofs.Lasting.{found_key}
 use Rattle.shard_table.specs.Live.{History, IsLive, IsKeptBy, FindsAtLeast}
 use Rattle.shard_table.specs.Rows.{Rows, row_key}
@@ -21,9 +21,6 @@ use Rattle.shard_table.specs.Shards.{same_key, find_row, without, Probes, Stores
 -- the key has a row that says at least so much
 abbrev pub Has : Key → ℕ → List Claim → Type 0
 Has key n rows = (row : Claim) × (find_row key rows ≡ Some row) × (n ≤ rank_of row.fact)
-
-key_self : (key : Key) → same_key key key ≡ true
-key_self key = (key_tells key key).1 refl
 
 -- a row in front is found, where it is of the key
 front_is : (key : Key) (r : Claim) (rows : List Claim) → same_key key (row_key r) ≡ true → find_row key (r ∷ rows) ≡ Some r
@@ -61,7 +58,7 @@ take_else key (r ∷ rows) row last (suc n) f l at apart = take_step key r row r
 
 -- a row that is found is of the key
 same_self : (key : Key) (rows : List Claim) (row : Claim) → find_row key rows ≡ Some row → same_key key (row_key row) ≡ true
-same_self key rows row f = subst (λ k. same_key key k ≡ true) (sym (found_key key rows row f)) (key_self key)
+same_self key rows row f = subst (λ k. same_key key k ≡ true) (sym (found_key key rows row f)) (key_itself key)
 
 none_found : (key : Key) (rows : List Claim) (row : Claim) → find_row key rows ≡ None → find_row key rows ≡ Some row → ⊥
 none_found key rows row n s = let e : None ≡ Some row = sym n ∙ s in cc
@@ -74,7 +71,7 @@ front_keeps : (key other : Key) (n : ℕ) (first row : Claim) (rest : List Claim
     → (key ≡ other → n ≤ rank_of first.fact) → ((key ≡ other → ⊥) → find_row key rest ≡ Some row) → Has key n (first ∷ rest)
 front_keeps key other n first row rest true is of le here else = (first, front_is key first rest is, here (key_exact key (row_key first) is ∙ of))
 front_keeps key other n first row rest false is of le here else =
-    (row, front_not key first rest is ∙ else (λ e. let same : same_key key (row_key first) ≡ true = ap (same_key key) (of ∙ sym e) ∙ key_self key in cc), le)
+    (row, front_not key first rest is ∙ else (λ e. let same : same_key key (row_key first) ≡ true = ap (same_key key) (of ∙ sym e) ∙ key_itself key in cc), le)
 
 module _ (key : Key) (n : ℕ) where
   kept_by_store : (entries : ℕ) (row : Claim) (old new : List Claim) (reply : Stored) → Stores entries row old reply new → Has key n old → (StoredAs reply ≡ StoredAs (Evicted key) → ⊥) → Has key n new
@@ -120,9 +117,9 @@ module _ (key : Key) (n : ℕ) where
 
 -- after the store itself
 stored_has : (entries : ℕ) (row : Claim) (old new : List Claim) (reply : Stored) → Stores entries row old reply new → IsKeptBy (StoredAs reply) → Has (row_key row) (rank_of row.fact) new
-stored_has entries row old new Added s h = subst (Has (row_key row) (rank_of row.fact)) (sym s.2) (row, front_is (row_key row) row old (key_self (row_key row)), omega arith)
-stored_has entries row old new (Evicted last) s h = subst (Has (row_key row) (rank_of row.fact)) (sym s.3) (row, front_is (row_key row) row (take (entries - 1) old) (key_self (row_key row)), omega arith)
-stored_has entries row old new Better s h = subst (Has (row_key row) (rank_of row.fact)) (sym s.3) (row, front_is (row_key row) row (without (row_key row) old) (key_self (row_key row)), omega arith)
+stored_has entries row old new Added s h = subst (Has (row_key row) (rank_of row.fact)) (sym s.2) (row, front_is (row_key row) row old (key_itself (row_key row)), omega arith)
+stored_has entries row old new (Evicted last) s h = subst (Has (row_key row) (rank_of row.fact)) (sym s.3) (row, front_is (row_key row) row (take (entries - 1) old) (key_itself (row_key row)), omega arith)
+stored_has entries row old new Better s h = subst (Has (row_key row) (rank_of row.fact)) (sym s.3) (row, front_is (row_key row) row (without (row_key row) old) (key_itself (row_key row)), omega arith)
 stored_has entries row old new Kept s h = subst (Has (row_key row) (rank_of row.fact)) (sym s.3) (s.0, front_is (row_key row) s.0 (without (row_key row) old) (same_self (row_key row) old s.0 s.1), s.2)
 stored_has entries row old new Dropped s h = absurd h
 

@@ -1,9 +1,10 @@
+-- what public contracts say
 pub mod Rows
 pub mod Shards
 pub mod Live
 pub mod Tables
 pub mod Makes
+pub mod Making
 -- inside the crate
 pub mod Replays
 pub mod Eights
-pub mod Making

@@ -1,4 +1,4 @@
-use Rattle.std.proofs.Common.{rules, ◌≡◌, ◌<◌, ◌+◌, length, refl, sym, arith}
+use Rattle.std.proofs.Common.{rules, refl, arith}
 use Rattle.cha_decide.proofs.Backwards.{made_none, made_both, shown_at}
 use Rattle.std.proofs.lemmas.Option.{slice_get_read}
 use Rattle.cha_decide.proofs.scanning.go_back.Goals as goal

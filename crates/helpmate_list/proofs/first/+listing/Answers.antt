@@ -1,8 +1,9 @@
 use Rattle.std.proofs.Common.{◌≡◌, ◌-◌, length, sym, ◌∙◌, ap, arith, rules}
 use Rattle.std.proofs.lemmas.Result.{IfOk-weaker}
 use Rattle.cha_moves.specs.MateLines.{mate_lines}
+use Rattle.cha_moves.proofs.MateLines.{begun}
 use Rattle.helpmate_list.proofs.Taking.{join_full}
-use Rattle.helpmate_list.proofs.Mating.{led_lines, none_below_at, led_more, led_all, all_of_none, none_by_move, none_first, none_within, none_at_all, no_length}
+use Rattle.helpmate_list.proofs.Mating.{none_below_at, led_more, led_all, all_of_none, none_by_move, none_first, none_within, none_at_all, no_length}
 use Rattle.helpmate_list.proofs.first.+listing.Goals as goal
 use Rattle.helpmate_list.proofs.first.+listing.Goals.{expand-then-items-most+in_ok-rest+in_ok-add_led, expand-else-items-most}
 
@@ -37,7 +38,7 @@ expand-loop-m-preserved g t c =
       | expand-else-items-most w ↦ record {
         ready = rw w.facts-is before.ready;
         listed = before.listed;
-        lines = w.lines-is ∙ join_full c.args.most i c.loop-m.lines (led_lines q c.args.winner (c.args.plies - 1)) ms m before.lines (let no = w.if-items-most.false in let e = c.items.ensures in let f = ap length e in omega arith) c.loop-m-test.true c.m-item.is;
+        lines = w.lines-is ∙ join_full c.args.most i c.loop-m.lines (begun q c.args.winner (c.args.plies - 1)) ms m before.lines (let no = w.if-items-most.false in let e = c.items.ensures in let f = ap length e in omega arith) c.loop-m-test.true c.m-item.is;
       }
     ]
 

@@ -1,7 +1,7 @@
 use Rattle.std.proofs.Common.{◌≡◌, ◌-◌, take}
 use Rattle.std.specs.List.{flat_map}
-use Rattle.helpmate_list.proofs.Mating.{led_lines}
+use Rattle.cha_moves.proofs.MateLines.{begun}
 use Rattle.helpmate_list.proofs.gather.gathered.Given as goal
 
 abbrev pub invariant-loop-root_move : goal.invariant-loop-root_move
-invariant-loop-root_move l = l.lines ≡ take 201 (flat_map (led_lines l.task.position l.task.winner (l.task.plies - 1)) (take l.root_move l.moves))
+invariant-loop-root_move l = l.lines ≡ take 201 (flat_map (begun l.task.position l.task.winner (l.task.plies - 1)) (take l.root_move l.moves))

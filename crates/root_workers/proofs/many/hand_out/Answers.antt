@@ -3,7 +3,6 @@ use denote.Param.{param}
 use mir.Raw.{raw}
 use mir.Syntax.{ty_int, w32, named}
 use Rattle.std.proofs.Common.{[], ◌∷◌, rules}
-use Rattle.std.proofs.Crossing.{crosses}
 use Rattle.std.proofs.Crossing as std_crossing
 use Rattle.shard_table.proofs.Sending.{table_sync}
 use Rattle.root_workers.proofs.Crossing.{move_sync, task_sync}

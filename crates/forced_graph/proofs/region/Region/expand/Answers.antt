@@ -1,13 +1,13 @@
 use Rattle.std.proofs.Common.{◌+◌, length, refl, ap, ◌∙◌, arith}
+use Rattle.cha_moves.proofs.LegalApart.{few_legal}
 use Rattle.node_store.specs.Nodes.{Node}
 use Rattle.node_store.proofs.Pushing.{map_within}
-use Rattle.forced_graph.proofs.Lines.{legal_few}
 use Rattle.forced_graph.proofs.Trying.{one_more, still_at, all_tried}
 use Rattle.forced_graph.proofs.region.Region.expand.Goals as goal
 
 pub overflow_cast-len : goal.overflow_cast-len
 overflow_cast-len c =
-    let few = legal_few c.position-here.result in
+    let few = few_legal c.position-here.result in
     let same = ap length c.in_ok-moves.ensures in
     let len = c.len.ensures in
     omega arith

@@ -1,8 +1,8 @@
 -- The report of the shortest mates, one line after another.
-use Rattle.std.proofs.Common.{◌≡◌, ◌⊎◌, inl, inr, ℕ, ◌+◌, ◌^◌, ◌<◌, ◌≤◌, Bool, if◌then◌else◌, List, [], ◌∷◌, ◌++◌, length, take, drop, Option, refl, sym, ap, ◌∙◌, arith, append_assoc, append-nil, length-append, take-append-drop, zero-add, subst}
+use Rattle.std.proofs.Common.{◌≡◌, ◌⊎◌, inl, inr, ℕ, ◌+◌, ◌≤◌, Bool, if◌then◌else◌, List, [], ◌∷◌, ◌++◌, length, take, drop, Option, refl, sym, ap, ◌∙◌, arith, append_assoc, append-nil, length-append, take-append-drop, zero-add, subst}
 use Rattle.std.specs.List.{count_by}
 use Rattle.std.specs.Io.KnownBytes.{Appends}
-use Rattle.std.proofs.lemmas.List.Sums.{sum_by-append, count_by-le-length}
+use Rattle.std.proofs.lemmas.List.Sums.{sum_by-append}
 use Rattle.cha_board.specs.declared.men.Color.{Color}
 use Rattle.cha_outside.specs.Faults.{Rose}
 use Rattle.cha_outside.proofs.Adding.{appends_nothing, appends_more}
@@ -14,9 +14,8 @@ use Rattle.adjudicate.specs.declared.endings.Status.TheVariants.{Done, WriteFaul
 use Rattle.adjudicate.specs.declared.mates.MatesBlock.{MatesBlock}
 use Rattle.adjudicate.specs.Outcomes.{Item, position_items}
 use Rattle.adjudicate.specs.MatesReport.{mates_item, mates_items, mates_totals, mates_report, is_refused_line, has_mates}
-use Rattle.adjudicate.specs.MatesSteps.{ListsItem, MatesRoom, mates_counted}
-use Rattle.adjudicate.specs.Runs.{Grew}
-use Rattle.adjudicate.specs.Report.{IsFront, HasBegun, HasWholeBlocks, IsReport}
+use Rattle.adjudicate.specs.MatesSteps.{ListsItem, mates_counted}
+use Rattle.adjudicate.specs.Report.{IsFront}
 use Rattle.adjudicate.specs.Steps.{one_if, IsWritten}
 
 -- of all lines, the blocks of those before these were written, and the totals are theirs
@@ -78,14 +77,6 @@ mates_more side depth all here later item old now next s listed w here_is j adde
 
 pub mates_number_more : (side : Color) (depth : ℕ) (item : Item) (s : MatesTotals) (listed : MatesBlock) → ListsItem side depth item s listed → listed.totals.positions ≡ s.positions + 1
 mates_number_more side depth item s listed j = ap (λ t. t.positions) j.1
-
-pub room_for_mates : (side : Color) (depth : ℕ) (all here : List Item) (old now : Option (List ℕ)) (s : MatesTotals) → WroteMates side depth all here old now s → s.positions < 2 ^ 63 → MatesRoom s
-room_for_mates side depth all here old now s w few =
-    let first = w.0 in
-    let number = number_is side depth first s w.3 in
-    let refused : s.refused ≤ length first = rw (ap (λ t. t.refused) w.3) (count_by-le-length is_refused_line first) in
-    let found : s.found ≤ length first = rw (ap (λ t. t.found) w.3) (count_by-le-length (has_mates side depth) first) in
-    record { few_positions = few; few_refused = omega arith; few_found = omega arith }
 
 module _ (side : Color) (workers depth : ℕ) (bytes : List ℕ) (here : List Item) (old now : Option (List ℕ)) (s : MatesTotals) (g g' : ℕ) (w : WroteMates side depth (position_items bytes) here old now s) where
   pub mates_without_memory : g ≤ g' → IsWritten (ListMates side workers depth) bytes NoMemory old g now g'

@@ -11,7 +11,7 @@ use Rattle.flag_report.specs.declared.totals.PositionTotals.{PositionTotals}
 use Rattle.adjudicate.specs.Outcomes.{Item, Outcome, item_of, IsSoundOutcome, AllSound, block, blocks, game_totals, position_totals, is_refused, is_dead_position, is_unreadable, is_changed_game, is_open}
 use Rattle.adjudicate.specs.Report.{IsReportOn, HasBegunOn, HasWholeBlocksOn}
 use Rattle.adjudicate.specs.Runs.{Grew}
-use Rattle.adjudicate.specs.Steps.{one_if, Judges, JudgesGame, JudgesLine, GameRoom, LineRoom, game_counted, line_counted}
+use Rattle.adjudicate.specs.Steps.{one_if, Judges, GameRoom, game_counted, line_counted}
 
 -- how totals are kept: what they are of outcomes, how many these are, and the totals with one more
 pub record Tally (T : Type 0) : Type 0 where
@@ -150,15 +150,6 @@ room_for_game limits certs all here old now s w few =
     let changed : s.changed ≤ length os = rw (ap (λ t. t.changed) w.2.4) (count_by-le-length is_changed_game os) in
     let undecided : s.undecided ≤ length os = rw (ap (λ t. t.undecided) w.2.4) (count_by-le-length is_open os) in
     record { few_games = few; few_unreadable = omega arith; few_changed = omega arith; few_undecided = omega arith }
-
-pub room_for_line : (limits : Bounds) (certs : Bool) (all here : List Item) (old now : Option (List ℕ)) (s : PositionTotals) → WroteUpTo of_positions limits certs all here old now s → s.positions < 2 ^ 63 → LineRoom s
-room_for_line limits certs all here old now s w few =
-    let os = w.2.0 in
-    let number : s.positions ≡ length os = ap (λ t. t.positions) w.2.4 in
-    let refused : s.refused ≤ length os = rw (ap (λ t. t.refused) w.2.4) (count_by-le-length is_refused os) in
-    let dead : s.dead ≤ length os = rw (ap (λ t. t.dead) w.2.4) (count_by-le-length is_dead_position os) in
-    let undecided : s.undecided ≤ length os = rw (ap (λ t. t.undecided) w.2.4) (count_by-le-length is_open os) in
-    record { few_positions = few; few_refused = omega arith; few_dead = omega arith; few_undecided = omega arith }
 
 pub one_counted : {T : Type 0} (y : Tally T) (number_more : (s : T) (o : Outcome) → y.number (y.counted s o) ≡ y.number s + 1) (limits : Bounds) (certs : Bool) (item : Item) (s : T) (text : List ℕ) (totals : T)
     → Judges y.counted limits certs item (y.number s) s text totals → y.number totals ≡ y.number s + 1

@@ -1,20 +1,16 @@
 -- From where on a game was dead, in its block.
-use Rattle.std.proofs.Common.{◌≡◌, ℕ, ◌-◌, ◌<◌, ◌≤◌, Bool, List, length, slice_index_or, Option, Some, None, IfSome, Result, Ok, Err, IfOk, refl, sym, ap, subst, arith}
+use Rattle.std.proofs.Common.{◌≡◌, ◌-◌, ◌<◌, Bool, List, length, slice_index_or, Option, Result, Ok, Err, IfOk, refl, sym, ap, arith}
 use Rattle.std.proofs.lemmas.Option.{get_or_from_slice_get, slice_get_read}
 use Rattle.cha_list.specs.declared.memory.NoMemory.{NoMemory}
-use Rattle.cha_board.specs.declared.men.Color.{Color}
 use Rattle.cha_board.specs.Board.{Board}
 use Rattle.cha_verdict.specs.declared.decisions.Decision.{Decision}
-use Rattle.cha_verdict.specs.declared.scans.Edge.{Edge}
-use Rattle.cha_verdict.specs.declared.scans.Edge.TheVariants.{Unclear}
 use Rattle.cha_verdict.specs.declared.scans.Scan.{Scan}
 use Rattle.cha_limits.specs.Bounds.{Bounds}
-use Rattle.cha_verdict.specs.Scans.{HasEdge, HasScan, IsPrintableScan}
+use Rattle.cha_verdict.specs.Scans.{HasScan}
 use Rattle.cha_verdict.specs.Sound.{IsSound}
 use Rattle.pgn_games.specs.declared.played.Game.{Game}
 use Rattle.flag_report.specs.declared.totals.GameTotals.{GameTotals}
 use Rattle.flag_report.specs.Rulings.{first_of}
-use Rattle.flag_report.specs.Scans.{CanBeTold}
 use Rattle.adjudicate.specs.declared.playing.GameBlock.{GameBlock}
 use Rattle.adjudicate.specs.Outcomes.{item_of, IsSoundOutcome, final_of, played_item}
 use Rattle.adjudicate.specs.Outcomes.Item.{PlayedGame}
@@ -32,15 +28,3 @@ unfolding item_of IsSoundOutcome
 judged limits certs game q qs d found s final sound scanned (Ok b) reported =
     (JudgedGame q qs game.recorded game.forfeit d found, ap (λ x. PlayedGame x qs game.recorded game.forfeit) (sym final), (sound, scanned), reported.block, reported.totals)
 judged limits certs game q qs d found s final sound scanned (Err e) reported = tt
-
--- before an unclear edge there is a ply
-some_before : (qs : List Board) (first : Color) (limits : Bounds) (ply : ℕ) (edge : Edge) → HasEdge qs first limits ply edge → edge ≡ Unclear → 1 ≤ ply
-some_before qs first limits ply edge has is =
-    let unclear : HasEdge qs first limits ply Unclear = subst (λ (e : Edge). HasEdge qs first limits ply e) is has in
-    let some = unclear.0 in
-    omega (arith, some)
-
--- a sound scan can be told
-pub can_be_told : (qs : List Board) (first : Color) (limits : Bounds) (d : Decision) (found : Option Scan) → HasScan qs first limits d found → IfSome found (λ scan. IsPrintableScan scan.earlier) → IfSome found CanBeTold
-can_be_told qs first limits d None has printable = tt
-can_be_told qs first limits d (Some scan) has printable = record { printable = printable; before = some_before qs first limits scan.ply scan.edge has.1.edge }

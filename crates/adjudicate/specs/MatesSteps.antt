@@ -1,5 +1,5 @@
 -- What the listing of the shortest mates of one line gives.
-use Rattle.std.specs.Prelude.{◌≡◌, ℕ, ◌+◌, ◌^◌, ◌<◌, List}
+use Rattle.std.specs.Prelude.{◌≡◌, ℕ, ◌+◌, ◌^◌, ◌<◌}
 use Rattle.cha_board.specs.declared.men.Color.{Color}
 use Rattle.flag_report.specs.declared.mates.MatesTotals.{MatesTotals}
 use Rattle.adjudicate.specs.declared.mates.MatesBlock.{MatesBlock}

@@ -1,5 +1,5 @@
 -- What is written for an input (this project).
-use Rattle.std.specs.Prelude.{◌≡◌, ℕ, ◌+◌, ◌≤◌, Bool, List, [], ◌∷◌, ◌++◌, length, map, Option}
+use Rattle.std.specs.Prelude.{◌≡◌, ℕ, ◌+◌, ◌≤◌, Bool, List, [], ◌∷◌, ◌++◌, length, map}
 use Rattle.flag_report.specs.Totals.{game_summary_text, position_summary_text}
 use Rattle.cha_limits.specs.Bounds.{Bounds}
 use Rattle.cert_text.specs.Versions.{any_cert_of}

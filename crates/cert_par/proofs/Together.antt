@@ -1,5 +1,5 @@
 -- What the nodes, each on its own, say together.
-use Rattle.std.proofs.Common.{◌≡◌, ◌↔◌, ℕ, zero, suc, ◌+◌, ◌<◌, Bool, true, false, not, IsTrue, List, [], ◌∷◌, length, get_or, Result, Ok, Some, refl, subst, ◌∙◌, arith, inl, inr}
+use Rattle.std.proofs.Common.{◌≡◌, ℕ, zero, suc, ◌+◌, ◌<◌, Bool, true, false, List, [], ◌∷◌, length, get_or, Result, Ok, Some, refl, subst, ◌∙◌, arith, inl, inr}
 use Rattle.std.specs.List.{AllZip, range_with_len}
 use Rattle.std.proofs.lemmas.Bool.{cases_lt}
 use Rattle.std.proofs.lemmas.List.FromFn.{get_or-range_with_len, length-range_with_len}
@@ -9,11 +9,6 @@ use Rattle.cha_board.specs.declared.men.Color.{Color}
 use Rattle.cha_cert.specs.declared.nodes.Node.{Node}
 use Rattle.cha_cert.specs.Certificates.{NodeHolds, FirstFailing}
 use Rattle.cert_par.specs.Failing.{TellsFailing, Found}
-
--- a test turned round twice
-pub turned : {P : Type 0} (b : Bool) → IsTrue b ↔ P → IsTrue (not (not b)) ↔ P
-turned true told = told
-turned false told = told
 
 zip_at : {A B : Type 0} (R : A → B → Type 0) (xs : List A) (ys : List B) → AllZip R xs ys → (k : ℕ) (d : A) (e : B) → k < length xs → R (get_or xs k d) (get_or ys k e)
 zip_at R [] [] all k d e inside = absurd (omega (arith, inside))

@@ -19,7 +19,7 @@ use Rattle.cert_text.specs.Spelled.{header_line, end_line, winner_line, count_li
 use Rattle.cert_text.specs.Lines.{lines_of, tail_of}
 use Rattle.cert_text.specs.Texts.{found, fixed_of, follows, wanted, begins_reach, rows_after, leaf_after, node_after, nodes_after, ended, cert_of}
 use Rattle.cert_text.specs.declared.faults.CertFault.{CertFault}
-use Rattle.cert_text.specs.Agreeing.{IsWritable, IsWritablePart, IsCertText}
+use Rattle.cert_text.specs.Writable.{IsWritable, IsWritablePart, IsCertText}
 use Rattle.cert_text.proofs.Parts.{parts_read}
 use Rattle.cert_text.proofs.Plain.{cert_plain}
 use Rattle.cert_text.proofs.LinesAgain.{not_zero, less_test, lines_again, no_tail, fixed_again, winner_again, count_again, set_again, loose_again, row_again, inner_again, leaf_again, leaf_no_inner}

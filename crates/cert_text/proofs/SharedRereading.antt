@@ -16,7 +16,7 @@ use Rattle.cert_text.specs.SharedSpelled.{sets_line, shared_leaf_line, set_lines
 use Rattle.cert_text.specs.Lines.{lines_of, tail_of}
 use Rattle.cert_text.specs.Texts.{found, fixed_of, wanted, begins_reach, ended}
 use Rattle.cert_text.specs.SharedTexts.{sets_after, shared_node_of, many_after, shared_cert_of}
-use Rattle.cert_text.specs.Agreeing.{IsWritableSets, HasValidPosition, IsSharedText}
+use Rattle.cert_text.specs.Writable.{IsWritableSets, HasValidPosition, IsSharedText}
 use Rattle.cert_text.proofs.SharedParts.{shared_parts_read}
 use Rattle.cert_text.proofs.Plain.{plain, ArePlain, both_plain, one_plain, fen_plain, decimal_plain, winner_plain, count_plain, sets_plain, plain_append}
 use Rattle.cert_text.proofs.LinesAgain.{lines_again, no_tail, fixed_again, winner_again, count_again, loose_again}

@@ -6,5 +6,6 @@ pub mod Lines
 pub mod Texts
 pub mod SharedTexts
 pub mod Versions
--- What only loops and lemmas use; public contracts cite IsCertText and IsWritable of it.
+pub mod Writable
+-- what only loops and lemmas use
 pub mod Agreeing

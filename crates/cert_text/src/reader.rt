@@ -7,7 +7,7 @@ ghost use Rattle.cha_cert.specs.Shared.{expansion};
 ghost use Rattle.cert_text.specs.declared.faults.CertKind.TheVariants.{NoMemory};
 ghost use Rattle.cert_text.specs.Spelled.{cert_text, AreInnerOrLeaves};
 ghost use Rattle.cert_text.specs.Texts.{cert_of};
-ghost use Rattle.cert_text.specs.Agreeing.{IsCertText};
+ghost use Rattle.cert_text.specs.Writable.{IsCertText};
 
 use crate::bodies::nodes;
 use crate::faults::{CertFault, CertKind};

@@ -4,7 +4,7 @@ ghost use Rattle.std.specs.Prelude.{◌≤◌, drop, length, ◌≡◌, ◌≢�
 ghost use Rattle.cert_text.specs.declared.faults.CertKind.TheVariants.{NoMemory};
 ghost use Rattle.cert_text.specs.SharedSpelled.{shared_text};
 ghost use Rattle.cert_text.specs.SharedTexts.{shared_cert_of};
-ghost use Rattle.cert_text.specs.Agreeing.{IsSharedText};
+ghost use Rattle.cert_text.specs.Writable.{IsSharedText};
 ghost use Rattle.cha_board.specs.declared.men.Color.{Color as Side};
 ghost use Rattle.cha_cert.specs.Shared.{Shared};
 

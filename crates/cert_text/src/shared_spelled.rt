@@ -5,7 +5,7 @@ ghost use Rattle.std.specs.List.{All, flat_map};
 ghost use Rattle.cert_text.specs.Spelled.{winner_line, count_line, lines_text};
 ghost use Rattle.cert_text.specs.SharedSpelled.{sets_line, shared_leaf_line, set_lines, shared_node_lines, shared_header_line, shared_text};
 ghost use Rattle.cert_text.specs.SharedTexts.{shared_cert_of};
-ghost use Rattle.cert_text.specs.Agreeing.{IsWritableSets, HasValidPosition};
+ghost use Rattle.cert_text.specs.Writable.{IsWritableSets, HasValidPosition};
 
 use crate::spelled::{put_count, put_inner, put_lone, put_sets, put_small};
 use cha_board::{Color, Position};

@@ -5,7 +5,7 @@ ghost use Rattle.std.specs.List.{All, flat_map};
 ghost use Rattle.mob_sets.specs.Tidy.{AreTidy};
 ghost use Rattle.cert_text.specs.Spelled.{header_line, winner_line, count_line, loose_line, row_line, inner_line, leaf_line, small_line, lone_line, node_lines, IsInnerOrLeaf, AreInnerOrLeaves, lines_text, cert_text};
 ghost use Rattle.cert_text.specs.Texts.{cert_of};
-ghost use Rattle.cert_text.specs.Agreeing.{IsWritable};
+ghost use Rattle.cert_text.specs.Writable.{IsWritable};
 
 use crate::digits::put_hex;
 use cha_board::{Color, Position, SquareSet};

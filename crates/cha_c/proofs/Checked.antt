@@ -1,16 +1,15 @@
 -- What a run of the word check tells of a text.
-use Rattle.std.proofs.Common.{◌≡◌, ◌≢◌, ℕ, ◌<◌, ◌≤◌, List, [], ◌∷◌, ◌++◌, length, map, codes, string_bytes, Option, Some, None, IfSome, refl, sym, ap, ◌∙◌, subst, arith, append-nil}
+use Rattle.std.proofs.Common.{◌≡◌, ◌≢◌, ℕ, List, [], ◌∷◌, ◌++◌, map, codes, string_bytes, Option, Some, IfSome, refl, sym, ap, ◌∙◌, subst, arith, append-nil}
 use Rattle.std.specs.declared.string.String.{String}
 use Rattle.std.specs.declared.alloc.Global.{Global}
 use Rattle.std.specs.Io.KnownBytes.{Consumes, IsAtEnd}
 use Rattle.cha_outside.specs.Gathering.{Took}
-use Rattle.cha_words.specs.declared.orders.Order.{Order}
 use Rattle.cha_words.specs.declared.orders.Order.TheVariants.{CheckCert}
 use Rattle.cha_words.specs.Language.{order, order_of, order_by, command_named}
 use Rattle.adjudicate.specs.declared.endings.Status.{Status}
-use Rattle.adjudicate.specs.declared.endings.Status.TheVariants.{Done, Usage, ReadFault, WriteFault, TooLong, NoMemory, NotAccepted}
+use Rattle.adjudicate.specs.declared.endings.Status.TheVariants.{Done, Usage, ReadFault, NotAccepted}
 use Rattle.adjudicate.specs.Checks.{IsAccepted}
-use Rattle.adjudicate.specs.Runs.{IsRun, Ended, outside, most_bytes}
+use Rattle.adjudicate.specs.Runs.{IsRun, Ended, outside}
 
 -- the word orders a check
 check_ordered : order_of (codes "check" ∷ []) ≡ Some CheckCert

@@ -7,11 +7,9 @@ use Rattle.std.proofs.lemmas.Bool.{and_parts, and_from}
 use Rattle.std.proofs.lemmas.Bool.Decides.{Decides-eqb, nat_tests}
 use Rattle.std.proofs.lemmas.List.Sums.{fold_more}
 use Rattle.std.proofs.lemmas.Slice.Eq.{slice_eq-Decides}
-use Rattle.cha_board.specs.declared.men.Kind.{Kind}
-use Rattle.cha_board.specs.declared.men.Kind.TheVariants.{Pawn, Knight, Bishop, Rook, Queen, King}
 use Rattle.cha_board.specs.Men.{same_kind}
 use Rattle.cha_board.specs.Board.{Board}
-use Rattle.cha_board.proofs.Identity.{same_kind_equal}
+use Rattle.cha_board.proofs.Identity.{same_kind_equal, same_kind_self}
 use Rattle.mob_sets.specs.Rows.{Row, SetRows}
 use Rattle.cha_cert.specs.declared.nodes.Node.{Node}
 use Rattle.cha_cert.specs.declared.shared.SharedPart.TheVariants.{Leaf as SharedLeaf}
@@ -26,17 +24,9 @@ bit_decides false false = ((λ e. refl), (λ e. refl))
 squares_decide : (a b : List Bool) → Decides (same_squares a b) (a ≡ b)
 squares_decide a b = slice_eq-Decides bit_decides a b (same_squares a b) refl
 
-kind_itself : (k : Kind) → same_kind k k ≡ true
-kind_itself Pawn = refl
-kind_itself Knight = refl
-kind_itself Bishop = refl
-kind_itself Rook = refl
-kind_itself Queen = refl
-kind_itself King = refl
-
 row_itself : (a : Row) → same_row a a ≡ true
 row_itself a =
-    and_from (a.origin == a.origin) _ ((Decides-eqb a.origin a.origin).1 refl) (and_from (same_kind a.kind a.kind) _ (kind_itself a.kind) ((squares_decide a.squares a.squares).1 refl))
+    and_from (a.origin == a.origin) _ ((Decides-eqb a.origin a.origin).1 refl) (and_from (same_kind a.kind a.kind) _ (same_kind_self a.kind) ((squares_decide a.squares a.squares).1 refl))
 
 row_decides : (a b : Row) → Decides (same_row a b) (a ≡ b)
 row_decides a b = (

@@ -1,7 +1,7 @@
 -- What is written is read again: the fields and the whole.
 use Rattle.std.proofs.Common.{◌≡◌, ℕ, zero, suc, ◌+◌, ◌/◌, ◌%◌, ◌<◌, ◌≤◌, ◌==◌, Bool, true, false, not, ◌&&◌, ◌||◌, if◌then◌else◌, nat_lt, List, [], ◌∷◌, ◌++◌, Option, Some, None, Ok, length, drop, refl, sym, ap, ◌∙◌, arith, append_assoc, append-nil, length-append, take_at, drop_at}
 use Rattle.std.specs.List.{prefix_len, list_all}
-use Rattle.std.proofs.lemmas.Bool.{and_parts, and_from, eqb-true}
+use Rattle.std.proofs.lemmas.Bool.{and_parts, and_from}
 use Rattle.std.proofs.lemmas.Bool.Decides.{nat_tests}
 use Rattle.std.proofs.lemmas.List.Folds.{list_all-append}
 use Rattle.cha_list.specs.declared.classes.Class.TheVariants.{Blank, NotBlank}
@@ -10,7 +10,7 @@ use Rattle.cha_board.specs.declared.men.Color.{Color}
 use Rattle.cha_board.specs.declared.men.Color.TheVariants.{White, Black}
 use Rattle.cha_board.specs.declared.men.Man.{Man}
 use Rattle.cha_board.specs.declared.position.Rights.{Rights}
-use Rattle.cha_board.specs.Board.{Board, IsValid, has_one_king, has_pawn_at_end, in_check, are_at_home, rights_fit, target_is_good, target_fits}
+use Rattle.cha_board.specs.Board.{Board, IsValid, has_one_king, has_pawn_at_end, in_check, are_at_home, rights_fit, target_is_good}
 use Rattle.cha_board.specs.Men.{other_color}
 use Rattle.cha_board.specs.Build.{build_fault, built, kept_rights, kept_target}
 use Rattle.cha_board.specs.Letters.{square_text}

@@ -3,8 +3,8 @@ use Rattle.std.proofs.Common.{ℕ, ◌+◌, ◌-◌, List, [], ◌++◌, length,
 use Rattle.std.proofs.lemmas.List.{take_rest}
 use Rattle.std.proofs.Math.Seq.{take-add}
 use Rattle.std.specs.declared.option.Option.{Option}
-use Rattle.std.specs.Io.KnownBytes.{Keeps, Appends}
-use Rattle.std.proofs.KnownBytes.{Appends-nil, Appends-trans, Appends-kept}
+use Rattle.std.specs.Io.KnownBytes.{Appends}
+use Rattle.std.proofs.KnownBytes.{Appends-nil, Appends-trans}
 
 pub appends_nothing : (a : Option (List ℕ)) → Appends a a []
 appends_nothing a = Appends-nil a

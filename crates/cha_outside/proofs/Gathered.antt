@@ -1,9 +1,9 @@
 -- Bytes gathered from a source, behind those that were there.
-use Rattle.std.proofs.Common.{◌≡◌, ℕ, ◌≤◌, List, [], ◌++◌, length, None, Some, sym, ap, ◌∙◌, subst, append-nil, append_assoc, length-append, arith}
+use Rattle.std.proofs.Common.{◌≡◌, ℕ, ◌≤◌, List, [], ◌++◌, length, None, Some, sym, ap, ◌∙◌, append-nil, append_assoc, length-append, arith}
 use Rattle.std.specs.declared.option.Option.{Option}
 use Rattle.std.specs.Io.KnownBytes.{Keeps, Consumes, IsAtEnd}
 use Rattle.std.proofs.KnownBytes.{Consumes-nil, Consumes-trans, Consumes-kept}
-use Rattle.cha_outside.specs.Gathering.{Took, Gathers}
+use Rattle.cha_outside.specs.Gathering.{Gathers}
 
 pub gathers_nothing : (a : Option (List ℕ)) (bs : List ℕ) → Gathers a a bs bs
 gathers_nothing a bs = ([], Consumes-nil a, sym (append-nil bs))

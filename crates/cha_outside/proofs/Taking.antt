@@ -1,8 +1,8 @@
 -- Bytes taken from a source, one read after another.
 use Rattle.std.proofs.Common.{ℕ, List, [], ◌++◌}
 use Rattle.std.specs.declared.option.Option.{Option}
-use Rattle.std.specs.Io.KnownBytes.{Keeps, Consumes}
-use Rattle.std.proofs.KnownBytes.{Consumes-nil, Consumes-trans, Consumes-kept}
+use Rattle.std.specs.Io.KnownBytes.{Consumes}
+use Rattle.std.proofs.KnownBytes.{Consumes-nil, Consumes-trans}
 
 pub consumes_nothing : (a : Option (List ℕ)) → Consumes a a []
 consumes_nothing a = Consumes-nil a

@@ -1,3 +1,4 @@
+pub mod Promoting
 pub mod PartsInOrder
 pub mod ReadInOrder
 pub mod Sifting

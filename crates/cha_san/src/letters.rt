@@ -20,16 +20,13 @@ impl ByteClass for Sign {
 }
 
 /// What a pawn becomes by a letter.
-#[tactic(auto, unfolding(crate::specs::Forms::promotion_named))]
+#[tactic(auto, using(crate::proofs::Promoting::none_named, crate::proofs::Promoting::no_pawn, crate::proofs::Promoting::no_king, crate::proofs::Promoting::as_named))]
 pub fn promotion_of(letter: u8) -> Option<Kind>
     ensures { result ≡ promotion_named letter }
 {
-    match letter {
-        b'Q' => Some(Kind::Queen),
-        b'R' => Some(Kind::Rook),
-        b'B' => Some(Kind::Bishop),
-        b'N' => Some(Kind::Knight),
-        _ => None,
+    match Kind::of_letter(letter) {
+        None | Some(Kind::Pawn | Kind::King) => None,
+        kind => kind,
     }
 }
 

@@ -43,9 +43,6 @@ not_dead q first limits d sound live dead = by_white (is_winnable d.white) refl
     by_white true e = can_mate q White limits d.white (sound.true_of White) e (dead White)
     by_white false e = can_mate q Black limits d.black (sound.true_of Black) (either (is_winnable d.white) (is_winnable d.black) live e) (dead Black)
 
-one_some : (p q : Board) → Some p ≡ Some q → p ≡ q
-one_some p q e = cc
-
 module _ (qs : List Board) (played : ArePlayed qs) where
   dead_behind : (i j : ℕ) (p q : Board) → i ≤ j → slice_get qs i ≡ Some p → slice_get qs j ≡ Some q → IsDead p → IsDead q
   dead_behind i j p q later at there dead w = stays_later qs i j p q w played later at there (dead w)

@@ -1,12 +1,11 @@
 -- How many games are made: from 1 to 1,000.
-use Rattle.std.proofs.Common.{◌≡◌, ℕ, ◌≤◌, Bool, true, false, ◌&&◌, if◌then◌else◌, nat_le, List, [], ◌∷◌, Option, Some, None, length, filter, filter_map, refl, sym, ap, ◌∙◌, arith}
+use Rattle.std.proofs.Common.{◌≡◌, ℕ, ◌≤◌, Bool, true, false, ◌&&◌, if◌then◌else◌, nat_le, List, [], ◌∷◌, Option, Some, None, length, filter, filter_map, refl, ap, arith}
 use Rattle.std.specs.Str.{all_ascii_digits}
 use Rattle.std.specs.Str.Parse.{digits_value}
-use Rattle.std.proofs.lemmas.Bool.{and_parts}
 use Rattle.std.proofs.lemmas.Bool.Decides.{nat_tests}
 use Rattle.cha_limits.specs.Bounds.{Bounds}
 use Rattle.cha_words.specs.declared.orders.Order.{Order}
-use Rattle.cha_words.specs.declared.orders.Order.TheVariants.{AdjudicateGames, JudgePositions, CheckCert, GenGames, ListMates}
+use Rattle.cha_words.specs.declared.orders.Order.TheVariants.{AdjudicateGames, JudgePositions, GenGames, ListMates}
 use Rattle.cha_words.specs.declared.commands.Command.{Command}
 use Rattle.cha_words.specs.declared.commands.Command.TheVariants.{Adjudicate, Position, Check, Gen, Mates}
 use Rattle.cha_words.specs.Language.{is_number, number, Games, games_of, seed_and_count, generated, judged, order_by, order_behind, order_of, limits, asked, parts, is_certs, plain_word, command_named, Part, value_for, chosen_up_to, side_in, is_barred, listed}

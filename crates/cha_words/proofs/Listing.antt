@@ -1,20 +1,19 @@
 -- What the words behind mates give, part by part.
-use Rattle.std.proofs.Common.{◌≡◌, ℕ, ◌≤◌, true, false, Bool, List, [], ◌∷◌, map, drop, filter, filter_map, Option, Some, None, String, Global, string_bytes, codes, refl, sym, ◌∙◌, ap, arith}
+use Rattle.std.proofs.Common.{◌≡◌, ℕ, ◌≤◌, List, [], ◌∷◌, map, filter, filter_map, Option, Some, None, String, Global, string_bytes, refl, ◌∙◌, ap}
 use Rattle.std.specs.Option.{unwrap_or}
 use Rattle.cha_board.specs.declared.men.Color.{Color}
-use Rattle.cha_words.specs.declared.orders.Order.{Order}
 use Rattle.cha_words.specs.declared.orders.Order.TheVariants.{ListMates}
 use Rattle.cha_words.specs.declared.commands.Command.TheVariants.{Mates}
 use Rattle.cha_words.specs.declared.settings.Setting.{Setting}
 use Rattle.cha_words.specs.declared.settings.Setting.TheVariants.{Budget, Workers, Depth, Entries}
 use Rattle.cha_words.specs.declared.mates.Wanted.{Wanted}
 use Rattle.cha_words.specs.declared.mates.Reading.{Reading}
-use Rattle.cha_words.specs.Language.{Part, Piece, number, side_named, value_for, plain_word, chosen_up_to, side_in, is_barred, mates_with, mates_within, mates_by, listed, order_by, piece}
+use Rattle.cha_words.specs.Language.{Part, number, side_named, value_for, plain_word, is_barred, listed, order_by, piece}
 use Rattle.cha_words.specs.Language.Part.{Value, Certs, Plain}
-use Rattle.cha_words.specs.Language.Piece.{Name, Whole}
-use Rattle.cha_words.specs.Reading.{IsInRange, parts_awaiting}
+use Rattle.cha_words.specs.Language.Piece.{Name}
+use Rattle.cha_words.specs.Reading.{parts_awaiting}
 use Rattle.cha_words.specs.MatesReading.{chosen_behind, side_behind, mates_from, nothing_wanted, HasMatesRanges, TakesPart, TakesNext, at_rest}
-use Rattle.cha_words.proofs.Cutting.{cut_same, named_part, one_part}
+use Rattle.cha_words.proofs.Cutting.{cut_same, named_part}
 use Rattle.cha_words.proofs.Words.{no_empty}
 
 -- where one of them is none, nothing is ordered

@@ -4,8 +4,8 @@ pub mod Fields
 pub mod Games
 pub mod Reading
 pub mod Settling
+pub mod Keeping
 -- what only loops and lemmas use
 pub mod Holding
-pub mod Keeping
 pub mod Summing
 pub mod Told

@@ -96,7 +96,7 @@ unfolding left_of_piece token_at begins_line
 spoilt_follows word value b true e = (refl, refl, λ rest. rw (run_grows (in_class InLine) b rest e) refl)
 spoilt_follows word value b false e = λ rest. rw (run_ends (in_class InLine) b rest e) refl
 
--- blanks, quotes, closing brackets and the bytes of names stand in a line
+-- blanks, quotes and the bytes of names stand in a line
 blank_in_line : (b : ℕ) → in_class Blank b ≡ true → in_class InLine b ≡ true
 unfolding in_class
 blank_in_line b e = in_line (in_class Blank) b e refl refl
@@ -107,9 +107,6 @@ name_in_line b e = in_line (in_pgn_class NameByte) b e refl refl
 
 quote_in_line : (b : ℕ) → (b == 34) ≡ true → in_class InLine b ≡ true
 quote_in_line b e = in_line (λ x. x == 34) b e refl refl
-
-bracket_in_line : (b : ℕ) → (b == 93) ≡ true → in_class InLine b ≡ true
-bracket_in_line b e = in_line (λ x. x == 93) b e refl refl
 
 -- a tag pair that is broken
 spoils_by : (stage : Stage) (word value : List ℕ) (b : ℕ) (t : Bool) → in_class InLine b ≡ t → ((rest : List ℕ) → left_of_piece stage word value (b ∷ rest) ≡ tag_or_line (b ∷ rest) None)

@@ -49,14 +49,6 @@ goes_on bytes front added at escaped after inside step before =
     let cut : drop at bytes ≡ get_or bytes at 0 ∷ drop (at + 1) bytes = rw add-one (drop-cons bytes at 0 inside) in
     before ∙ ap (λ x. onto_all front (value_after escaped x)) cut ∙ ap (onto_all front) (step (drop (at + 1) bytes)) ∙ onto_both front added (value_after after (drop (at + 1) bytes))
 
-pub breaks : (bytes front : List ℕ) (at : ℕ) (escaped : Bool) → at < length bytes
-    → ((bs : List ℕ) → value_after escaped (get_or bytes at 0 ∷ bs) ≡ None)
-    → value_after false bytes ≡ onto_all front (value_after escaped (drop at bytes))
-    → value_after false bytes ≡ None
-breaks bytes front at escaped inside step before =
-    let cut : drop at bytes ≡ get_or bytes at 0 ∷ drop (at + 1) bytes = rw add-one (drop-cons bytes at 0 inside) in
-    before ∙ ap (λ x. onto_all front (value_after escaped x)) cut ∙ ap (onto_all front) (step (drop (at + 1) bytes))
-
 none_after : (front : List ℕ) (escaped : Bool) → onto_all front (value_after escaped []) ≡ None
 unfolding value_after
 none_after front true = refl

@@ -1,6 +1,6 @@
 -- What is kept of a word and of a value.
-use Rattle.std.proofs.Common.{◌≡◌, ℕ, zero, suc, ◌+◌, ◌<◌, ◌≤◌, min, ◌==◌, ◌||◌, false, nat_lt, List, [], ◌∷◌, ◌++◌, length, take, refl, sym, ap, ◌∙◌, arith, length-append}
-use Rattle.std.proofs.lemmas.List.{take_min, take_all, take-append-le, length-take}
+use Rattle.std.proofs.Common.{◌≡◌, ℕ, zero, suc, ◌≤◌, min, nat_lt, List, [], ◌∷◌, length, take, refl, ap, ◌∙◌, arith}
+use Rattle.std.proofs.lemmas.List.{take_min, length-take}
 use Rattle.std.proofs.lemmas.Bool.Decides.{nat_tests}
 use Rattle.pgn_lex.specs.declared.kinds.Token.TheVariants.{Tag}
 
@@ -27,20 +27,3 @@ tag_kept name value w v e f =
     let size : length value ≡ min 4097 (length v) = ap length f ∙ length-take 4097 v in
     let text : take 4096 value ≡ take 4096 v = ap (take 4096) f ∙ take_fewer v in
     rw (e, text, longer (length value) (length v) size) refl
-
--- one byte more
-pub keeps_byte : (most : ℕ) (kept full : List ℕ) (b : ℕ) → kept ≡ take most full → length kept < most → kept ++ b ∷ [] ≡ take most (full ++ b ∷ [])
-keeps_byte most kept full b e few =
-    let size : length kept ≡ min most (length full) = ap length e ∙ length-take most full in
-    let all : kept ≡ full = e ∙ take_all most full (omega arith) in
-    let count : length (full ++ b ∷ []) ≡ length full + 1 = length-append full (b ∷ []) in
-    ap (λ xs. xs ++ b ∷ []) all ∙ sym (take_all most (full ++ b ∷ []) (omega arith))
-
-pub keeps_no_byte : (most : ℕ) (kept full : List ℕ) (b : ℕ) → kept ≡ take most full → most ≤ length kept → kept ≡ take most (full ++ b ∷ [])
-keeps_no_byte most kept full b e many =
-    let size : length kept ≡ min most (length full) = ap length e ∙ length-take most full in
-    e ∙ sym (take-append-le most full (b ∷ []) (omega arith))
-
--- a byte that is no quote and no backslash
-pub other_byte : (b : ℕ) → (b ≡ 34 → ⊥) → (b ≡ 92 → ⊥) → ((b == 34) || (b == 92)) ≡ false
-other_byte b e f = grind (arith, nat_tests)

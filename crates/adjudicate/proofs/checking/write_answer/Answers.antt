@@ -1,4 +1,3 @@
-use Rattle.std.proofs.Common.{arith}
 use Rattle.adjudicate.proofs.Answering.{cut_answer}
 use Rattle.adjudicate.proofs.checking.write_answer.Goals as goal
 

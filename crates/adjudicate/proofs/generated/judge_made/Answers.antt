@@ -1,4 +1,4 @@
-use Rattle.std.proofs.Common.{◌≡◌, ℕ, ◌<◌, ◌≤◌, ◌+◌, ◌*◌, List, [], length, None, Some, Err, Ok, false, refl, sym, ap, ◌∙◌, subst, arith}
+use Rattle.std.proofs.Common.{◌≡◌, ◌<◌, ◌+◌, ◌*◌, [], length, None, Some, Ok, false, refl, sym, ap, ◌∙◌, subst, arith}
 use Rattle.cha_outside.proofs.Taking.{consumes_nothing}
 use Rattle.random_games.specs.Made.{made}
 use Rattle.adjudicate.proofs.PlayedGames.{few_words, given_few}

@@ -1,8 +1,8 @@
-use Rattle.std.proofs.Common.{◌≡◌, take, sym, ◌∙◌, arith}
+use Rattle.std.proofs.Common.{sym, ◌∙◌, arith}
 use Rattle.std.proofs.lemmas.Bool.Decides.{nat_tests}
 use Rattle.adjudicate.specs.Outcomes.{position_items}
 use Rattle.adjudicate.proofs.Items.{blank_line, next_item, no_item}
-use Rattle.adjudicate.proofs.MatesLoop.{no_mates_yet, mates_more, mates_number_more, room_for_mates, mates_without_memory, mates_cut, mates_ended}
+use Rattle.adjudicate.proofs.MatesLoop.{no_mates_yet, mates_more, mates_number_more, mates_without_memory, mates_cut, mates_ended}
 use Rattle.adjudicate.proofs.RunEndings.{rose_in}
 use Rattle.adjudicate.proofs.mates.list_lines.Goals as goal
 

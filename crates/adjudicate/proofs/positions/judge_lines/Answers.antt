@@ -1,9 +1,8 @@
-use Rattle.std.proofs.Common.{◌≡◌, take, sym, ◌∙◌, arith, refl}
+use Rattle.std.proofs.Common.{sym, ◌∙◌, arith, refl}
 use Rattle.std.proofs.lemmas.Bool.Decides.{nat_tests}
-use Rattle.flag_report.specs.Totals.{position_summary_text}
 use Rattle.adjudicate.specs.Outcomes.{position_items}
 use Rattle.adjudicate.proofs.Items.{blank_line, next_item, no_item}
-use Rattle.adjudicate.proofs.Progress.{of_positions, nothing_written, one_more, one_counted, room_for_line}
+use Rattle.adjudicate.proofs.Progress.{of_positions, nothing_written, one_more, one_counted}
 use Rattle.adjudicate.proofs.LineLoop.{lines_without_memory, lines_cut, lines_ended}
 use Rattle.adjudicate.proofs.RunEndings.{rose_in}
 use Rattle.adjudicate.proofs.positions.judge_lines.Goals as goal

@@ -1,6 +1,6 @@
 use Rattle.std.proofs.Common.{arith}
 use Rattle.cert_text.specs.SharedSpelled.{set_lines}
-use Rattle.cert_text.specs.Agreeing.{IsWritableSets}
+use Rattle.cert_text.specs.Writable.{IsWritableSets}
 use Rattle.cert_text.proofs.Writing.{no_lines, kept_more}
 use Rattle.cert_text.proofs.SharedWriting.{item_more}
 use Rattle.cert_text.proofs.shared_spelled.put_all_sets.Goals as goal

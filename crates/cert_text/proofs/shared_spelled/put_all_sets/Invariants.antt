@@ -3,7 +3,7 @@ use Rattle.std.specs.List.{flat_map}
 use Rattle.mob_sets.specs.Rows.{SetRows}
 use Rattle.cert_text.specs.Spelled.{lines_text}
 use Rattle.cert_text.specs.SharedSpelled.{set_lines}
-use Rattle.cert_text.specs.Agreeing.{IsWritableSets}
+use Rattle.cert_text.specs.Writable.{IsWritableSets}
 use Rattle.cert_text.proofs.shared_spelled.put_all_sets.Given as goal
 
 -- the sets so far are written, and can be

@@ -1,6 +1,6 @@
 use Rattle.std.proofs.Common.{arith}
 use Rattle.cert_text.specs.SharedSpelled.{shared_node_lines}
-use Rattle.cert_text.specs.Agreeing.{HasValidPosition}
+use Rattle.cert_text.specs.Writable.{HasValidPosition}
 use Rattle.cert_text.proofs.Writing.{no_lines, kept_more}
 use Rattle.cert_text.proofs.SharedWriting.{item_more}
 use Rattle.cert_text.proofs.shared_spelled.put_shared_nodes.Goals as goal

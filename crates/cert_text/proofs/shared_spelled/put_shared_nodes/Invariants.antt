@@ -3,7 +3,7 @@ use Rattle.std.specs.List.{flat_map}
 use Rattle.cha_cert.specs.declared.shared.SharedNode.{SharedNode}
 use Rattle.cert_text.specs.Spelled.{lines_text}
 use Rattle.cert_text.specs.SharedSpelled.{shared_node_lines}
-use Rattle.cert_text.specs.Agreeing.{HasValidPosition}
+use Rattle.cert_text.specs.Writable.{HasValidPosition}
 use Rattle.cert_text.proofs.shared_spelled.put_shared_nodes.Given as goal
 
 -- the nodes so far are written, and their positions are valid

@@ -5,7 +5,7 @@ use Rattle.mob_sets.specs.Rows.{SetRows}
 use Rattle.cha_cert.specs.declared.shared.SharedNode.{SharedNode}
 use Rattle.cert_text.specs.Spelled.{winner_line, count_line, lines_text}
 use Rattle.cert_text.specs.SharedSpelled.{sets_line, set_lines, shared_node_lines, shared_header_line}
-use Rattle.cert_text.specs.Agreeing.{IsWritableSets, HasValidPosition}
+use Rattle.cert_text.specs.Writable.{IsWritableSets, HasValidPosition}
 use Rattle.cert_text.proofs.SharedRereading.{shared_again}
 use Rattle.cert_text.proofs.SharedWriting.{whole_shared_text}
 use Rattle.cert_text.proofs.shared_spelled.write2.Goals as goal

@@ -1,5 +1,5 @@
 use Rattle.std.proofs.Common.{arith}
-use Rattle.cert_text.specs.Agreeing.{IsWritable}
+use Rattle.cert_text.specs.Writable.{IsWritable}
 use Rattle.cert_text.proofs.Writing.{no_lines, node_more, kept_more}
 use Rattle.cert_text.proofs.spelled.put_nodes.Goals as goal
 

@@ -2,7 +2,7 @@ use Rattle.std.proofs.Common.{◌≡◌, ℕ, ◌<◌, ◌++◌, take, get_or}
 use Rattle.std.specs.List.{flat_map}
 use Rattle.cha_cert.specs.declared.nodes.Node.{Node}
 use Rattle.cert_text.specs.Spelled.{node_lines, lines_text}
-use Rattle.cert_text.specs.Agreeing.{IsWritable}
+use Rattle.cert_text.specs.Writable.{IsWritable}
 use Rattle.cert_text.proofs.spelled.put_nodes.Given as goal
 
 -- the nodes so far are written, and can be

@@ -1,7 +1,7 @@
 use Rattle.std.proofs.Common.{List, [], ◌∷◌, ◌++◌, length, ap, subst, ◌∙◌}
 use Rattle.std.specs.List.{All, flat_map}
 use Rattle.cha_cert.specs.declared.nodes.Node.{Node}
-use Rattle.cert_text.specs.Agreeing.{IsWritable}
+use Rattle.cert_text.specs.Writable.{IsWritable}
 use Rattle.cert_text.specs.Spelled.{header_line, winner_line, count_line, node_lines, lines_text}
 use Rattle.cert_text.proofs.Writing.{whole_text}
 use Rattle.cert_text.proofs.Rereading.{text_again}

@@ -1,4 +1,4 @@
-use Rattle.std.proofs.Common.{◌≡◌, ◌∙◌, arith, refl}
+use Rattle.std.proofs.Common.{◌≡◌, ◌∙◌}
 use Rattle.std.specs.Option.{unwrap_or}
 use Rattle.cha_words.proofs.Listing.{ordered_at_end, none_at_end, given_number, usual_number}
 use Rattle.cha_words.proofs.mates.mates_of.Goals.{in-Some, in-None, in-Some-depth, in-None-depth}

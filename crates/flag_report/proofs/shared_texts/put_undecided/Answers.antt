@@ -1,4 +1,4 @@
-use Rattle.std.proofs.Common.{◌++◌, List, ℕ, codes, decimal, ap, ◌∙◌, append_assoc}
+use Rattle.std.proofs.Common.{◌++◌, List, ℕ, codes, ap, ◌∙◌, append_assoc}
 use Rattle.flag_report.specs.Blocks.{undecided_text, count_text}
 use Rattle.flag_report.proofs.shared_texts.put_undecided.Goals as goal
 

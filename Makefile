@@ -6,6 +6,7 @@
 # make lib-test   runs both from C, under sanitizers, and from Python
 PREFIX ?= /usr/local
 PROGRAM = crates/cha_main/out/cha_main
+SOURCES = HANDLES crates.txt $(shell find crates/*/src crates/*/specs crates/*/proofs -type f)
 
 .PHONY: all run test install clean kit lib lib-test install-lib
 
@@ -14,7 +15,7 @@ all: cha
 kit:
 	@command -v rt >/dev/null 2>&1 || { echo "the Rattle kit is missing: its command 'rt' is not on the PATH" >&2; exit 2; }
 
-cha: kit
+cha: $(SOURCES) | kit
 	@tools/prove.py cha_main
 	@cd crates/cha_main && rt run -- position < /dev/null > /dev/null
 	@cp $(PROGRAM) cha
@@ -39,7 +40,7 @@ HEAP = $(dir $(shell rt doc 2>/dev/null))c/liblibc_c.a
 
 lib: libcha.a libcha.so
 
-$(LIBRARY): kit
+$(LIBRARY): $(SOURCES) | kit
 	@tools/prove.py cha_c
 	@cd crates/cha_c && rt lib > /dev/null
 

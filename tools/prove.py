@@ -50,9 +50,9 @@ class Proving:
             print(f"{len(self.done)} of {len(self.needed)}: {crate}, after {self.seconds()}", flush=True)
 
     def alone(self, crate, jobs):
-        """Proves a crate whose libraries are proved, with all processors."""
+        """Proves a crate whose libraries are proved, with all processors; a program, of a few functions over all that is loaded, with one."""
         is_program = os.path.exists(f"{TOP}/crates/{crate}/src/main.rt")
-        self.call(["rt", "check" if is_program else "lib", "--jobs", str(jobs)], crate, set())
+        self.call(["rt", "check", "--jobs", "1"] if is_program else ["rt", "lib", "--jobs", str(jobs)], crate, set())
         self.ended(crate)
 
     def call(self, words, crate, until):
@@ -84,7 +84,7 @@ def main():
     if not words or words[0] not in crates:
         sys.exit("usage: tools/prove.py CRATE [--jobs N]")
     proving = Proving(crates, words[0])
-    print(f"proving {len(proving.needed)} crates in {lanes} lanes; from nothing that takes a quarter of an hour and more, later seconds", flush=True)
+    print(f"proving {len(proving.needed)} crates in {lanes} lanes; from nothing that takes twenty minutes on four processors, later seconds", flush=True)
     for crate in proving.first:
         proving.alone(crate, processors)
     # One call for all of these: calls for single crates would wait for one another.

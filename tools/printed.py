@@ -1,5 +1,6 @@
 #!/usr/bin/env python3
-"""Runs each command line that README.md and docs/ print behind `$`, and compares what comes out with what is printed below it.
+"""Runs each command line that README.md, docs/ and the manual page print behind `$`, and compares what comes out with what is printed
+below it. A line that the manual page displays alone has to end well.
 
     tools/printed.py [PROGRAM]
 
@@ -39,10 +40,17 @@ def examples(text):
     return found
 
 
+def examples_of_page(text):
+    """The command lines of a manual page: those of its literal blocks, and those displayed alone, of which no output is printed."""
+    blocks = re.findall(r"^\.Bd -literal.*\n((?:.*\n)*?)\.Ed$", text, re.M)
+    alone = re.findall(r"^\.Dl \$ (.*)$", text, re.M)
+    return [(command, None) for command in alone] + [it for block in blocks for it in examples(re.sub(r"(?m)^", "    ", block.rstrip("\n")) + "\n")]
+
+
 def main():
     program = os.path.abspath(sys.argv[1] if len(sys.argv) > 1 else os.path.join(TOP, "cha"))
     wrong = run = 0
-    for path in [f"{TOP}/README.md", *sorted(glob.glob(f"{TOP}/docs/*.md"))]:
+    for path in [f"{TOP}/README.md", *sorted(glob.glob(f"{TOP}/docs/*.md")), f"{TOP}/docs/cha.1"]:
         with tempfile.TemporaryDirectory() as room:
             os.symlink(program, f"{room}/cha")
             os.symlink(f"{TOP}/docs", f"{room}/docs")
@@ -50,15 +58,16 @@ def main():
             shutil.copy(f"{TOP}/docs/sample.pgn", f"{room}/games.pgn")
             with open(f"{room}/POSITIONS.fen", "w") as file:
                 file.write(POSITIONS)
-            for command, printed in examples(open(path, encoding="utf-8").read()):
+            read = examples_of_page if path.endswith(".1") else examples
+            for command, printed in read(open(path, encoding="utf-8").read()):
                 if any(word in command for word in OWN):
                     continue
                 run += 1
                 where = {**os.environ, "PATH": room + os.pathsep + os.environ["PATH"]}
                 done = subprocess.run(["bash", "-c", command], cwd=room, env=where, stdout=subprocess.PIPE, stderr=subprocess.STDOUT, text=True)
-                if done.stdout.splitlines() != printed:
+                if done.returncode != 0 if printed is None else done.stdout.splitlines() != printed:
                     wrong += 1
-                    print(f"{os.path.relpath(path, TOP)}: {command}\n--- printed\n" + "\n".join(printed) + f"\n--- comes out\n{done.stdout}")
+                    print(f"{os.path.relpath(path, TOP)}: {command}\n--- printed\n" + "\n".join(printed or []) + f"\n--- comes out\n{done.stdout}")
     print(f"{run} command lines, {wrong} otherwise than printed")
     return 1 if wrong else 0
 

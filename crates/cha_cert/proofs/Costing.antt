@@ -20,7 +20,7 @@ use Rattle.cha_cert.specs.Costs.{moves_at, shared_moves_at, shared_moves, inner_
 use Rattle.cha_cert.proofs.Finding.{index_length}
 
 -- Half of d places are left after one look more.
-pub look_halves : (before now n d e : ℕ) → before ≤ now → 0 < d → e + e ≤ d → 2 ^ suc (now - before) * d ≤ 2 * n + 1
+look_halves : (before now n d e : ℕ) → before ≤ now → 0 < d → e + e ≤ d → 2 ^ suc (now - before) * d ≤ 2 * n + 1
     → (2 ^ (now + 1 - before) ≤ 2 * n + 1) × (2 ^ suc (now + 1 - before) * e ≤ 2 * n + 1)
 look_halves before now n d e rises some half left =
     let p = 2 ^ suc (now - before) in
@@ -32,6 +32,18 @@ look_halves before now n d e rises some half left =
       subst (λ k. 2 ^ k ≤ 2 * n + 1) (sym next) (omega (arith, once, left)),
       subst (λ k. 2 ^ suc k * e ≤ 2 * n + 1) (sym next) (omega (arith, same, twice, left)),
     )
+
+-- Where some places are left, one look more is within the bound.
+pub one_look : (before now next n d : ℕ) → before ≤ now → next ≡ now + 1 → 0 < d → 2 ^ suc (now - before) * d ≤ 2 * n + 1
+    → 2 ^ (next - before) ≤ 2 * n + 1
+one_look before now next n d rises step some left =
+    subst (λ k. 2 ^ (k - before) ≤ 2 * n + 1) (sym step) (look_halves before now n d 0 rises some (omega arith) left).0
+
+-- Where at most half of the places are left after it, the bound holds on.
+pub half_left : (before now next n d e : ℕ) → before ≤ now → next ≡ now + 1 → 0 < d → e + e ≤ d → 2 ^ suc (now - before) * d ≤ 2 * n + 1
+    → 2 ^ suc (next - before) * e ≤ 2 * n + 1
+half_left before now next n d e rises step some half left =
+    subst (λ k. 2 ^ suc (k - before) * e ≤ 2 * n + 1) (sym step) (look_halves before now n d e rises some half left).1
 
 pub no_look : (before n : ℕ) → (2 ^ (before - before) ≤ 2 * n + 1) × (2 ^ suc (before - before) * (n - 0) ≤ 2 * n + 1)
 no_look before n =

@@ -1,7 +1,7 @@
 -- Each look halves the places that are left.
-use Rattle.std.proofs.Common.{suc, ◌+◌, ◌-◌, ◌*◌, ◌^◌, ◌/◌, ◌<◌, ◌≤◌, length, refl, sym, subst, arith}
+use Rattle.std.proofs.Common.{suc, ◌+◌, ◌-◌, ◌*◌, ◌^◌, ◌≤◌, length, refl, sym, subst, arith}
 use Rattle.cha_cert.proofs.Finding.{behind, ahead, found_there, found_nowhere}
-use Rattle.cha_cert.proofs.Costing.{no_look, look_halves}
+use Rattle.cha_cert.proofs.Costing.{no_look, one_look, half_left}
 use Rattle.cha_cert.proofs.indexing.Index.find.Goals as goal
 
 pub loop-low-init : goal.loop-low-init
@@ -20,11 +20,10 @@ loop-low-init g c =
 
 pub returns-in-Equal-clause-found : goal.returns-in-Equal-clause-found
 returns-in-Equal-clause-found g c =
-    let middle = c.loop-low.low + (c.loop-low.high - c.loop-low.low) / 2 in
     let inv = c.loop-low.invariant in
     let some = c.loop-low-test.true in
     let in_list = inv.inside in
-    ((λ _. found_there c.args.self.now c.args.key.now middle (omega (arith, some, in_list)) c.in-Equal.ensures.value), (λ _. refl))
+    ((λ _. found_there c.args.self.now c.args.key.now _ (omega (arith, some, in_list)) c.in-Equal.ensures.value), (λ _. refl))
 
 pub returns-in-Equal-clause-rises : goal.returns-in-Equal-clause-rises
 returns-in-Equal-clause-rises g c = (let up = c.loop-low.invariant.rises in let one = c.in-Equal.ensures.cost in omega (arith, up, one))
@@ -33,53 +32,50 @@ pub returns-in-Equal-clause-cost : goal.returns-in-Equal-clause-cost
 returns-in-Equal-clause-cost g c =
     let some = c.loop-low-test.true in
     let one = c.in-Equal.ensures.cost in
-    let next = look_halves c.args.steps.now c.loop-low.steps (length c.args.self.now) (c.loop-low.high - c.loop-low.low) 0 c.loop-low.invariant.rises (omega (arith, some)) (omega arith) c.loop-low.invariant.left in
-    subst (λ s. 2 ^ (s - c.args.steps.now) ≤ 2 * length c.args.self.now + 1) (sym one) next.0
+    let inv = c.loop-low.invariant in
+    one_look c.args.steps.now c.loop-low.steps _ (length c.args.self.now) (c.loop-low.high - c.loop-low.low) inv.rises one (omega (arith, some)) inv.left
 
+-- The code names the place between; here it is only what lies from `low` up to `high`.
 pub loop-low-preserved-in-Less : goal.loop-low-preserved-in-Less
 loop-low-preserved-in-Less g c =
-    let low = c.loop-low.low in
-    let high = c.loop-low.high in
-    let middle = low + (high - low) / 2 in
+    let before = c.args.steps.now in
     let n = length c.args.self.now in
     let inv = c.loop-low.invariant in
     let some = c.loop-low-test.true in
     let in_list = inv.inside in
     let one = c.in-Less.ensures.cost in
     let up = inv.rises in
-    let there : middle < n = omega (arith, some, in_list) in
-    let next = look_halves c.args.steps.now c.loop-low.steps n (high - low) (middle - low) up (omega (arith, some)) (omega (arith, some)) inv.left in
+    let span = c.loop-low.high - c.loop-low.low in
+    let left = inv.left in
     record {
       ordered = omega (arith, some);
       inside = omega (arith, some, in_list);
       before = inv.before;
-      after = ahead c.args.self.now c.args.key.now c.known.ensures middle there c.in-Less.ensures.value;
+      after = ahead c.args.self.now c.args.key.now c.known.ensures _ (omega (arith, some, in_list)) c.in-Less.ensures.value;
       rises = omega (arith, up, one);
-      cost = subst (λ s. 2 ^ (s - c.args.steps.now) ≤ 2 * n + 1) (sym one) next.0;
-      left = subst (λ s. 2 ^ suc (s - c.args.steps.now) * (middle - low) ≤ 2 * n + 1) (sym one) next.1;
+      cost = one_look before c.loop-low.steps _ n span up one (omega (arith, some)) left;
+      left = half_left before c.loop-low.steps _ n span _ up one (omega (arith, some)) (omega (arith, some)) left;
     }
 
 pub loop-low-preserved : goal.loop-low-preserved
 loop-low-preserved g c =
-    let low = c.loop-low.low in
-    let high = c.loop-low.high in
-    let middle = low + (high - low) / 2 in
+    let before = c.args.steps.now in
     let n = length c.args.self.now in
     let inv = c.loop-low.invariant in
     let some = c.loop-low-test.true in
     let in_list = inv.inside in
     let one = c.in-Greater.ensures.cost in
     let up = inv.rises in
-    let there : middle < n = omega (arith, some, in_list) in
-    let next = look_halves c.args.steps.now c.loop-low.steps n (high - low) (high - (middle + 1)) up (omega (arith, some)) (omega (arith, some)) inv.left in
+    let span = c.loop-low.high - c.loop-low.low in
+    let left = inv.left in
     record {
       ordered = omega (arith, some);
       inside = in_list;
-      before = behind c.args.self.now c.args.key.now c.known.ensures middle there c.in-Greater.ensures.value;
+      before = behind c.args.self.now c.args.key.now c.known.ensures _ (omega (arith, some, in_list)) c.in-Greater.ensures.value;
       after = inv.after;
       rises = omega (arith, up, one);
-      cost = subst (λ s. 2 ^ (s - c.args.steps.now) ≤ 2 * n + 1) (sym one) next.0;
-      left = subst (λ s. 2 ^ suc (s - c.args.steps.now) * (high - (middle + 1)) ≤ 2 * n + 1) (sym one) next.1;
+      cost = one_look before c.loop-low.steps _ n span up one (omega (arith, some)) left;
+      left = half_left before c.loop-low.steps _ n span _ up one (omega (arith, some)) (omega (arith, some)) left;
     }
 
 pub returns-clause-found : goal.returns-clause-found

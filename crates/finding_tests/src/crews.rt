@@ -1,6 +1,6 @@
 //! A mate in two plies by crews of all sizes, and two workers that search at one time.
 
-use crate::places::place;
+use crate::from_fen::place;
 use cha_board::Color;
 use cha_moves::{is_mate, move_text, replays};
 use root_workers::{Alone, Gate, Limits, OpenGate, RoundsDone, RoundsEnd, crew, rounds, rounds_by};

@@ -5,7 +5,7 @@ ghost use Rattle.cha_board.specs.Men.{other_color};
 ghost use Rattle.cha_moves.specs.Ends.{IsMated};
 ghost use Rattle.mob_law.specs.Static.{IsStaticallyUnwinnable};
 
-use crate::places::place;
+use crate::from_fen::place;
 use cha_board::{Color, Position, Square, same_position};
 use cha_cert::{Checked, Node, Part, check};
 use cha_fact::{Facts, Line, Proved};

@@ -1,6 +1,6 @@
 //! Mates of known lengths, a line that is full, and keys.
 
-use crate::places::place;
+use crate::from_fen::place;
 use cha_board::{Color, Square, same_position};
 use cha_fact::{Fact, Key, Line, Proved};
 use cha_moves::{Move, after, is_legal, replays};

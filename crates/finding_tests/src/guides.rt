@@ -1,6 +1,6 @@
 //! The guides: positions worked by hand, and positions whose values another program gave that goes square by square.
 
-use crate::places::place;
+use crate::from_fen::place;
 use cha_board::Color;
 use search_guide::{Guide, guide};
 use std::test::Fail;

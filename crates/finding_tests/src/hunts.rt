@@ -1,6 +1,6 @@
 //! Hunts in positions of which it is known whether and how they can be mated.
 
-use crate::places::place;
+use crate::from_fen::place;
 use cha_board::Color;
 use cha_moves::replays;
 use mate_hunt::hunt;

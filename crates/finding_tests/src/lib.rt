@@ -1,6 +1,6 @@
 //! Tests of what looks for mates, sets and certificates, on positions that FEN says.
 //!
-//! `places` reads positions. `least_sets` and `static_verdicts` have answers of the solver. `facts` has what is known of
+//! `from_fen` reads positions. `least_sets` and `static_verdicts` have answers of the solver. `facts` has what is known of
 //! positions; `cells`, `shards` and `tables` have where it is kept. `rounds`, `crews` and `shortest` find the helpmates of
 //! `known_plies` and `known_counts`. `guides` and `hunts` have searches that are led, `stores` the positions of an exploration,
 //! and `explored` explorations.
@@ -15,6 +15,8 @@ mod explored;
 #[cfg(test)]
 mod facts;
 #[cfg(test)]
+mod from_fen;
+#[cfg(test)]
 mod guides;
 #[cfg(test)]
 mod hunts;
@@ -24,8 +26,6 @@ mod known_counts;
 mod known_plies;
 #[cfg(test)]
 mod least_sets;
-#[cfg(test)]
-mod places;
 #[cfg(test)]
 mod rounds;
 #[cfg(test)]

@@ -1,7 +1,7 @@
 //! Known helpmates, each found at its own depth and not before, and how many positions a round expands.
 
+use crate::from_fen::place;
 use crate::known_plies::KNOWN;
-use crate::places::place;
 use cha_board::{Color, Position};
 use cha_fact::Proved;
 use cha_moves::replays;

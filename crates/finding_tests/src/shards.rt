@@ -2,7 +2,7 @@
 
 ghost use Rattle.std.specs.Prelude.{◌≡◌};
 
-use crate::places::place;
+use crate::from_fen::place;
 use cha_board::{Color, Square};
 use cha_fact::{FactCall, FactReply, Facts, Key, Line, Probe, Proved, Stored};
 use cha_moves::{Move, replays};

@@ -1,7 +1,7 @@
 //! Shortest mates of known positions, by crews of all sizes.
 
+use crate::from_fen::place;
 use crate::known_counts::KNOWN;
-use crate::places::place;
 use cha_board::Color;
 use cha_moves::move_text;
 use helpmate_list::{Lines, MOST_LINES, Shortest, least_mates, least_mates_alone};

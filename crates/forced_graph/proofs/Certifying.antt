@@ -16,7 +16,7 @@ use Rattle.node_store.specs.Nodes.{Node, positions}
 use Rattle.node_store.specs.Graphs.{IsStore}
 use Rattle.forced_graph.specs.Regions.{Waits, IsLeaf, IsSettled, AreLed, AreExpanded, Between, certified}
 use Rattle.forced_graph.specs.Outcomes.{IsCertSize}
-use Rattle.forced_graph.proofs.Places.{length_positions}
+use Rattle.forced_graph.proofs.ByName.{length_positions}
 
 -- the nodes have these positions
 same_places : (qs : List Board) (parts : List Part) → length parts ≡ length qs → positions_of (certified qs parts) ≡ qs

@@ -1,7 +1,7 @@
 mod Calling
 mod Waiting
 mod Members
-mod Places
+mod ByName
 mod Opening
 mod Popping
 mod Trying

@@ -24,7 +24,7 @@ use Rattle.forced_graph.specs.Grown.{IsGrown}
 use Rattle.forced_graph.specs.Regions.{Waits, IsLeaf, IsLeafPart, IsOpen, IsSettled, AreLed, AreExpanded, IsMap, Between, Popped, Expanding}
 use Rattle.forced_graph.proofs.Waiting.{none_waits, fewer_wait, first_waits, waits_on, waited, waits_nowhere, put_waits}
 use Rattle.forced_graph.proofs.Members.{IsNext, grown_none, grown_more}
-use Rattle.forced_graph.proofs.Places.{get_contained, contained_get, get_set, same_origins}
+use Rattle.forced_graph.proofs.ByName.{get_contained, contained_get, get_set, same_origins}
 
 at_one : (root : Board) (node : Node) (i : ℕ) (q : Board) → node.position ≡ root → IsAt (node ∷ []) i q → (i ≡ 0) × (root ≡ q)
 at_one root node zero q is at = (refl, sym is ∙ same_Some node.position q at)

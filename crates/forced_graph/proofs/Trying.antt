@@ -19,7 +19,7 @@ use Rattle.node_store.proofs.Pushing.{push_cases, map_push_cases, map_push_keeps
 use Rattle.forced_graph.specs.declared.region.Region.{Region}
 use Rattle.forced_graph.specs.Regions.{Waits, IsSettled, IsLed, AreLed, AreExpanded, IsMap, Between, Expanding, IsExpanding, IsMet, IsSameTask}
 use Rattle.forced_graph.proofs.Waiting.{put_waits, put_waits_on, put_waited}
-use Rattle.forced_graph.proofs.Places.{contained_get, get_contained, contained_more}
+use Rattle.forced_graph.proofs.ByName.{contained_get, get_contained, contained_more}
 
 -- a node that came from one move more
 abbrev pub node_by : Board → ℕ → Move → Node

@@ -21,7 +21,7 @@ use Rattle.mob_law.specs.Threats.{Covered, Blocked, NextToKing, Attacked}
 use Rattle.mob_law.proofs.Attackers.{Attacker, some_attacker, clear_near}
 use Rattle.mob_law.proofs.Geometry.{near}
 use Rattle.mob_law.proofs.Mating.{mate_threatens}
-use Rattle.mob_small.proofs.Places.{flight_tables, reply_tables, along_rank, along_file, across}
+use Rattle.mob_small.proofs.BesideKing.{flight_tables, reply_tables, along_rank, along_file, across}
 use Rattle.mob_small.proofs.Flights.{Flight, flight, not_both, Answer, answer}
 use Rattle.mob_small.proofs.Scene.{here, facts_here, non_king_stands, king_stands_on, one_kind_there}
 use Rattle.mob_small.specs.Lone.{HasMenOn, is_bishop_on}

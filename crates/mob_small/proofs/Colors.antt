@@ -9,7 +9,7 @@ use Rattle.cha_board.specs.Squares.{squares, files_apart, ranks_apart, steps_apa
 use Rattle.cha_board.proofs.Identity.{if_at}
 use Rattle.cha_board.proofs.Scans.{all_squares_at}
 use Rattle.mob_law.proofs.Geometry.{pair_at}
-use Rattle.mob_small.proofs.Places.{in_rank, in_file, along_rank, along_file, across}
+use Rattle.mob_small.proofs.BesideKing.{in_rank, in_file, along_rank, along_file, across}
 
 -- two squares of one colour
 abbrev pub is_one_color : ℕ → ℕ → Bool

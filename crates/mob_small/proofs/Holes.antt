@@ -11,7 +11,7 @@ use Rattle.cha_board.proofs.Identity.{on_board}
 use Rattle.cha_board.proofs.ManTests.{either_color}
 use Rattle.mob_law.proofs.Geometry.{near}
 use Rattle.mob_small.specs.Small.{HasOneBeside}
-use Rattle.mob_small.proofs.Places.{is_hole}
+use Rattle.mob_small.proofs.BesideKing.{is_hole}
 use Rattle.mob_small.proofs.Scene.{Shown, king_or_other}
 
 -- With one man of w, which checks, and the loser's only man beside its king on n:

@@ -16,7 +16,7 @@ use Rattle.cha_moves.proofs.Kept.{king_place}
 use Rattle.mob_law.proofs.Attackers.{clear_near}
 use Rattle.mob_law.proofs.Geometry.{near}
 use Rattle.mob_small.specs.Small.{HasOneBeside}
-use Rattle.mob_small.proofs.Places.{reply_tables, along_rank, along_file, there}
+use Rattle.mob_small.proofs.BesideKing.{reply_tables, along_rank, along_file, there}
 use Rattle.mob_small.proofs.Flights.{answer}
 use Rattle.mob_small.proofs.Scene.{Shown, shown, king_or_other, non_king_inside, non_king_man}
 use Rattle.mob_small.proofs.NoMate.{knight_beside}

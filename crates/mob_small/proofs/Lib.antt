@@ -1,4 +1,4 @@
-pub mod Places
+pub mod BesideKing
 pub mod Flights
 pub mod Scene
 pub mod Holes

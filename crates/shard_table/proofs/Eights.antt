@@ -3,8 +3,8 @@ use Rattle.std.proofs.Common.{◌≡◌, ◌∙◌, refl, sym, ap, subst, ℕ, z
 use Rattle.std.specs.Bool.{⊤}
 use Rattle.turn_cell.specs.Histories.{IsLegalHistory}
 use Rattle.turn_cell.specs.Passes.{SplitOff, Joined, start, seen, splits, joins, IsOf, IsFirst}
-use Rattle.shard_table.proofs.Places.{one_some, pass_get}
-use Rattle.shard_table.specs.Rows.{Rows}
+use Rattle.shard_table.proofs.PassAt.{one_some, pass_get}
+use Rattle.shard_table.specs.ShardRows.{Rows}
 use Rattle.shard_table.specs.Shards.{ShardStep, empty}
 use Rattle.shard_table.specs.Tables.{ShardPass, pass_at, seen_at, OthersStay, IsOfTable, IsFirstPass, splits_of, joins_of}
 use Rattle.shard_table.specs.declared.table.Table.{Table}

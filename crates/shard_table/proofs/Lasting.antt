@@ -13,7 +13,7 @@ use Rattle.cha_fact.specs.declared.calls.FactReply.{FactReply}
 use Rattle.cha_fact.specs.declared.calls.FactReply.TheVariants.{Probed, Stored as StoredAs}
 use Rattle.cha_fact.specs.Truths.{Claim}
 use Rattle.cha_fact.specs.Entries.{Entry}
-use Rattle.shard_table.specs.Rows.{Rows, row_key}
+use Rattle.shard_table.specs.ShardRows.{Rows, row_key}
 use Rattle.shard_table.specs.Shards.{same_key, find_row, without, Probes, Stores, ShardStep, IsReplay, empty, IsTrueRow, GivesTruth, StoresTruths, HaveDifferentKeys, AreRows}
 use Rattle.shard_table.proofs.Keying.{key_exact}
 

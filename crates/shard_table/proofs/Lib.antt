@@ -4,7 +4,7 @@ mod Storing
 mod Lasting
 mod Staying
 mod Turning
-mod Places
+mod PassAt
 mod Eights
 pub mod Made
 pub mod Sending

@@ -5,7 +5,7 @@ use Rattle.std.specs.Option.{option_map_or}
 use Rattle.lru.specs.LruCache.{LruCache, promoted, put_entries, displaced}
 use Rattle.cha_fact.specs.declared.key.Key.{Key}
 use Rattle.cha_fact.specs.Truths.{Claim}
-use Rattle.shard_table.specs.Rows.{row_key, AreKeyed}
+use Rattle.shard_table.specs.ShardRows.{row_key, AreKeyed}
 use Rattle.shard_table.specs.Shards.{same_key, find_row, without}
 use Rattle.shard_table.proofs.Keying.{key_exact}
 

@@ -15,7 +15,7 @@ use Rattle.cha_fact.specs.Truths.{Claim, rank_of}
 use Rattle.shard_table.proofs.Keying.{key_exact, key_itself}
 use Rattle.shard_table.proofs.Lasting.{found_key}
 use Rattle.shard_table.specs.Live.{History, IsLive, IsKeptBy, FindsAtLeast}
-use Rattle.shard_table.specs.Rows.{Rows, row_key}
+use Rattle.shard_table.specs.ShardRows.{Rows, row_key}
 use Rattle.shard_table.specs.Shards.{same_key, find_row, without, Probes, Stores, ShardStep}
 
 -- the key has a row that says at least so much

@@ -6,7 +6,7 @@ use Rattle.lru.specs.LruCache.{LruCache, promoted, put_entries, displaced}
 use Rattle.cha_fact.specs.declared.key.Key.{Key}
 use Rattle.cha_fact.specs.declared.calls.Stored.TheVariants.{Added, Evicted, Better, Kept, Dropped}
 use Rattle.cha_fact.specs.Truths.{Claim, rank_of}
-use Rattle.shard_table.specs.Rows.{row_key, AreKeyed}
+use Rattle.shard_table.specs.ShardRows.{row_key, AreKeyed}
 use Rattle.shard_table.specs.Shards.{same_key, find_row, without, Stores}
 use Rattle.shard_table.proofs.Rowing.{rows_of, length_rows, lookup_row, promoted_rows, put_there, put_new, displaced_new, not_full, key_at}
 

@@ -21,7 +21,7 @@ use Rattle.cha_fact.specs.Truths.{Claim, IsTrueOf, rank_of}
 use Rattle.shard_table.proofs.Lasting.{found_key}
 use Rattle.shard_table.proofs.Staying.{legal_split, live_found, one_found}
 use Rattle.shard_table.specs.Live.{History, IsLive, FindsAtLeast}
-use Rattle.shard_table.specs.Rows.{Rows, row_key}
+use Rattle.shard_table.specs.ShardRows.{Rows, row_key}
 use Rattle.shard_table.specs.Shards.{without, Probes, Stores, ShardStep}
 use Rattle.shard_table.specs.Tables.{IsRowOf}
 

@@ -1,5 +1,5 @@
 -- what public contracts say
-pub mod Rows
+pub mod ShardRows
 pub mod Shards
 pub mod Live
 pub mod Tables

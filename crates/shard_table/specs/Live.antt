@@ -12,7 +12,7 @@ use Rattle.cha_fact.specs.declared.calls.FactCall.TheVariants.{Store}
 use Rattle.cha_fact.specs.declared.calls.FactReply.{FactReply}
 use Rattle.cha_fact.specs.declared.calls.FactReply.TheVariants.{Probed, Stored as StoredAs}
 use Rattle.cha_fact.specs.Truths.{Claim, IsTrueOf, rank_of}
-use Rattle.shard_table.specs.Rows.{row_key}
+use Rattle.shard_table.specs.ShardRows.{row_key}
 
 -- the calls at one shard, in their order, each with the number of the pass that made it
 abbrev pub History : Type 0

@@ -6,7 +6,7 @@ use Rattle.cha_fact.specs.declared.calls.FactCall.{FactCall}
 use Rattle.cha_fact.specs.declared.calls.FactCall.TheVariants.{Probe as Asked, Store}
 use Rattle.cha_fact.specs.Entries.{Entry}
 use Rattle.shard_table.specs.Live.{History}
-use Rattle.shard_table.specs.Rows.{row_key}
+use Rattle.shard_table.specs.ShardRows.{row_key}
 use Rattle.shard_table.specs.Tables.{ShardPass, pass_at, shard_number}
 use Rattle.shard_table.specs.declared.table.TablePass.{TablePass}
 

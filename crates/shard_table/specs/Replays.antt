@@ -2,7 +2,7 @@
 use Rattle.std.specs.Prelude.{List, [], ◌∷◌, ◌++◌}
 use Rattle.std.proofs.Common.{subst, sym}
 use Rattle.cha_fact.specs.Entries.{Entry}
-use Rattle.shard_table.specs.Rows.{Rows}
+use Rattle.shard_table.specs.ShardRows.{Rows}
 use Rattle.shard_table.specs.Shards.{IsReplay}
 
 pub replay_joined : (a b c : Rows) (xs ys : List Entry) → IsReplay a xs b → IsReplay b ys c → IsReplay a (xs ++ ys) c

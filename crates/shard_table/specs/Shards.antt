@@ -14,7 +14,7 @@ use Rattle.cha_fact.specs.declared.calls.FactReply.{FactReply}
 use Rattle.cha_fact.specs.declared.calls.FactReply.TheVariants.{Probed, Stored as StoredAs}
 use Rattle.cha_fact.specs.Truths.{Claim, IsTrueOf, rank_of}
 use Rattle.cha_fact.specs.Entries.{Entry}
-use Rattle.shard_table.specs.Rows.{Rows, row_key}
+use Rattle.shard_table.specs.ShardRows.{Rows, row_key}
 
 -- two keys are one: their words and their sides are
 unfoldable pub same_key : Key → Key → Bool

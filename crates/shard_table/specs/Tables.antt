@@ -14,7 +14,7 @@ use Rattle.cha_fact.specs.declared.calls.Stored.{Stored}
 use Rattle.cha_fact.specs.declared.calls.FactCall.{FactCall}
 use Rattle.cha_fact.specs.declared.calls.FactReply.{FactReply}
 use Rattle.cha_fact.specs.Truths.{Claim}
-use Rattle.shard_table.specs.Rows.{Rows, row_key}
+use Rattle.shard_table.specs.ShardRows.{Rows, row_key}
 use Rattle.shard_table.specs.Shards.{find_row, Stores, ShardStep, empty}
 use Rattle.shard_table.specs.Live.{History}
 use Rattle.shard_table.specs.declared.table.Table.{Table}

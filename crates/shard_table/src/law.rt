@@ -3,7 +3,7 @@
 ghost use Rattle.std.specs.Prelude.{◌≡◌, ℕ, List, ◌<◌, ◌↔◌, IsTrue};
 ghost use Rattle.cha_fact.specs.declared.key.Key.{Key};
 ghost use Rattle.cha_fact.specs.Entries.{Entry};
-ghost use Rattle.shard_table.specs.Rows.{Rows};
+ghost use Rattle.shard_table.specs.ShardRows.{Rows};
 ghost use Rattle.shard_table.specs.Shards.{same_key, IsReplay, AreRows, empty, StoresTruths};
 
 /// The law: after any calls of a new shard there are no more rows than there may be, their keys differ, and each is true,

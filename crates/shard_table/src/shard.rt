@@ -23,7 +23,7 @@ pub struct Shard {
 
 impl Model for Shard {
     ghost use Rattle.std.specs.Prelude.{◌≡◌, map};
-    ghost use Rattle.shard_table.specs.Rows.{Rows, AreKeyed};
+    ghost use Rattle.shard_table.specs.ShardRows.{Rows, AreKeyed};
 
     ghost Value = { Rows };
 

@@ -6,7 +6,7 @@ ghost use Rattle.cha_board.specs.declared.men.Color.{Color as Side};
 ghost use Rattle.cha_fact.specs.Entries.{IsOfKey};
 ghost use Rattle.cha_fact.specs.Keys.{key_of};
 ghost use Rattle.cha_fact.specs.Truths.{Claim, rank_of};
-ghost use Rattle.shard_table.specs.Rows.{row_key};
+ghost use Rattle.shard_table.specs.ShardRows.{row_key};
 ghost use Rattle.shard_table.specs.Live.{IsLive, FindsAtLeast, IsTrueReply};
 ghost use Rattle.shard_table.specs.Makes.{call_key};
 ghost use Rattle.shard_table.specs.Tables.{shard_number, seen_at, IsOfTable, TakesTurn, OthersStay, StaysFirst, FindsExactly, StoresExactly};

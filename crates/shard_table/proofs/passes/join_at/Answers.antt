@@ -1,7 +1,7 @@
 use Rattle.std.proofs.Common.{◌∙◌, ap, arith}
 use Rattle.turn_cell.specs.Passes.{Joined, known}
 use Rattle.shard_table.specs.Tables.{IsOfTable}
-use Rattle.shard_table.proofs.Places.{get_index, pass_index, pass_else, both_at, of_all}
+use Rattle.shard_table.proofs.PassAt.{get_index, pass_index, pass_else, both_at, of_all}
 use Rattle.shard_table.proofs.passes.join_at.Goals as goal
 
 pub join-requires-clause-of : goal.join-requires-clause-of

@@ -1,7 +1,7 @@
 use Rattle.std.proofs.Common.{refl, ap, subst, slice_get}
 use Rattle.turn_cell.specs.Passes.{Joined}
 use Rattle.shard_table.specs.Tables.{IsOfTable, pass_at}
-use Rattle.shard_table.proofs.Places.{pass_get}
+use Rattle.shard_table.proofs.PassAt.{pass_get}
 use Rattle.shard_table.proofs.Eights.{JoinsTo, stepped}
 use Rattle.shard_table.proofs.passes.join_each.Goals as goal
 

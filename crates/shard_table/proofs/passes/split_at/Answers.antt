@@ -1,7 +1,7 @@
 use Rattle.std.proofs.Common.{◌∙◌, ◌<◌, sym, ap, subst, arith}
 use Rattle.turn_cell.specs.Passes.{SplitOff, IsOf, known}
 use Rattle.shard_table.specs.Tables.{IsOfTable}
-use Rattle.shard_table.proofs.Places.{get_index, one_some, pass_index, pass_else, both_at, of_all}
+use Rattle.shard_table.proofs.PassAt.{get_index, one_some, pass_index, pass_else, both_at, of_all}
 use Rattle.shard_table.proofs.passes.split_at.Goals as goal
 
 pub split-requires-clause-of : goal.split-requires-clause-of

@@ -1,7 +1,7 @@
 use Rattle.std.proofs.Common.{arith}
 use Rattle.shard_table.specs.Shards.{empty}
 use Rattle.shard_table.specs.Tables.{IsOfTable}
-use Rattle.shard_table.proofs.Places.{get_index, pass_else, turned_at, of_all}
+use Rattle.shard_table.proofs.PassAt.{get_index, pass_else, turned_at, of_all}
 use Rattle.shard_table.proofs.turns.turn_at.Goals as goal
 
 pub turn-requires : goal.turn-requires

@@ -1,7 +1,7 @@
 use Rattle.std.proofs.Common.{inl, inr, refl, arith, ◌<◌, length}
 use Rattle.node_store.specs.Nodes.{positions}
 use Rattle.forced_graph.specs.Regions.{IsMet}
-use Rattle.forced_graph.proofs.Places.{get_contained}
+use Rattle.forced_graph.proofs.ByName.{get_contained}
 use Rattle.forced_graph.proofs.region.Region.meet.Goals as goal
 
 pub returns-in-Some-clause-met : goal.returns-in-Some-clause-met

@@ -1,5 +1,5 @@
 use Rattle.std.proofs.Common.{ap, sym, subst, ◌∙◌}
-use Rattle.shard_table.specs.Rows.{AreKeyed}
+use Rattle.shard_table.specs.ShardRows.{AreKeyed}
 use Rattle.shard_table.proofs.Rowing.{keyed_none}
 use Rattle.shard_table.proofs.shard.Shard.new.Goals as goal
 

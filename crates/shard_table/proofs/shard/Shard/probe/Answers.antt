@@ -1,7 +1,7 @@
 use Rattle.std.proofs.Common.{◌≡◌, ◌∷◌, Some, None, refl, sym, ap, ◌∙◌, subst}
 use Rattle.std.specs.Map.{lookup}
 use Rattle.cha_fact.specs.contracts.key.KeyPartialEq.TheImpl.{eq-value}
-use Rattle.shard_table.specs.Rows.{row_key, AreKeyed}
+use Rattle.shard_table.specs.ShardRows.{row_key, AreKeyed}
 use Rattle.shard_table.specs.Shards.{find_row, without}
 use Rattle.shard_table.proofs.Keying.{eq_is_same}
 use Rattle.shard_table.proofs.Rowing.{rows_of, lookup_row, entry_of, promoted_rows}

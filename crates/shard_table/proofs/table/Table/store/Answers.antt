@@ -1,6 +1,6 @@
 use Rattle.std.proofs.Common.{subst}
 use Rattle.cha_fact.specs.declared.calls.FactCall.TheVariants.{Store}
-use Rattle.shard_table.specs.Rows.{row_key}
+use Rattle.shard_table.specs.ShardRows.{row_key}
 use Rattle.shard_table.specs.Shards.{empty}
 use Rattle.shard_table.specs.Tables.{TakesTurn, pass_at, shard_number}
 use Rattle.shard_table.proofs.Turning.{no_probed, stores}

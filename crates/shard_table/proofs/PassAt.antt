@@ -6,7 +6,7 @@ use Rattle.turn_cell.specs.declared.cells.TurnCell.{TurnCell}
 use Rattle.turn_cell.specs.Passes.{known, IsOf, Turned}
 use Rattle.cha_fact.specs.declared.calls.FactCall.{FactCall}
 use Rattle.cha_fact.specs.declared.calls.FactReply.{FactReply}
-use Rattle.shard_table.specs.Rows.{Rows}
+use Rattle.shard_table.specs.ShardRows.{Rows}
 use Rattle.shard_table.specs.Shards.{ShardStep}
 use Rattle.shard_table.specs.Tables.{ShardPass, pass_or}
 

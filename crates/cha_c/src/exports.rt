@@ -7,8 +7,8 @@ ghost use Rattle.adjudicate.specs.Runs.{most_bytes};
 ghost use Rattle.cha_words.specs.declared.orders.Order.TheVariants.{CheckCert};
 
 use crate::checking::check_text;
+use crate::command_words::{WordsFault, words_of};
 use crate::running::{Report, report_on};
-use crate::words::{WordsFault, words_of};
 use adjudicate::Status;
 use std::alloc::Global;
 

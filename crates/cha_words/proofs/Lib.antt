@@ -1,7 +1,7 @@
 pub mod Choosing
 pub mod Cutting
 pub mod Ending
-pub mod Words
+pub mod OneByOne
 pub mod Parts
 pub mod Digits
 pub mod Ranges

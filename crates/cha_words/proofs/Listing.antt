@@ -14,7 +14,7 @@ use Rattle.cha_words.specs.Language.Piece.{Name}
 use Rattle.cha_words.specs.Reading.{parts_awaiting}
 use Rattle.cha_words.specs.MatesReading.{chosen_behind, side_behind, mates_from, nothing_wanted, HasMatesRanges, TakesPart, TakesNext, at_rest}
 use Rattle.cha_words.proofs.Cutting.{cut_same, named_part}
-use Rattle.cha_words.proofs.Words.{no_empty}
+use Rattle.cha_words.proofs.OneByOne.{no_empty}
 
 -- where one of them is none, nothing is ordered
 pub none_by_workers : (depth : Option ℕ) (side : Option Color) (barred : List Part) → listed None depth side barred ≡ None

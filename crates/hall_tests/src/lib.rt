@@ -1,9 +1,9 @@
 //! Tests of the command words: lines of words, and what each orders or which fault it has.
 //!
-//! `words` has lines written by hand, and `random_rows` lines put together at random.
+//! `orders` has lines written by hand, and `random_rows` lines put together at random.
 #![tactic(auto)]
 
 #[cfg(test)]
-mod random_rows;
+mod orders;
 #[cfg(test)]
-mod words;
+mod random_rows;

@@ -1,6 +1,6 @@
 //! Lists of words put together at random, each with what it orders.
 
-use crate::words::NOTHING;
+use crate::orders::NOTHING;
 
 /// Lists of words put together at random, and what a second reader of the language, in Python, makes of them.
 pub const RANDOM_ROWS: &[(&str, &str)] = &[

@@ -1,7 +1,7 @@
 //! The tokens of a text of chess games in PGN, of any bytes whatever.
 //!
 //! `classes` has the bytes that PGN names, `kinds` the tokens, `reading` goes from piece to piece, `rules` is the table of what begins a piece, and
-//! `comments`, `words`, `tags` and `tag_values` have one function for each rule; `pieces` has what these give, and `order`
+//! `comments`, `word_tokens`, `tags` and `tag_values` have one function for each rule; `pieces` has what these give, and `order`
 //! the law of the places of tokens.
 //!
 //! `machine` is the lexer that takes single bytes, over `stages`, what each byte does, and `saying`, the tokens of pieces that
@@ -22,7 +22,7 @@ mod settling;
 mod stages;
 mod tag_values;
 mod tags;
-mod words;
+mod word_tokens;
 
 pub use kinds::{Placed, Token};
 pub use machine::Lexer;

@@ -9,7 +9,7 @@ use crate::comments::{annotation, comment, rest_of_line};
 use crate::kinds::Token;
 use crate::pieces::{Piece, silent, spoken};
 use crate::tags::tag;
-use crate::words::word;
+use crate::word_tokens::word;
 use cha_list::{ByteClass, NoMemory};
 use std::alloc::Global;
 

@@ -9,7 +9,7 @@ ghost use Rattle.pgn_lex.specs.Tokens.{placed};
 use crate::kinds::{Placed, Token};
 use crate::reading::place;
 use crate::stages::Stage;
-use crate::words::word_token_of;
+use crate::word_tokens::word_token_of;
 use cha_list::{NoMemory, text_of};
 use std::alloc::Global;
 

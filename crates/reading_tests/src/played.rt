@@ -1,19 +1,19 @@
 //! Words of SAN, and whole games.
 
-mod games;
-mod words;
+mod named_moves;
+mod whole_games;
 
 use cha_board::Position;
 use cha_fen::{read, write};
 use cha_list::{NoMemory, Text, text_of};
 use cha_moves::move_text;
 use cha_san::{SanFault, play, resolve};
-use games::{GAMES, STOPPED};
+use named_moves::{LONG_WORDS, NOT_SAN, TABLES};
 use pgn_games::{Game, ResultMark, Words};
 use std::alloc::Global;
 use std::process::Abort;
 use std::test::Fail;
-use words::{LONG_WORDS, NOT_SAN, TABLES};
+use whole_games::{GAMES, STOPPED};
 
 const OPENING: &str = "rnbqkbnr/pppppppp/8/8/8/8/PPPPPPPP/RNBQKBNR w KQkq -";
 

@@ -1,6 +1,6 @@
 use Rattle.std.proofs.Common.{◌+◌, refl, sym, ap, ◌∙◌, map, drop, string_bytes}
 use Rattle.std.proofs.lemmas.List.{drop_all}
-use Rattle.cha_words.proofs.Words.{next_word}
+use Rattle.cha_words.proofs.OneByOne.{next_word}
 use Rattle.cha_words.proofs.Listing.{by_mates, nothing_ranged, more_read, next_ranged, none_read, end_awaiting, end_settled}
 use Rattle.cha_words.proofs.mates.mates_by.Goals as goal
 

@@ -1,7 +1,7 @@
 use Rattle.std.proofs.Common.{refl, ap, ◌∙◌, map, string_bytes}
 use Rattle.std.proofs.lemmas.List.{drop_all}
 use Rattle.cha_words.specs.Reading.{TakesAll}
-use Rattle.cha_words.proofs.Words.{next_word, more_taken, next_ranges, none_taken, awaited_at_end, settled_at_end}
+use Rattle.cha_words.proofs.OneByOne.{next_word, more_taken, next_ranges, none_taken, awaited_at_end, settled_at_end}
 use Rattle.cha_words.proofs.Ranges.{nothing_ranged}
 use Rattle.cha_words.proofs.reading.given_by.Goals as goal
 

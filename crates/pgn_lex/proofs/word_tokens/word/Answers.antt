@@ -1,6 +1,6 @@
 use Rattle.std.proofs.Common.{◌++◌, ◌∙◌, ap}
 use Rattle.pgn_lex.proofs.KeptWords.{word_is}
-use Rattle.pgn_lex.proofs.words.word.Goals as goal
+use Rattle.pgn_lex.proofs.word_tokens.word.Goals as goal
 
 pub returns-clause-value : goal.returns-clause-value
 returns-clause-value c =

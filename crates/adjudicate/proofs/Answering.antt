@@ -6,7 +6,7 @@ use Rattle.cert_text.specs.declared.reader.Certificate.{Certificate}
 use Rattle.cert_text.specs.Versions.{any_cert_of}
 use Rattle.adjudicate.specs.declared.checking.Answer.{Answer}
 use Rattle.cha_words.specs.declared.orders.Order.TheVariants.{CheckCert}
-use Rattle.adjudicate.specs.Checks.{IsAnswerTo, IsReadAs}
+use Rattle.adjudicate.specs.CertFindings.{IsAnswerTo, IsReadAs}
 use Rattle.adjudicate.specs.Report.{HasBegun}
 use Rattle.adjudicate.specs.Runs.{Grew}
 

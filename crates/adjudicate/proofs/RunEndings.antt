@@ -17,7 +17,7 @@ use Rattle.cha_words.specs.declared.orders.Order.TheVariants.{AdjudicateGames, J
 use Rattle.adjudicate.specs.declared.endings.Status.{Status}
 use Rattle.adjudicate.specs.declared.endings.Status.TheVariants.{Done, Usage, ReadFault, WriteFault, TooLong, NoMemory, NotAccepted}
 use Rattle.adjudicate.specs.Statuses.{status_of_end}
-use Rattle.adjudicate.specs.Checks.{IsTextOf, IsUnwinnableAtFirst}
+use Rattle.adjudicate.specs.CertFindings.{IsTextOf, IsUnwinnableAtFirst}
 use Rattle.adjudicate.specs.Report.{IsSummaryOn, last_of_games, HasWholeBlocks}
 use Rattle.flag_report.specs.declared.totals.GameTotals.{GameTotals}
 use Rattle.flag_report.specs.Totals.{game_summary_text}

@@ -1,7 +1,7 @@
 -- what public contracts say
 pub mod Lines
 pub mod Outcomes
-pub mod Checks
+pub mod CertFindings
 pub mod MatesReport
 pub mod Report
 pub mod Runs

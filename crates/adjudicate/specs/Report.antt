@@ -8,7 +8,7 @@ use Rattle.cha_words.specs.declared.orders.Order.TheVariants.{AdjudicateGames, J
 use Rattle.adjudicate.specs.Outcomes.{Item, Outcome, item_of, IsSoundOutcome, AllSound, block, blocks, game_totals, position_totals, game_items, position_items}
 use Rattle.pgn_games.specs.Settling.{settled_games}
 use Rattle.random_games.specs.Made.{made}
-use Rattle.adjudicate.specs.Checks.{IsAnswerTo}
+use Rattle.adjudicate.specs.CertFindings.{IsAnswerTo}
 use Rattle.adjudicate.specs.MatesReport.{mates_items, mates_report}
 
 -- the summary of the outcomes of games and of positions

@@ -13,7 +13,7 @@ use Rattle.adjudicate.specs.declared.playing.GameBlock.{GameBlock}
 use Rattle.cha_words.specs.declared.orders.Order.{Order}
 use Rattle.adjudicate.specs.declared.endings.Status.{Status}
 use Rattle.adjudicate.specs.declared.endings.Status.TheVariants.{Done, Usage, ReadFault, WriteFault, TooLong, NoMemory, NotAccepted}
-use Rattle.adjudicate.specs.Checks.{IsAccepted}
+use Rattle.adjudicate.specs.CertFindings.{IsAccepted}
 use Rattle.adjudicate.specs.Report.{IsReport, HasBegun, HasWholeBlocks}
 use Rattle.adjudicate.specs.Runs.{Grew}
 use Rattle.adjudicate.specs.Outcomes.Outcome.{JudgedGame}

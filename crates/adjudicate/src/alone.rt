@@ -10,7 +10,7 @@ ghost use Rattle.cha_verdict.specs.Sound.{IsSound, IsComplete, verdict_on};
 ghost use Rattle.cha_verdict.specs.declared.decisions.Decision.{Decision};
 ghost use Rattle.cha_words.specs.declared.orders.Order.TheVariants.{CheckCert, GenGames};
 ghost use Rattle.cha_words.specs.Language.{order, limits_in};
-ghost use Rattle.adjudicate.specs.Checks.{IsTextOf, IsUnwinnableAtFirst};
+ghost use Rattle.adjudicate.specs.CertFindings.{IsTextOf, IsUnwinnableAtFirst};
 ghost use Rattle.adjudicate.specs.Runs.{IsRun, outside};
 
 use crate::commands::{carry_out, carry_out_plain};

@@ -4,7 +4,7 @@ ghost use Rattle.std.specs.Prelude.{◌≡◌, ◌<◌, ◌^◌, ◌↔◌, leng
 ghost use Rattle.cha_cert.specs.Shared.{expansion};
 ghost use Rattle.cert_text.specs.Versions.{any_cert_of};
 ghost use Rattle.cha_words.specs.declared.orders.Order.TheVariants.{CheckCert};
-ghost use Rattle.adjudicate.specs.Checks.{IsAnswerTo, IsReadAs, IsValidAtFirst};
+ghost use Rattle.adjudicate.specs.CertFindings.{IsAnswerTo, IsReadAs, IsValidAtFirst};
 ghost use Rattle.adjudicate.specs.Runs.{IsRun, outside};
 ghost use Rattle.adjudicate.specs.Steps.{IsWritten, ended_by};
 

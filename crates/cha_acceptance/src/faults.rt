@@ -1,6 +1,6 @@
 //! Sources and sinks that fail, and words that are not in the language.
 
-use crate::checks::FORCED;
+use crate::certificates::FORCED;
 use crate::running::{InPieces, Ran, run_in_pieces, run_on, run_over};
 use adjudicate::Status;
 use cha_outside::Bytes;

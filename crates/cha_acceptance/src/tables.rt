@@ -2,7 +2,7 @@
 
 use crate::games::SERVER_GAME;
 use crate::running::{run_on, run_over};
-use crate::{checks, games, positions, printed};
+use crate::{certificates, games, positions, printed};
 use adjudicate::Status;
 use cha_outside::Repeat;
 use std::alloc::Global;
@@ -37,13 +37,13 @@ const TABLES: [(&str, &str, Status, &[Row]); 7] = [
         "certificates that are accepted",
         "check",
         Status::Done,
-        &checks::ACCEPTED,
+        &certificates::ACCEPTED,
     ),
     (
         "certificates that are refused",
         "check",
         Status::NotAccepted,
-        &checks::REFUSED,
+        &certificates::REFUSED,
     ),
 ];
 

@@ -8,7 +8,7 @@ use Rattle.cha_words.specs.declared.orders.Order.TheVariants.{CheckCert}
 use Rattle.cha_words.specs.Language.{order, order_of, order_by, command_named}
 use Rattle.adjudicate.specs.declared.endings.Status.{Status}
 use Rattle.adjudicate.specs.declared.endings.Status.TheVariants.{Done, Usage, ReadFault, NotAccepted}
-use Rattle.adjudicate.specs.Checks.{IsAccepted}
+use Rattle.adjudicate.specs.CertFindings.{IsAccepted}
 use Rattle.adjudicate.specs.Runs.{IsRun, Ended, outside}
 
 -- the word orders a check

@@ -3,6 +3,6 @@ pub mod Reasons
 pub mod Blocks
 pub mod Scans
 pub mod Games
-pub mod Checks
+pub mod CertReports
 pub mod Totals
 pub mod Mates

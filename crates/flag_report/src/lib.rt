@@ -3,11 +3,11 @@
 //! `rulings` has the result of a game, `status` the state of a position, `reasons` why an
 //! item cannot be read, `mates` the blocks of the shortest mates, `shared_texts` what all blocks share, `scans` from where on a
 //! game was dead, `games` and `positions` the blocks, `totals` the last line, and
-//! `checks` the lines on certificates that were checked. Each call that gives a text takes memory for it, and its only error
+//! `cert_reports` the lines on certificates that were checked. Each call that gives a text takes memory for it, and its only error
 //! is want of memory.
 #![tactic(auto)]
 
-mod checks;
+mod cert_reports;
 mod games;
 mod mates;
 mod positions;
@@ -18,8 +18,8 @@ mod shared_texts;
 mod status;
 mod totals;
 
+pub use cert_reports::{accepted_line, failing_line, misfit_line};
 pub use cha_verdict::{Decision, EarlierCerts, Edge, Limits, Scan, Verdict};
-pub use checks::{accepted_line, failing_line, misfit_line};
 pub use games::{game_block, unreadable_block};
 pub use mates::{MatesTotals, mates_block, mates_summary, no_mates_block};
 pub use positions::{position_block, refused_block};

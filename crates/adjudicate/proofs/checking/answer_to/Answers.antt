@@ -1,6 +1,6 @@
 use Rattle.std.proofs.Common.{sym, ap, ◌∙◌}
 use Rattle.cert_text.specs.Versions.{any_cert_of}
-use Rattle.adjudicate.specs.Checks.{IsValidAtFirst}
+use Rattle.adjudicate.specs.CertFindings.{IsValidAtFirst}
 use Rattle.adjudicate.proofs.Answering.{of_text}
 use Rattle.adjudicate.proofs.checking.answer_to.Goals as goal
 

@@ -1,5 +1,5 @@
 use Rattle.std.proofs.Common.{map, string_bytes, ap, ◌∙◌}
-use Rattle.adjudicate.specs.Checks.{IsTextOf, IsUnwinnableAtFirst}
+use Rattle.adjudicate.specs.CertFindings.{IsTextOf, IsUnwinnableAtFirst}
 use Rattle.cha_c.proofs.Checked.{accepted, lawful, no_usage, no_read_fault}
 use Rattle.cha_c.proofs.checking.check_text.Goals as goal
 

@@ -2,7 +2,7 @@
 
 ghost use Rattle.std.specs.Prelude.{◌≡◌, ◌≢◌, ◌++◌, OnOk, IfOk};
 ghost use Rattle.cert_text.specs.declared.faults.CertKind.TheVariants as kinds;
-ghost use Rattle.flag_report.specs.Checks.{accepted_text, kind_text, misfit_text, failing_text};
+ghost use Rattle.flag_report.specs.CertReports.{accepted_text, kind_text, misfit_text, failing_text};
 
 use crate::shared_texts::{put_count, put_count_line};
 use cert_text::{CertFault, CertKind};
@@ -11,7 +11,7 @@ use cha_list::{NoMemory, Text};
 use std::alloc::Global;
 
 /// The line on a valid certificate, `accepted w` where it shows that White cannot mate, or `accepted b`.
-#[tactic(auto, unfolding(crate::specs::Checks::accepted_text))]
+#[tactic(auto, unfolding(crate::specs::CertReports::accepted_text))]
 pub fn accepted_line(alloc: Global, winner: Color) -> Result<Text, NoMemory>
     ensures { IfOk result (λ text. text ≡ accepted_text winner) }
 {
@@ -24,7 +24,7 @@ pub fn accepted_line(alloc: Global, winner: Color) -> Result<Text, NoMemory>
 }
 
 /// Appends the name of what was wanted on a line.
-#[tactic(auto, unfolding(crate::specs::Checks::kind_text))]
+#[tactic(auto, unfolding(crate::specs::CertReports::kind_text))]
 fn put_kind(kind: CertKind, text: &mut Text) -> Result<(), NoMemory>
     requires { kind ≢ kinds.NoMemory }
     ensures { OnOk result (text.new ≡ text.old ++ kind_text kind) }
@@ -44,7 +44,7 @@ fn put_kind(kind: CertKind, text: &mut Text) -> Result<(), NoMemory>
 
 /// The line on a text that is no certificate, as `refused: line 4 node`: the first line that does not fit, counted from 1,
 /// and what was wanted there. Want of memory is no misfit.
-#[tactic(auto, unfolding(crate::specs::Checks::misfit_text))]
+#[tactic(auto, unfolding(crate::specs::CertReports::misfit_text))]
 pub fn misfit_line(alloc: Global, fault: CertFault) -> Result<Text, NoMemory>
     requires { fault.kind ≢ kinds.NoMemory }
     ensures { IfOk result (λ text. text ≡ misfit_text fault) }
@@ -58,7 +58,7 @@ pub fn misfit_line(alloc: Global, fault: CertFault) -> Result<Text, NoMemory>
 }
 
 /// The line on a certificate that is not valid, as `refused: node 1`: the first node that fails, counted from 0.
-#[tactic(auto, unfolding(crate::specs::Checks::failing_text))]
+#[tactic(auto, unfolding(crate::specs::CertReports::failing_text))]
 pub fn failing_line(alloc: Global, node: u32) -> Result<Text, NoMemory>
     ensures { IfOk result (λ text. text ≡ failing_text node) }
 {

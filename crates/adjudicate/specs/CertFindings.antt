@@ -9,7 +9,7 @@ use Rattle.cha_cert.specs.Certificates.{BeginsAt, IsValidCert, Answers}
 use Rattle.cert_text.specs.declared.faults.CertFault.{CertFault}
 use Rattle.cert_text.specs.declared.reader.Certificate.{Certificate}
 use Rattle.cert_text.specs.Versions.{any_cert_of, IsAnyText}
-use Rattle.flag_report.specs.Checks.{accepted_text, misfit_text, failing_text}
+use Rattle.flag_report.specs.CertReports.{accepted_text, misfit_text, failing_text}
 use Rattle.cha_words.specs.declared.orders.Order.{Order}
 use Rattle.cha_words.specs.declared.orders.Order.TheVariants.{AdjudicateGames, JudgePositions, CheckCert, GenGames, ListMates}
 

@@ -8,7 +8,7 @@ use Rattle.cha_board.specs.Board.{Board}
 use Rattle.cha_fen.specs.declared.faults.FenFault.{FenFault}
 use Rattle.cha_fen.specs.declared.faults.FenFault.TheVariants.{Shape}
 use Rattle.cha_fen.specs.Fen.{fen}
-use Rattle.adjudicate.specs.Lines.{lines}
+use Rattle.adjudicate.specs.InputLines.{lines}
 use Rattle.adjudicate.specs.Outcomes.{counts, line_item, line_read, position_items}
 use Rattle.adjudicate.specs.Outcomes.Item.{RefusedLine}
 

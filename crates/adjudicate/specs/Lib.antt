@@ -1,5 +1,5 @@
 -- what public contracts say
-pub mod Lines
+pub mod InputLines
 pub mod Outcomes
 pub mod CertFindings
 pub mod MatesReport

@@ -29,7 +29,7 @@ use Rattle.cha_verdict.specs.declared.scans.Scan.{Scan}
 use Rattle.cha_limits.specs.Bounds.{Bounds}
 use Rattle.cha_verdict.specs.Sound.{IsSound}
 use Rattle.cha_verdict.specs.Scans.{HasScan}
-use Rattle.adjudicate.specs.Lines.{lines}
+use Rattle.adjudicate.specs.InputLines.{lines}
 
 -- an item of an input: a line that is a position, a line that is none, a game that was played to a position, with all its
 -- positions from the start on, its recorded result and whether it was lost on time, or a game that cannot be read

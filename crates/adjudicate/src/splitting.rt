@@ -1,7 +1,7 @@
 //! The lines of a text.
 
 ghost use Rattle.std.specs.Prelude.{◌≡◌, ◌<◌, ◌∷◌, length};
-ghost use Rattle.adjudicate.specs.Lines.{lines, without_return as without_return_of};
+ghost use Rattle.adjudicate.specs.InputLines.{lines, without_return as without_return_of};
 
 use cha_list::{Class, run_of};
 

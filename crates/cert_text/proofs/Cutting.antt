@@ -4,7 +4,7 @@ use Rattle.std.specs.List.{prefix_len}
 use Rattle.std.proofs.lemmas.List.{drop-drop}
 use Rattle.cha_list.specs.declared.classes.Class.TheVariants.{NotLineFeed}
 use Rattle.cha_list.specs.Bytes.{in_class}
-use Rattle.cert_text.specs.Lines.{lines_of, tail_of}
+use Rattle.cert_text.specs.TextLines.{lines_of, tail_of}
 
 -- how many bytes stand before the first line feed
 abbrev line_len : List ℕ → ℕ

@@ -14,7 +14,7 @@ use Rattle.cert_text.specs.declared.rest.Left.{Left}
 use Rattle.cert_text.specs.Agreeing.{RowGoesOn}
 use Rattle.cert_text.specs.declared.faults.CertKind.TheVariants.{End}
 use Rattle.cert_text.specs.Spelled.{IsInnerOrLeaf, AreInnerOrLeaves}
-use Rattle.cert_text.specs.Lines.{lines_of, tail_of}
+use Rattle.cert_text.specs.TextLines.{lines_of, tail_of}
 use Rattle.cert_text.specs.Texts.{Found, found, misfit, and_then, ended, follows, rows_after, node_after, nodes_after}
 
 -- one more row

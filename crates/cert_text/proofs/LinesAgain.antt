@@ -23,7 +23,7 @@ use Rattle.cha_fen.proofs.WrittenRead.{written_is_read}
 use Rattle.mob_sets.specs.Rows.{Row}
 use Rattle.cert_text.specs.Digits.{hex_digit, hex_digits, value_of}
 use Rattle.cert_text.specs.Spelled.{winner_line, count_line, loose_line, row_line, inner_line, leaf_line, lines_text}
-use Rattle.cert_text.specs.Lines.{lines_of, tail_of}
+use Rattle.cert_text.specs.TextLines.{lines_of, tail_of}
 use Rattle.cert_text.specs.Texts.{is_text, kept, fixed_of, winner_of, small_count, count_of, loose_of, follows, row_of, position_if, inner_of, leaf_of}
 use Rattle.cert_text.proofs.Numbers.{decimal_read, hex_read}
 use Rattle.cert_text.proofs.Plain.{plain, ArePlain}

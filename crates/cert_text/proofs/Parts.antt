@@ -6,7 +6,7 @@ use Rattle.cert_text.specs.declared.faults.CertFault.{CertFault}
 use Rattle.cert_text.specs.declared.faults.CertKind.TheVariants as kinds
 use Rattle.cert_text.specs.declared.reader.Certificate.{Certificate}
 use Rattle.cert_text.specs.Spelled.{header_line, end_line}
-use Rattle.cert_text.specs.Lines.{lines_of, tail_of}
+use Rattle.cert_text.specs.TextLines.{lines_of, tail_of}
 use Rattle.cert_text.specs.Texts.{found, fixed_of, winner_of, count_of, wanted, nodes_after, ended, cert_of}
 
 -- what is read of the five parts, and what the end says

@@ -16,7 +16,7 @@ use Rattle.cha_cert.specs.declared.nodes.Part.{Part}
 use Rattle.cha_cert.specs.declared.nodes.Part.TheVariants.{Inner, Leaf, Small, Lone}
 use Rattle.cert_text.specs.declared.faults.CertKind.TheVariants as kinds
 use Rattle.cert_text.specs.Spelled.{header_line, end_line, winner_line, count_line, row_line, inner_line, leaf_line, small_line, lone_line, part_lines, node_lines, cert_lines, cert_text}
-use Rattle.cert_text.specs.Lines.{lines_of, tail_of}
+use Rattle.cert_text.specs.TextLines.{lines_of, tail_of}
 use Rattle.cert_text.specs.Texts.{found, fixed_of, follows, wanted, begins_reach, rows_after, leaf_after, node_after, nodes_after, ended, cert_of}
 use Rattle.cert_text.specs.declared.faults.CertFault.{CertFault}
 use Rattle.cert_text.specs.Writable.{IsWritable, IsWritablePart, IsCertText}

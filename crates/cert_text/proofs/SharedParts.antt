@@ -8,7 +8,7 @@ use Rattle.cert_text.specs.declared.faults.CertKind.TheVariants as kinds
 use Rattle.cert_text.specs.declared.shared_reader.SharedCertificate.{SharedCertificate}
 use Rattle.cert_text.specs.Spelled.{end_line}
 use Rattle.cert_text.specs.SharedSpelled.{shared_header_line}
-use Rattle.cert_text.specs.Lines.{lines_of, tail_of}
+use Rattle.cert_text.specs.TextLines.{lines_of, tail_of}
 use Rattle.cert_text.specs.Texts.{found, fixed_of, winner_of, count_of, wanted, ended}
 use Rattle.cert_text.specs.SharedTexts.{sets_of, sets_after, shared_node_of, many_after, shared_cert_of}
 

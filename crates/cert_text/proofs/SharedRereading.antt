@@ -13,7 +13,7 @@ use Rattle.cert_text.specs.declared.faults.CertFault.{CertFault}
 use Rattle.cert_text.specs.declared.faults.CertKind.TheVariants as kinds
 use Rattle.cert_text.specs.Spelled.{end_line, winner_line, count_line, loose_line, inner_line, small_line, lone_line}
 use Rattle.cert_text.specs.SharedSpelled.{sets_line, shared_leaf_line, set_lines, shared_part_lines, shared_node_lines, shared_header_line, shared_lines, shared_text}
-use Rattle.cert_text.specs.Lines.{lines_of, tail_of}
+use Rattle.cert_text.specs.TextLines.{lines_of, tail_of}
 use Rattle.cert_text.specs.Texts.{found, fixed_of, wanted, begins_reach, ended}
 use Rattle.cert_text.specs.SharedTexts.{sets_after, shared_node_of, many_after, shared_cert_of}
 use Rattle.cert_text.specs.Writable.{IsWritableSets, HasValidPosition, IsSharedText}

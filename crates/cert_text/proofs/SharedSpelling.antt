@@ -15,7 +15,7 @@ use Rattle.cert_text.specs.declared.shared_reader.SharedCertificate.{SharedCerti
 use Rattle.cert_text.specs.Digits.{value_of}
 use Rattle.cert_text.specs.Spelled.{end_line, winner_line, count_line, row_line, small_line, lone_line, lines_text}
 use Rattle.cert_text.specs.SharedSpelled.{sets_line, shared_leaf_line, set_lines, shared_node_lines, shared_header_line, shared_lines, shared_text}
-use Rattle.cert_text.specs.Lines.{lines_of, tail_of}
+use Rattle.cert_text.specs.TextLines.{lines_of, tail_of}
 use Rattle.cert_text.specs.Texts.{Found, and_then, fixed_of, winner_of, count_of, loose_of, kept, position_if, inner_of, on_some, wanted, rows_after, ended}
 use Rattle.cert_text.specs.SharedTexts.{small_number, sets_of, number_len, leaf_if, leaf_numbered, shared_leaf_of, small_of, lone_of, shared_node_of, sets_after, many_after, shared_cert_of}
 use Rattle.cert_text.proofs.Spelling.{joined, then_ok, wanted_ok, if_some, if_kept, if_left, kept_ok, fixed_ok, winner_ok, count_ok, loose_ok, inner_ok, rows_ok}

@@ -18,7 +18,7 @@ use Rattle.cert_text.specs.declared.faults.CertKind.TheVariants as kinds
 use Rattle.cert_text.specs.declared.reader.Certificate.{Certificate}
 use Rattle.cert_text.specs.Digits.{value_of}
 use Rattle.cert_text.specs.Spelled.{header_line, end_line, winner_line, count_line, loose_line, row_line, inner_line, leaf_line, node_lines, cert_lines, lines_text, cert_text}
-use Rattle.cert_text.specs.Lines.{lines_of, tail_of}
+use Rattle.cert_text.specs.TextLines.{lines_of, tail_of}
 use Rattle.cert_text.specs.Texts.{Found, found, misfit, is_text, kept, fixed_of, winner_of, small_count, count_of, loose_of, follows, following, row_of, inner_of, leaf_of, and_then, on_some, wanted, begins_reach, rows_after, leaf_after, node_after, nodes_after, ended, cert_of}
 
 -- a text is its lines and what is behind them

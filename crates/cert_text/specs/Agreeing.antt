@@ -3,7 +3,7 @@ use Rattle.std.specs.Prelude.{◌≡◌, ◌≢◌, ℕ, List, [], ◌∷◌, �
 use Rattle.mob_sets.specs.Rows.{Row}
 use Rattle.cert_text.specs.declared.faults.CertFault.{CertFault}
 use Rattle.cert_text.specs.declared.rest.Left.{Left}
-use Rattle.cert_text.specs.Lines.{lines_of, tail_of}
+use Rattle.cert_text.specs.TextLines.{lines_of, tail_of}
 use Rattle.cert_text.specs.Texts.{Found, rows_after}
 use Rattle.cert_text.specs.declared.faults.CertKind.TheVariants as kinds
 

@@ -2,7 +2,7 @@
 pub mod Digits
 pub mod Spelled
 pub mod SharedSpelled
-pub mod Lines
+pub mod TextLines
 pub mod Texts
 pub mod SharedTexts
 pub mod Versions

@@ -14,7 +14,7 @@ use Rattle.cert_text.specs.declared.shared_reader.SharedCertificate.{SharedCerti
 use Rattle.cert_text.specs.Digits.{value_of}
 use Rattle.cert_text.specs.Spelled.{small_line, lone_line, end_line}
 use Rattle.cert_text.specs.SharedSpelled.{sets_line, shared_leaf_line, shared_header_line}
-use Rattle.cert_text.specs.Lines.{lines_of, tail_of}
+use Rattle.cert_text.specs.TextLines.{lines_of, tail_of}
 use Rattle.cert_text.specs.Texts.{Found, found, and_then, on_some, kept, fixed_of, winner_of, count_of, loose_of, position_if, inner_of, wanted, rows_after, ended}
 
 -- a number of sets: from 0 to 4294967295

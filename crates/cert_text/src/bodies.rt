@@ -2,16 +2,16 @@
 
 ghost use Rattle.std.specs.Prelude.{◌≤◌, ◌<◌, ◌^◌, drop, length, ◌≡◌, [], IfOk};
 ghost use Rattle.cha_cert.specs.Shared.{expansion};
-ghost use Rattle.cert_text.specs.Lines.{lines_of, tail_of};
+ghost use Rattle.cert_text.specs.TextLines.{lines_of, tail_of};
 ghost use Rattle.cert_text.specs.Spelled.{IsInnerOrLeaf, AreInnerOrLeaves};
 ghost use Rattle.cert_text.specs.Texts.{inner_of, leaf_of, leaf_after, node_after, nodes_after};
 ghost use Rattle.cert_text.specs.Agreeing.{Agrees, seen};
 
 use crate::faults::{CertFault, CertKind};
 use crate::leaves::{loose_line, rows_of_leaf};
-use crate::lines::{misfit, next_line};
 use crate::rest::Left;
 use crate::spelled::{put_inner, put_leaf};
+use crate::text_lines::{misfit, next_line};
 use cha_board::Position;
 use cha_cert::{Node, Part, SharedCert, append};
 use cha_fen::read;

@@ -2,15 +2,15 @@
 
 ghost use Rattle.std.specs.Prelude.{◌≤◌, drop, length, ◌≡◌, ◌<◌, ◌^◌, IfOk, IfSome};
 ghost use Rattle.cert_text.specs.declared.faults.CertKind.TheVariants.{Winner, Count};
-ghost use Rattle.cert_text.specs.Lines.{lines_of, tail_of};
+ghost use Rattle.cert_text.specs.TextLines.{lines_of, tail_of};
 ghost use Rattle.cert_text.specs.Texts.{winner_of, count_of, wanted};
 ghost use Rattle.cert_text.specs.Agreeing.{Agrees, seen};
 
 use crate::digits::number;
 use crate::faults::{CertFault, CertKind};
-use crate::lines::{misfit, next_line};
 use crate::rest::Left;
 use crate::spelled::put_count;
+use crate::text_lines::{misfit, next_line};
 use cha_board::Color;
 use cha_list::{NoMemory, Text};
 use std::alloc::Global;

@@ -7,15 +7,15 @@ ghost use Rattle.cha_board.specs.SquareSets.{set_of_bits};
 ghost use Rattle.mob_sets.specs.Rows.{row_place};
 ghost use Rattle.mob_sets.specs.Tidy.{AreTidy};
 ghost use Rattle.cert_text.specs.declared.faults.CertKind.TheVariants.{Loose, NoMemory as Wanting};
-ghost use Rattle.cert_text.specs.Lines.{lines_of, tail_of};
+ghost use Rattle.cert_text.specs.TextLines.{lines_of, tail_of};
 ghost use Rattle.cert_text.specs.Texts.{loose_of, row_if, follows, row_of, begins_reach, wanted, rows_after};
 ghost use Rattle.cert_text.specs.Agreeing.{Agrees, seen, RowGoesOn};
 
 use crate::digits::number;
 use crate::faults::{CertFault, CertKind};
-use crate::lines::{misfit, next_line};
 use crate::rest::Left;
 use crate::spelled::{put_loose, put_row};
+use crate::text_lines::{misfit, next_line};
 use cha_board::{Kind, Square, SquareSet};
 use cha_list::{NoMemory, Text};
 use mob_sets::SetRow;

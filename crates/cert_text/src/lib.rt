@@ -2,7 +2,7 @@
 //! certificate, version 2, written and read (this project).
 //!
 //! `faults` says why a text is refused, `digits` has numbers as digits, `spelled` and `shared_spelled` write, `rest` and
-//! `lines` cut a text into lines,
+//! `text_lines` cut a text into lines,
 //! `heads` reads the first three lines, `leaves` a leaf's lines, `bodies` the nodes, and `reader` the whole;
 //! `shared_bodies` and `shared_reader` do so for version 2, and `versions` tells them apart and leads from the first to the second.
 #![tactic(auto)]
@@ -12,13 +12,13 @@ mod digits;
 mod faults;
 mod heads;
 mod leaves;
-mod lines;
 mod reader;
 mod rest;
 mod shared_bodies;
 mod shared_reader;
 mod shared_spelled;
 mod spelled;
+mod text_lines;
 mod versions;
 
 pub use faults::{CertFault, CertKind};

@@ -10,9 +10,9 @@ ghost use Rattle.cha_cert.specs.Shared.{Shared};
 
 use crate::faults::{CertFault, CertKind};
 use crate::heads::{count_line, winner_line};
-use crate::lines::{fixed_line, misfit};
 use crate::rest::Left;
 use crate::shared_bodies::{all_nodes, all_sets, sets_count_line};
+use crate::text_lines::{fixed_line, misfit};
 use cha_board::Color;
 use cha_cert::SharedCert;
 use std::alloc::Global;

@@ -10,7 +10,7 @@ use Rattle.cha_moves.proofs.Contained.{not_in_nothing, Contains-cons_cases, Cont
 use Rattle.cha_list.specs.Distinct.{AreDistinct}
 use Rattle.cha_list.proofs.Distinct.{none_apart, one_more_apart}
 use Rattle.cha_moves.specs.Lines.{IsLegalLine, HasLines}
-use Rattle.helpmate.specs.Lines.{AreUnits}
+use Rattle.helpmate.specs.Units.{AreUnits}
 use Rattle.cha_moves.proofs.Apart.{joined_apart, images_apart}
 use Rattle.cha_moves.proofs.LegalApart.{legal_apart}
 

@@ -7,7 +7,7 @@ use Rattle.cha_moves.specs.Step.{Move}
 use Rattle.cha_moves.specs.Moves.{legal}
 use Rattle.cha_moves.proofs.Contained.{Contains-cons_here, Contains-cons_there, Contains-map_from}
 use Rattle.cha_moves.specs.Lines.{IsLegalLine, HasLines}
-use Rattle.helpmate.specs.Lines.{AreUnits}
+use Rattle.helpmate.specs.Units.{AreUnits}
 use Rattle.cha_moves.proofs.Apart.{no_more_than}
 use Rattle.cha_moves.proofs.LegalApart.{few_legal}
 

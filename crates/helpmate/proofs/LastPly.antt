@@ -12,7 +12,7 @@ use Rattle.cha_fact.specs.Truths.{Claim}
 use Rattle.cha_fact.specs.Entries.{Entry, store_entry, none_within, HasStore}
 use Rattle.helpmate.specs.declared.answers.RoundAnswer.{RoundAnswer}
 use Rattle.helpmate.specs.declared.answers.RoundAnswer.TheVariants.{Mate, NoneWithin}
-use Rattle.helpmate.specs.Lines.{AreUnits}
+use Rattle.helpmate.specs.Units.{AreUnits}
 use Rattle.helpmate.specs.Rounds.{IsAnswer}
 use Rattle.helpmate.specs.Searches.{Expands, IsExpanded, AreSearched}
 use Rattle.helpmate.proofs.Counting.{from_no_move, all_counted}

@@ -1,7 +1,7 @@
 //! A round: the search of a position to a depth, and how many positions it expanded.
 
 ghost use Rattle.std.specs.Prelude.{◌≡◌, ◌+◌, ◌≤◌, Some, IsNone, Ok, IfOk};
-ghost use Rattle.helpmate.specs.Lines.{AreUnits};
+ghost use Rattle.helpmate.specs.Units.{AreUnits};
 ghost use Rattle.helpmate.specs.Rounds.{IsAnswer, IsAllowed, RoundCalls};
 
 use crate::answers::{RoundAnswer, RoundDone};

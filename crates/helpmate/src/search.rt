@@ -6,7 +6,7 @@ ghost use Rattle.cha_moves.specs.Moves.{after as position_after, legal as legal_
 ghost use Rattle.cha_moves.specs.Ends.{IsMatingLine};
 ghost use Rattle.cha_fact.specs.Keys.{key_of};
 ghost use Rattle.cha_fact.specs.Entries.{probe_entry, IsOfKey};
-ghost use Rattle.helpmate.specs.Lines.{AreUnits};
+ghost use Rattle.helpmate.specs.Units.{AreUnits};
 ghost use Rattle.helpmate.specs.Rounds.{IsAnswer};
 ghost use Rattle.helpmate.specs.Searches.{Expands, Searches};
 

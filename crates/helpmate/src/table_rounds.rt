@@ -3,7 +3,7 @@
 ghost use Rattle.std.specs.Prelude.{◌≡◌, ◌+◌, ◌≤◌, Some, IsNone, IfOk};
 ghost use Rattle.shard_table.specs.Tables.{IsOfTable};
 ghost use Rattle.shard_table.specs.Makes.{Makes};
-ghost use Rattle.helpmate.specs.Lines.{AreUnits};
+ghost use Rattle.helpmate.specs.Units.{AreUnits};
 ghost use Rattle.helpmate.specs.Rounds.{IsAnswer, IsAllowed, RoundCalls};
 
 use crate::answers::{RoundAnswer, RoundDone};

@@ -19,7 +19,7 @@ use Rattle.cha_fact.proofs.Searching.{front_within, back_within, searched_more}
 use Rattle.helpmate.specs.declared.answers.RoundAnswer.{RoundAnswer}
 use Rattle.helpmate.specs.declared.answers.RoundAnswer.TheVariants.{Mate, NoneWithin}
 use Rattle.helpmate.specs.declared.answers.RoundDone.{RoundDone}
-use Rattle.helpmate.specs.Lines.{AreUnits}
+use Rattle.helpmate.specs.Units.{AreUnits}
 use Rattle.helpmate.specs.Rounds.{IsAnswer, IsAllowed, RoundCalls}
 use Rattle.helpmate.proofs.Counting.{Begins, HasLinesFrom, from_one_more, still_begins}
 use Rattle.root_workers.specs.declared.task.Task.{Task}

@@ -2,7 +2,7 @@
 
 ghost use Rattle.std.specs.Prelude.{◌≡◌, ◌-◌, ◌<◌, ◌≤◌, Contains, Some, IsNone, IfOk};
 ghost use Rattle.cha_moves.specs.Moves.{after as position_after, legal as legal_moves};
-ghost use Rattle.helpmate.specs.Lines.{AreUnits};
+ghost use Rattle.helpmate.specs.Units.{AreUnits};
 ghost use Rattle.helpmate.specs.Rounds.{IsAnswer, IsAllowed, RoundCalls};
 ghost use Rattle.root_workers.specs.Shares.{IsShare, ShareCalls};
 ghost use Rattle.root_workers.specs.Gathers.{left_after};

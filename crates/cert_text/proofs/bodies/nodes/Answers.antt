@@ -1,7 +1,7 @@
 use Rattle.std.proofs.lemmas.Grind.{common_steps}
 use Rattle.std.proofs.Common.{rules, ◌-◌, ◌+◌, drop, ◌∙◌, sym, ap, subst, arith}
 use Rattle.cha_cert.specs.Shared.{expansion}
-use Rattle.cert_text.specs.Lines.{lines_of, tail_of}
+use Rattle.cert_text.specs.TextLines.{lines_of, tail_of}
 use Rattle.cert_text.specs.Texts.{nodes_after}
 use Rattle.cert_text.specs.Agreeing.{Agrees, seen}
 use Rattle.cert_text.specs.Spelled.{AreInnerOrLeaves}

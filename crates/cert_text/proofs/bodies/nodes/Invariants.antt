@@ -1,6 +1,6 @@
 use Rattle.std.proofs.Common.{◌≡◌, ◌-◌, ◌≤◌, [], length, drop}
 use Rattle.cha_cert.specs.Shared.{expansion}
-use Rattle.cert_text.specs.Lines.{lines_of, tail_of}
+use Rattle.cert_text.specs.TextLines.{lines_of, tail_of}
 use Rattle.cert_text.specs.Spelled.{AreInnerOrLeaves}
 use Rattle.cert_text.specs.Texts.{nodes_after}
 use Rattle.cert_text.proofs.bodies.nodes.Given as goal

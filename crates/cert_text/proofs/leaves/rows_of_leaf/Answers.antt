@@ -2,7 +2,7 @@ use Rattle.std.proofs.Common.{◌≡◌, ◌≤◌, true, IsTrue, IfSome, List, 
 use Rattle.mob_sets.specs.Rows.{Row}
 use Rattle.mob_sets.specs.Tidy.{AreTidy}
 use Rattle.cert_text.specs.declared.rest.Left.{Left}
-use Rattle.cert_text.specs.Lines.{lines_of, tail_of}
+use Rattle.cert_text.specs.TextLines.{lines_of, tail_of}
 use Rattle.cert_text.specs.Agreeing.{RowGoesOn}
 use Rattle.cert_text.specs.Texts.{follows, rows_after}
 use Rattle.cert_text.proofs.Going.{row_goes, tidy_more}

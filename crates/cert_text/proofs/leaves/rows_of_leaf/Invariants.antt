@@ -1,6 +1,6 @@
 use Rattle.std.proofs.Common.{◌≡◌, ◌-◌, ◌≤◌, [], length, drop}
 use Rattle.mob_sets.specs.Tidy.{AreTidy}
-use Rattle.cert_text.specs.Lines.{lines_of, tail_of}
+use Rattle.cert_text.specs.TextLines.{lines_of, tail_of}
 use Rattle.cert_text.specs.Texts.{rows_after}
 use Rattle.cert_text.proofs.leaves.rows_of_leaf.Given as goal
 

@@ -1,7 +1,7 @@
 use Rattle.std.proofs.lemmas.Grind.{common_steps}
 use Rattle.std.proofs.Common.{rules, ◌-◌, ◌+◌, drop, ◌∙◌, sym, ap, subst, arith}
 use Rattle.cert_text.specs.declared.faults.CertKind.TheVariants.{Node}
-use Rattle.cert_text.specs.Lines.{lines_of}
+use Rattle.cert_text.specs.TextLines.{lines_of}
 use Rattle.cert_text.specs.Texts.{wanted}
 use Rattle.cert_text.specs.SharedTexts.{shared_node_of, many_after}
 use Rattle.cert_text.specs.Agreeing.{Agrees, seen}

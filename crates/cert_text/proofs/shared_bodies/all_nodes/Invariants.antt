@@ -1,6 +1,6 @@
 use Rattle.std.proofs.Common.{◌≡◌, ◌-◌, ◌≤◌, [], length, drop}
 use Rattle.cert_text.specs.declared.faults.CertKind.TheVariants.{Node}
-use Rattle.cert_text.specs.Lines.{lines_of, tail_of}
+use Rattle.cert_text.specs.TextLines.{lines_of, tail_of}
 use Rattle.cert_text.specs.Texts.{wanted}
 use Rattle.cert_text.specs.SharedTexts.{shared_node_of, many_after}
 use Rattle.cert_text.proofs.shared_bodies.all_nodes.Given as goal

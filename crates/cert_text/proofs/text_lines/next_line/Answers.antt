@@ -1,5 +1,5 @@
 use Rattle.cert_text.proofs.Cutting.{line_here, tail_here, none_here}
-use Rattle.cert_text.proofs.lines.next_line.Goals as goal
+use Rattle.cert_text.proofs.text_lines.next_line.Goals as goal
 
 pub returns-then-end-rest-clause-no_line : goal.returns-then-end-rest-clause-no_line
 returns-then-end-rest-clause-no_line c = (none_here _ _ _ c.split_at.ensures.back c.run_of-end.ensures.value c.if-end-rest.true).0

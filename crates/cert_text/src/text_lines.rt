@@ -1,7 +1,7 @@
 //! A text, line by line.
 
 ghost use Rattle.std.specs.Prelude.{◌≤◌, drop, length, ◌≡◌, ◌+◌, ◌<◌, [], ◌∷◌, IfSome, IfNone, IfOk, true};
-ghost use Rattle.cert_text.specs.Lines.{lines_of, tail_of};
+ghost use Rattle.cert_text.specs.TextLines.{lines_of, tail_of};
 ghost use Rattle.cert_text.specs.Texts.{fixed_of, wanted};
 ghost use Rattle.cert_text.specs.Agreeing.{Agrees, seen};
 

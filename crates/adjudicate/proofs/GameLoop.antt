@@ -23,7 +23,7 @@ use Rattle.cha_words.specs.declared.orders.Order.TheVariants.{AdjudicateGames}
 use Rattle.adjudicate.specs.Outcomes.{Item, item_of, game_item, game_items, blocks}
 use Rattle.adjudicate.specs.Report.{last_of_games, HasWholeBlocksOn}
 use Rattle.adjudicate.specs.Runs.{Outside, outside, Grew, BeginsWhole, BeginsDue, IsRun}
-use Rattle.adjudicate.specs.Steps.{JudgesGame, GameRoom, CountsAll}
+use Rattle.adjudicate.specs.ItemSteps.{JudgesGame, GameRoom, CountsAll}
 use Rattle.adjudicate.proofs.RunEndings.{short_run, long_run, taken_few}
 use Rattle.adjudicate.proofs.Progress.{of_games, WroteUpTo, nothing_written, one_more, cut_block, whole_blocks, finished, cut_summary, room_for_game, one_counted}
 

@@ -11,7 +11,7 @@ use Rattle.adjudicate.specs.declared.endings.Status.TheVariants.{Done, WriteFaul
 use Rattle.cha_words.specs.declared.orders.Order.TheVariants.{JudgePositions}
 use Rattle.adjudicate.specs.Outcomes.{Item, position_items}
 use Rattle.adjudicate.specs.Report.{last_of_positions}
-use Rattle.adjudicate.specs.Steps.{JudgesLine, IsWritten}
+use Rattle.adjudicate.specs.ItemSteps.{JudgesLine, IsWritten}
 use Rattle.adjudicate.proofs.Progress.{of_positions, WroteUpTo, cut_block, whole_blocks, finished, cut_summary}
 
 module _ (limits : Bounds) (certs : Bool) (bytes : List ℕ) (here : List Item) (old now : Option (List ℕ)) (s : PositionTotals) (g g' : ℕ) where

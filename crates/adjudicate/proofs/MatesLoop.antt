@@ -16,7 +16,7 @@ use Rattle.adjudicate.specs.Outcomes.{Item, position_items}
 use Rattle.adjudicate.specs.MatesReport.{mates_item, mates_items, mates_totals, mates_report, is_refused_line, has_mates}
 use Rattle.adjudicate.specs.MatesSteps.{ListsItem, mates_counted}
 use Rattle.adjudicate.specs.Report.{IsFront}
-use Rattle.adjudicate.specs.Steps.{one_if, IsWritten}
+use Rattle.adjudicate.specs.ItemSteps.{one_if, IsWritten}
 
 -- of all lines, the blocks of those before these were written, and the totals are theirs
 abbrev pub WroteMates : Color → ℕ → List Item → List Item → Option (List ℕ) → Option (List ℕ) → MatesTotals → Type 0

@@ -11,7 +11,7 @@ use Rattle.flag_report.specs.declared.totals.PositionTotals.{PositionTotals}
 use Rattle.adjudicate.specs.Outcomes.{Item, Outcome, item_of, IsSoundOutcome, AllSound, block, blocks, game_totals, position_totals, is_refused, is_dead_position, is_unreadable, is_changed_game, is_open}
 use Rattle.adjudicate.specs.Report.{IsReportOn, HasBegunOn, HasWholeBlocksOn}
 use Rattle.adjudicate.specs.Runs.{Grew}
-use Rattle.adjudicate.specs.Steps.{one_if, Judges, GameRoom, game_counted, line_counted}
+use Rattle.adjudicate.specs.ItemSteps.{one_if, Judges, GameRoom, game_counted, line_counted}
 
 -- how totals are kept: what they are of outcomes, how many these are, and the totals with one more
 pub record Tally (T : Type 0) : Type 0 where

@@ -26,7 +26,7 @@ use Rattle.random_games.specs.Made.{made}
 use Rattle.adjudicate.specs.Outcomes.{blocks, game_items, position_items}
 use Rattle.adjudicate.specs.MatesReport.{mates_items}
 use Rattle.adjudicate.specs.Runs.{Outside, outside, Ended, BeginsWhole, BeginsDue, Reads, ReadsAtOnce, Takes, HasReadAll, IsRun}
-use Rattle.adjudicate.specs.Steps.{IsWritten, CountsAll}
+use Rattle.adjudicate.specs.ItemSteps.{IsWritten, CountsAll}
 
 -- the first position is valid
 first_is_valid : (p : Board) (nodes : List Node) → BeginsAt p nodes → AllValid nodes → IsValid p

@@ -15,7 +15,7 @@ use Rattle.adjudicate.specs.declared.playing.GameBlock.{GameBlock}
 use Rattle.adjudicate.specs.Outcomes.{item_of, IsSoundOutcome, final_of, played_item}
 use Rattle.adjudicate.specs.Outcomes.Item.{PlayedGame}
 use Rattle.adjudicate.specs.Outcomes.Outcome.{JudgedGame}
-use Rattle.adjudicate.specs.Steps.{IsReported, JudgesGame}
+use Rattle.adjudicate.specs.ItemSteps.{IsReported, JudgesGame}
 
 -- the last of the positions of a game
 pub final_is : (qs : List Board) (start q : Board) → 0 < length qs → q ≡ slice_index_or qs (length qs - 1) q → final_of start qs ≡ q

@@ -7,5 +7,5 @@ pub mod Report
 pub mod Runs
 pub mod Statuses
 -- what only the crate's own functions say of each other
-pub mod Steps
+pub mod ItemSteps
 pub mod MatesSteps

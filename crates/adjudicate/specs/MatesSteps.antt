@@ -4,7 +4,7 @@ use Rattle.cha_board.specs.declared.men.Color.{Color}
 use Rattle.flag_report.specs.declared.mates.MatesTotals.{MatesTotals}
 use Rattle.adjudicate.specs.declared.mates.MatesBlock.{MatesBlock}
 use Rattle.adjudicate.specs.Outcomes.{Item}
-use Rattle.adjudicate.specs.Steps.{one_if}
+use Rattle.adjudicate.specs.ItemSteps.{one_if}
 use Rattle.adjudicate.specs.MatesReport.{mates_item, is_refused_line, has_mates}
 
 -- one more line is counted

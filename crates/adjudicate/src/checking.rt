@@ -6,7 +6,7 @@ ghost use Rattle.cert_text.specs.Versions.{any_cert_of};
 ghost use Rattle.cha_words.specs.declared.orders.Order.TheVariants.{CheckCert};
 ghost use Rattle.adjudicate.specs.CertFindings.{IsAnswerTo, IsReadAs, IsValidAtFirst};
 ghost use Rattle.adjudicate.specs.Runs.{IsRun, outside};
-ghost use Rattle.adjudicate.specs.Steps.{IsWritten, ended_by};
+ghost use Rattle.adjudicate.specs.ItemSteps.{IsWritten, ended_by};
 
 use crate::endings::Status;
 use crate::writing::put;

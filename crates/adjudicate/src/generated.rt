@@ -5,7 +5,7 @@ ghost use Rattle.cha_words.specs.declared.orders.Order.TheVariants.{GenGames};
 ghost use Rattle.random_games.specs.Made.{made};
 ghost use Rattle.adjudicate.specs.Outcomes.{game_items};
 ghost use Rattle.adjudicate.specs.Runs.{IsRun, outside};
-ghost use Rattle.adjudicate.specs.Steps.{CountsAll};
+ghost use Rattle.adjudicate.specs.ItemSteps.{CountsAll};
 
 use crate::endings::Status;
 use crate::playing::judge_game;

@@ -5,7 +5,7 @@ ghost use Rattle.cha_verdict.specs.Verdicts.{is_undecided as is_undecided_verdic
 ghost use Rattle.cha_limits.specs.Bounds.{Bounds};
 ghost use Rattle.adjudicate.specs.Outcomes.{line_item};
 ghost use Rattle.adjudicate.specs.Outcomes.Item.{PositionLine, RefusedLine};
-ghost use Rattle.adjudicate.specs.Steps.{JudgesLine, LineRoom, line_counted_as};
+ghost use Rattle.adjudicate.specs.ItemSteps.{JudgesLine, LineRoom, line_counted_as};
 
 use cha_board::{Color, Position};
 use cha_decide::decide_by;

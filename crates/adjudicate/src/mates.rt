@@ -8,7 +8,7 @@ ghost use Rattle.adjudicate.specs.MatesSteps.{ListsItem, MatesRoom};
 ghost use Rattle.adjudicate.specs.Outcomes.{line_item};
 ghost use Rattle.adjudicate.specs.Outcomes.Item.{PositionLine, RefusedLine};
 ghost use Rattle.adjudicate.specs.Runs.{IsRun, outside};
-ghost use Rattle.adjudicate.specs.Steps.{IsWritten};
+ghost use Rattle.adjudicate.specs.ItemSteps.{IsWritten};
 
 use crate::endings::Status;
 use crate::splitting::next_line;

@@ -10,7 +10,7 @@ ghost use Rattle.std.specs.Bool.{OnTrue, OnFalse};
 ghost use Rattle.cha_san.specs.Playing.{positions};
 ghost use Rattle.cha_limits.specs.Bounds.{Bounds};
 ghost use Rattle.adjudicate.specs.Outcomes.Item.{UnreadableGame};
-ghost use Rattle.adjudicate.specs.Steps.{JudgesGame, IsReported, GameRoom, game_counted_as};
+ghost use Rattle.adjudicate.specs.ItemSteps.{JudgesGame, IsReported, GameRoom, game_counted_as};
 
 use crate::judging::some_undecided;
 use cha_board::Position;

@@ -3,7 +3,7 @@
 ghost use Rattle.std.specs.Prelude.{◌<◌, ◌^◌, length};
 ghost use Rattle.cha_words.specs.declared.orders.Order.TheVariants.{JudgePositions};
 ghost use Rattle.adjudicate.specs.Runs.{IsRun, outside};
-ghost use Rattle.adjudicate.specs.Steps.{IsWritten};
+ghost use Rattle.adjudicate.specs.ItemSteps.{IsWritten};
 
 use crate::endings::Status;
 use crate::judging::judge_line;

@@ -15,7 +15,7 @@ use Rattle.cha_board.proofs.Tables.{aims_from_there}
 use Rattle.mob_law.specs.Reach.{is_leaper, steps_to}
 use Rattle.mob_law.specs.Threats.{ends_check}
 use Rattle.mob_law.proofs.Geometry.{near}
-use Rattle.mob_check.specs.Steps.{is_stepped_to, spread_of}
+use Rattle.mob_check.specs.SingleSteps.{is_stepped_to, spread_of}
 use Rattle.mob_check.specs.declared.scene.Scene.{Scene}
 use Rattle.mob_check.specs.Scenes.{squares_as}
 use Rattle.mob_check.specs.Mates.{ends_at, check_ends, stays_as}

@@ -13,7 +13,7 @@ use Rattle.cha_board.specs.Shifts.{is_ahead}
 use Rattle.cha_board.proofs.Scans.{any_square_at, no_square}
 use Rattle.cha_board.proofs.Contents.{some_square, in_empty, in_single, single_has, same_test}
 use Rattle.mob_check.specs.declared.ground.Ground.{Ground}
-use Rattle.mob_check.specs.Steps.{is_stepped_to, spread_of, stays}
+use Rattle.mob_check.specs.SingleSteps.{is_stepped_to, spread_of, stays}
 use Rattle.mob_check.specs.Grounds.{side_in}
 use Rattle.mob_check.specs.Rules.{is_barred, goes_on, is_entered, entered_from, comes_on, ends_on, is_struck, passes_on, is_passed, is_left, is_freed}
 

@@ -11,7 +11,7 @@ use Rattle.cha_board.proofs.SetLaws.{has-set_of, same_set}
 use Rattle.cha_moves.specs.Moves.{last_rank}
 use Rattle.mob_law.specs.Reach.{steps_to}
 use Rattle.mob_check.specs.declared.ground.Ground.{Ground}
-use Rattle.mob_check.specs.Steps.{is_stepped_to, spread_of, stays}
+use Rattle.mob_check.specs.SingleSteps.{is_stepped_to, spread_of, stays}
 use Rattle.cha_board.specs.Shifts.{is_ahead}
 use Rattle.mob_check.specs.Grounds.{side_in}
 use Rattle.mob_check.specs.Rules.{is_barred, piece_goes, pawn_steps, is_capturable, pawn_captures, pawn_goes, goes_on, is_entered, entered_from}

@@ -21,7 +21,7 @@ use Rattle.cha_board.proofs.Contents.{some_square, in_set_of}
 use Rattle.mob_law.proofs.Geometry.{leap_clear}
 use Rattle.cha_board.proofs.ManTests.{kinds_differ, same_kind_from}
 use Rattle.mob_law.proofs.Standing.{open_near}
-use Rattle.mob_check.specs.Steps.{is_stepped_to, stays}
+use Rattle.mob_check.specs.SingleSteps.{is_stepped_to, stays}
 use Rattle.mob_check.specs.Grounds.{ground_of, side_in}
 use Rattle.mob_check.specs.Rules.{is_barred, piece_goes, pawn_steps, is_capturable, pawn_captures, pawn_goes, goes_on, is_struck, passes_on, is_passed, is_left, is_freed, AreRules, AllRules}
 use Rattle.mob_check.proofs.GroundAt.{fixed_at, guards_at, reach_at, men_at, target_at, reached_enemy}

@@ -19,7 +19,7 @@ use Rattle.mob_sets.specs.Mobility.{Sets}
 use Rattle.mob_sets.specs.Rows.{kinds}
 use Rattle.mob_sets.proofs.KindTests.{any_kind_at, some_kind}
 use Rattle.mob_law.specs.Reach.{is_fixed, is_leaper, steps_to, guards_as, guards_from, is_guarded}
-use Rattle.mob_check.specs.Steps.{is_stepped_to, spread_of}
+use Rattle.mob_check.specs.SingleSteps.{is_stepped_to, spread_of}
 use Rattle.mob_check.specs.Grounds.{guards_with, is_target_for}
 
 -- the fixed men are those that are not loose

@@ -25,7 +25,7 @@ use Rattle.mob_law.proofs.CastlingFollows.{follows}
 use Rattle.cha_board.proofs.ManTests.{other_kind, same_color_from}
 use Rattle.mob_law.proofs.Standing.{fixed_stands}
 use Rattle.mob_sets.proofs.KindTests.{any_kind_at}
-use Rattle.mob_check.specs.Steps.{is_stepped_to, stays}
+use Rattle.mob_check.specs.SingleSteps.{is_stepped_to, stays}
 use Rattle.mob_sets.specs.Rows.{kinds}
 use Rattle.mob_check.specs.Grounds.{reaches_from, is_reached, ground_of, side_in}
 use Rattle.mob_check.specs.Rules.{is_barred, piece_goes, pawn_steps, is_capturable, pawn_captures, pawn_goes, goes_on, is_struck, passes_on, is_passed, is_left, is_freed, AreRules, AllRules}

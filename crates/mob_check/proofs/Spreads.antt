@@ -9,7 +9,7 @@ use Rattle.cha_board.specs.SquareSets.{set_of}
 use Rattle.cha_board.specs.Shifts.{is_king_step}
 use Rattle.cha_board.proofs.Pulls.{Pulls, up, down, right, left, either, here, pull_is, pulls_of, pulled, agree, pairs, from_pairs, sides, king_step}
 use Rattle.mob_law.specs.Reach.{steps_to}
-use Rattle.mob_check.specs.Steps.{is_stepped_to, spread_of}
+use Rattle.mob_check.specs.SingleSteps.{is_stepped_to, spread_of}
 
 abbrev pub rook_way : ℕ → ℕ → Bool
 rook_way = either (either (up here) (down here)) sides

@@ -1,7 +1,7 @@
 -- what public contracts say, beside what mob_law defines
 pub mod Grounds
 pub mod Rules
-pub mod Steps
+pub mod SingleSteps
 -- what only loops and lemmas use
 pub mod Reaches
 pub mod Closing

@@ -14,7 +14,7 @@ use Rattle.cha_moves.specs.Moves.{is_promotion}
 use Rattle.mob_law.specs.Reach.{steps_to}
 use Rattle.mob_sets.specs.Mobility.{Sets}
 use Rattle.mob_check.specs.declared.ground.Ground.{Ground}
-use Rattle.mob_check.specs.Steps.{is_stepped_to, stays}
+use Rattle.mob_check.specs.SingleSteps.{is_stepped_to, stays}
 use Rattle.mob_check.specs.Grounds.{side_in}
 
 -- a fixed man of the other side keeps a king of c from t

@@ -6,7 +6,7 @@ ghost use Rattle.mob_check.specs.Rules.{is_struck, is_passed, is_left, is_freed}
 
 use crate::goes::{barred, entered};
 use crate::ground::Ground;
-use crate::steps::spread;
+use crate::single_steps::spread;
 use cha_board::{Color, Kind, Square, SquareSet};
 
 /// The origins that become loose where the man of an origin may be on the squares of a row as a kind.

@@ -8,7 +8,7 @@ ghost use Rattle.mob_check.specs.Rules.{is_barred, is_capturable, entered_from, 
 
 use crate::ground::Ground;
 use crate::ranks::{ending, staying};
-use crate::steps::spread;
+use crate::single_steps::spread;
 use cha_board::{Color, Kind, SquareSet};
 
 /// The squares from which fixed men of the other side keep a king; none for other men.

@@ -7,7 +7,7 @@ ghost use Rattle.mob_sets.specs.Mobility.{Sets};
 ghost use Rattle.mob_law.specs.Reach.{is_fixed, is_guarded};
 ghost use Rattle.mob_check.specs.Grounds.{is_reached, guards_with, is_target_for, side_ground_of, ground_of, side_in};
 
-use crate::steps::spread;
+use crate::single_steps::spread;
 use cha_board::{Color, Kind, Position, SquareSet};
 
 /// What the rules look at of a side.

@@ -1,6 +1,6 @@
 //! Mobility sets, checked against a position: whether they are closed, and whether they leave a mate in reach.
 //!
-//! The rules of closed sets stand as steps of sets of squares: `ground` has what the rules look at, `steps` where men aim by one
+//! The rules of closed sets stand as steps of sets of squares: `ground` has what the rules look at, `single_steps` where men aim by one
 //! step or a jump, `ranks` where pawns are promoted, `goes` where men of a kind go from a set of squares, as far as fixed and
 //! guarded squares let them, `frees` which origins become loose, and `rules` the law that these are the rules of closed sets.
 //!
@@ -21,7 +21,7 @@ mod ranks;
 mod ring;
 mod rules;
 mod scene;
-mod steps;
+mod single_steps;
 
 pub use bound::proves_unwinnable;
 pub use closing::closed;
@@ -30,4 +30,4 @@ pub use goes::{comes, ends};
 pub use ground::{Ground, SideGround};
 pub use mates::no_mate;
 pub use rules::rules_on_the_ground;
-pub use steps::spread;
+pub use single_steps::spread;

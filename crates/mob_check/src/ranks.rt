@@ -2,7 +2,7 @@
 
 ghost use Rattle.std.specs.Prelude.{◌≡◌, ◌<◌, ◌&&◌, not, ℕ};
 ghost use Rattle.cha_board.specs.SquareSets.{set_of, has_square};
-ghost use Rattle.mob_check.specs.Steps.{stays};
+ghost use Rattle.mob_check.specs.SingleSteps.{stays};
 
 use cha_board::{Color, Kind, SquareSet};
 use cha_moves::promotion_rank;

@@ -8,7 +8,7 @@ ghost use Rattle.mob_check.specs.Mates.{is_filled, stays_as, stays_on, ring_of_o
 
 use crate::attacks::struck_from;
 use crate::scene::{Scene, reach_as};
-use crate::steps::spread;
+use crate::single_steps::spread;
 use cha_board::{Color, Kind, Square, SquareSet, squares_between};
 
 /// What keeps a king from the squares next to it, besides the other king.

@@ -16,7 +16,7 @@ use Rattle.cha_board.proofs.Contents.{some_square, in_set_of}
 use Rattle.mob_law.specs.Reach.{steps_to}
 use Rattle.mob_sets.specs.Mobility.{Sets}
 use Rattle.mob_check.specs.declared.ground.Ground.{Ground}
-use Rattle.mob_check.specs.Steps.{is_stepped_to, stays}
+use Rattle.mob_check.specs.SingleSteps.{is_stepped_to, stays}
 use Rattle.mob_check.specs.Grounds.{side_in}
 use Rattle.mob_check.specs.Rules.{is_barred, goes_on, is_entered, comes_on, ends_on, is_struck, passes_on, is_passed, is_left, is_freed, AreRules}
 use Rattle.mob_check.proofs.RowRules.{rules_from}

@@ -8,7 +8,7 @@ use Rattle.cha_board.proofs.SetLaws.{has-set_of}
 use Rattle.cha_board.proofs.Scans.{any_square_at}
 use Rattle.cha_board.proofs.Contents.{some_square, in_set_of, in_joined, joined_left, subset_at}
 use Rattle.mob_check.specs.declared.ground.Ground.{Ground}
-use Rattle.mob_check.specs.Steps.{stays}
+use Rattle.mob_check.specs.SingleSteps.{stays}
 use Rattle.mob_check.specs.Rules.{goes_on, is_entered, comes_on, StaysIn}
 use Rattle.mob_solve.specs.Filled.{IsFilled}
 

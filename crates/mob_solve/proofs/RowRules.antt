@@ -12,7 +12,7 @@ use Rattle.cha_board.proofs.Contents.{some_square}
 use Rattle.cha_moves.specs.Moves.{last_rank, is_promotion}
 use Rattle.mob_sets.specs.Mobility.{Sets}
 use Rattle.mob_check.specs.declared.ground.Ground.{Ground}
-use Rattle.mob_check.specs.Steps.{stays}
+use Rattle.mob_check.specs.SingleSteps.{stays}
 use Rattle.mob_check.specs.Rules.{goes_on, is_entered, comes_on, ends_on, is_freed, AreRules, ManRules}
 use Rattle.mob_check.proofs.RowRules.{rules_from}
 use Rattle.mob_solve.specs.declared.reach.Reach.{Reach}

@@ -9,7 +9,7 @@ use Rattle.turn_cell.proofs.Counting.{waiting_set, waiting_few}
 use Rattle.turn_cell.proofs.Same.{there, numbers_same, tickets_same, set_there, head_same, below_same, room_same, departed_same, alive_same, knows_this, Like}
 use Rattle.turn_cell.specs.Histories.{IsLegalHistory}
 use Rattle.turn_cell.specs.Rule.{TakesTurns, Fits, SomeHasTurn, lives}
-use Rattle.turn_cell.specs.Steps.{Looks, HasTurn}
+use Rattle.turn_cell.specs.RuleSteps.{Looks, HasTurn}
 use Rattle.turn_cell.specs.Views.{with_turn}
 use Rattle.turn_cell.specs.declared.views.View.{View}
 use Rattle.turn_cell.specs.declared.views.Held.{Held}

@@ -13,7 +13,7 @@ use Rattle.turn_cell.proofs.Prefix.{both_in}
 use Rattle.turn_cell.proofs.Same.{there, tickets_same, set_there, room_same}
 use Rattle.turn_cell.specs.Rule.{TakesTurns, Fits, NoneHasTurn, SomeHasTurn, FirstCounts, SomeHasSeenAll, lives}
 use Rattle.turn_cell.specs.Passes.{Joined, known_in}
-use Rattle.turn_cell.specs.Steps.{Meets}
+use Rattle.turn_cell.specs.RuleSteps.{Meets}
 use Rattle.turn_cell.specs.Views.{after_meeting, after_join}
 use Rattle.turn_cell.specs.declared.views.View.{View}
 use Rattle.turn_cell.specs.declared.views.Held.{Held}

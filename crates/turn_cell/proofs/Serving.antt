@@ -10,7 +10,7 @@ use Rattle.turn_cell.proofs.Same.{there, numbers_same, head_same, below_same, ro
 use Rattle.turn_cell.specs.Histories.{IsLegalHistory, IsPrefix, entries_of, entry}
 use Rattle.turn_cell.specs.Rule.{TakesTurns, Fits, NoneHasTurn, OwnTickets, lives}
 use Rattle.turn_cell.specs.Passes.{Turned, known_in}
-use Rattle.turn_cell.specs.Steps.{Serves}
+use Rattle.turn_cell.specs.RuleSteps.{Serves}
 use Rattle.turn_cell.specs.Views.{with_ticket, with_turn, after_call}
 use Rattle.turn_cell.specs.declared.views.View.{View}
 use Rattle.turn_cell.specs.declared.object.Entry.{Entry}

@@ -7,7 +7,7 @@
 
 ghost use Rattle.turn_cell.specs.Rule.{TakesTurns};
 ghost use Rattle.turn_cell.specs.Views.{first_view, spent_view, after_split, split_view, after_join};
-ghost use Rattle.turn_cell.specs.Steps.{Draws, Looks, Serves, Meets};
+ghost use Rattle.turn_cell.specs.RuleSteps.{Draws, Looks, Serves, Meets};
 
 use crate::object::Object;
 use crate::views::{Held, View};

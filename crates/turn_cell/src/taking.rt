@@ -3,7 +3,7 @@
 ghost use Rattle.std.specs.Prelude.{◌≡◌, ◌%◌, ◌^◌, ◌∷◌, [], Some, None, false, true, ℕ, MatchBool};
 ghost use Rattle.turn_cell.specs.Histories.{IsLegalHistory};
 ghost use Rattle.turn_cell.specs.Passes.{known_in, Turned};
-ghost use Rattle.turn_cell.specs.Steps.{HasTurn};
+ghost use Rattle.turn_cell.specs.RuleSteps.{HasTurn};
 ghost use Rattle.turn_cell.specs.Views.{with_ticket, after_call, IsIdle};
 
 use crate::object::Object;

@@ -2,7 +2,7 @@ use mir.Val.{bool_byte}
 use Rattle.std.proofs.Common.{Bool, true, false, refl, ◌≡◌, ◌+◌, ◌∙◌, ap, arith}
 use Rattle.helpmate_list.specs.Shortest.{shortest}
 use Rattle.adjudicate.specs.MatesReport.{answer_text, mates_item, is_found, is_refused_line, has_mates}
-use Rattle.adjudicate.specs.Steps.{one_if}
+use Rattle.adjudicate.specs.ItemSteps.{one_if}
 use Rattle.adjudicate.proofs.mates.list_position.Goals as goal
 
 byte_is : (b : Bool) → bool_byte b ≡ one_if b

@@ -1,6 +1,6 @@
 use Rattle.cha_board.specs.SquareSets.{set_common}
 use Rattle.std.proofs.Common.{ℕ, not, ◌∙◌}
-use Rattle.mob_check.specs.Steps.{stays}
+use Rattle.mob_check.specs.SingleSteps.{stays}
 use Rattle.mob_check.proofs.Going.{kept_by}
 use Rattle.mob_check.proofs.ranks.ending.Goals as goal
 

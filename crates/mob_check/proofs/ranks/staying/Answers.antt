@@ -1,6 +1,6 @@
 use Rattle.cha_board.specs.SquareSets.{set_minus}
 use Rattle.std.proofs.Common.{◌∙◌}
-use Rattle.mob_check.specs.Steps.{stays}
+use Rattle.mob_check.specs.SingleSteps.{stays}
 use Rattle.mob_check.proofs.Going.{out_by}
 use Rattle.mob_check.proofs.ranks.staying.Goals as goal
 

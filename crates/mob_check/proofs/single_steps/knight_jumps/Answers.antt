@@ -1,7 +1,7 @@
 use Rattle.std.proofs.Common.{◌≡◌, length}
 use Rattle.cha_board.proofs.Pulls.{here, sides, up, down, left, right, either, pull_here, pull_up, pull_down, pull_left, pull_right, pull_joined, pull_sides, width_of}
 use Rattle.mob_check.proofs.Spreads.{far_sides, knight_spreads}
-use Rattle.mob_check.proofs.steps.knight_jumps.Goals as goal
+use Rattle.mob_check.proofs.single_steps.knight_jumps.Goals as goal
 
 pub returns : goal.returns
 returns c = λ side.

@@ -1,10 +1,10 @@
 use Rattle.std.proofs.Common.{◌≡◌, ◌∙◌, length, sym, ap}
 use Rattle.cha_board.specs.declared.men.Color.{Color}
 use Rattle.cha_board.specs.declared.men.Kind.TheVariants.{Pawn}
-use Rattle.mob_check.specs.Steps.{spread_of}
+use Rattle.mob_check.specs.SingleSteps.{spread_of}
 use Rattle.cha_board.proofs.Pulls.{sides, pull_up, pull_down, pull_sides, width_of}
 use Rattle.mob_check.proofs.Spreads.{white_spreads, black_spreads}
-use Rattle.mob_check.proofs.steps.pawn_captures.Goals as goal
+use Rattle.mob_check.proofs.single_steps.pawn_captures.Goals as goal
 
 pub returns-in-White : goal.returns-in-White
 returns-in-White c =

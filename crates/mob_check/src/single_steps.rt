@@ -3,7 +3,7 @@
 ghost use Rattle.std.specs.Prelude.{◌≡◌};
 ghost use Rattle.cha_board.specs.declared.men.Color.{Color as Side};
 ghost use Rattle.cha_board.specs.declared.men.Kind.TheVariants.{Pawn, Knight, Bishop, Rook};
-ghost use Rattle.mob_check.specs.Steps.{spread_of};
+ghost use Rattle.mob_check.specs.SingleSteps.{spread_of};
 
 use cha_board::{Color, Kind, SquareSet};
 

@@ -1,7 +1,7 @@
 use Rattle.std.proofs.Common.{◌≡◌, length}
 use Rattle.cha_board.proofs.Pulls.{sides, up, down, pull_up, pull_down, pull_joined, pull_sides, width_of}
 use Rattle.mob_check.proofs.Spreads.{bishop_spreads}
-use Rattle.mob_check.proofs.steps.diagonal_steps.Goals as goal
+use Rattle.mob_check.proofs.single_steps.diagonal_steps.Goals as goal
 
 pub returns : goal.returns
 returns c = λ side.

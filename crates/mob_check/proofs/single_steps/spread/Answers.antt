@@ -1,8 +1,8 @@
 use Rattle.std.proofs.Common.{◌∙◌, sym, ap}
 use Rattle.cha_board.specs.declared.men.Kind.{Kind}
-use Rattle.mob_check.specs.Steps.{spread_of}
+use Rattle.mob_check.specs.SingleSteps.{spread_of}
 use Rattle.mob_check.proofs.Spreads.{king_spreads}
-use Rattle.mob_check.proofs.steps.spread.Goals as goal
+use Rattle.mob_check.proofs.single_steps.spread.Goals as goal
 
 pub returns-in-Queen : goal.returns-in-Queen
 returns-in-Queen c =

@@ -13,10 +13,10 @@ use Rattle.pgn_lex.specs.Tokens.{piece, placed, tokens_after, has_mark, tokens}
 use Rattle.pgn_games.specs.declared.faults.GameFault.{GameFault}
 use Rattle.pgn_games.specs.declared.faults.GameFault.TheVariants.{BadToken, Unclosed, ValueTooLong, Variant, TooManyPlies}
 use Rattle.pgn_games.specs.declared.played.Game.{Game}
-use Rattle.pgn_games.specs.declared.turns.Place.{Place}
-use Rattle.pgn_games.specs.declared.turns.Place.TheVariants.{Before, Tags, Moves}
-use Rattle.pgn_games.specs.declared.turns.Turn.{Turn}
-use Rattle.pgn_games.specs.declared.turns.Turn.TheVariants.{Stays, Ends, Begins}
+use Rattle.pgn_games.specs.declared.token_turns.Place.{Place}
+use Rattle.pgn_games.specs.declared.token_turns.Place.TheVariants.{Before, Tags, Moves}
+use Rattle.pgn_games.specs.declared.token_turns.Turn.{Turn}
+use Rattle.pgn_games.specs.declared.token_turns.Turn.TheVariants.{Stays, Ends, Begins}
 use Rattle.pgn_games.specs.Cutting.{cut, turn, place_after, onto, put}
 use Rattle.pgn_games.specs.Fields.{move_words, first_bad, is_cut, passes, says_chess, tag_value}
 use Rattle.pgn_games.specs.Games.{games, game_of, fault_of, fault_if, is_open, start_fault}

@@ -12,7 +12,7 @@ use Rattle.cha_fact.specs.Keys.{key_of}
 use Rattle.cha_fact.specs.Entries.{Entry, probe_entry, HasProbe}
 use Rattle.helpmate.specs.declared.answers.RoundDone.{RoundDone}
 use Rattle.helpmate.specs.Rounds.{RoundCalls}
-use Rattle.root_workers.specs.Ends.{RoundsCalls}
+use Rattle.root_workers.specs.RoundAnswers.{RoundsCalls}
 use Rattle.root_workers.specs.declared.answers.RoundsDone.{RoundsDone}
 use Rattle.cha_limits.specs.Bounds.{Bounds}
 use Rattle.cha_verdict.specs.declared.verdicts.Verdict.{Verdict}

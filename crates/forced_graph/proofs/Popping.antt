@@ -14,7 +14,7 @@ use Rattle.cha_moves.proofs.Contained.{not_in_nothing, Contains-cons_here}
 use Rattle.cha_cert.specs.declared.nodes.Part.{Part}
 use Rattle.cha_cert.specs.declared.nodes.Part.TheVariants.{Inner}
 use Rattle.node_store.specs.declared.origin.Origin.{Origin}
-use Rattle.node_store.specs.Lists.{list_at, Has, put, first_name, without_first}
+use Rattle.node_store.specs.NameLists.{list_at, Has, put, first_name, without_first}
 use Rattle.node_store.specs.Nodes.{Node, positions, origins, mark, IsAt}
 use Rattle.node_store.specs.Graphs.{HasOrigin, IsStore}
 use Rattle.node_store.proofs.Marking.{same_positions, same_length, at_marked, at_unmarked}

@@ -13,7 +13,7 @@ use Rattle.cha_moves.specs.Ends.{IsMated}
 use Rattle.cha_cert.specs.declared.nodes.Part.{Part}
 use Rattle.cha_cert.specs.declared.nodes.Part.TheVariants.{Inner}
 use Rattle.node_store.specs.declared.origin.Origin.{Origin}
-use Rattle.node_store.specs.Lists.{put}
+use Rattle.node_store.specs.NameLists.{put}
 use Rattle.node_store.specs.Nodes.{Node, positions, IsAt, IsNew}
 use Rattle.node_store.proofs.Pushing.{push_cases, map_push_cases, map_push_keeps, map_within}
 use Rattle.forced_graph.specs.declared.region.Region.{Region}

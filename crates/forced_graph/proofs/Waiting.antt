@@ -1,7 +1,7 @@
 -- Which names wait as names are put into lists and taken.
 use Rattle.std.proofs.Common.{◌≡◌, ℕ, zero, suc, ◌<◌, ◌⊎◌, inl, inr, List, [], ◌∷◌, length, None, Some, sym, subst, ◌∙◌, arith}
 use Rattle.std.proofs.lemmas.Option.{same_Some}
-use Rattle.node_store.specs.Lists.{list_at, Has, put, first_name, without_first}
+use Rattle.node_store.specs.NameLists.{list_at, Has, put, first_name, without_first}
 use Rattle.node_store.proofs.Naming.{at_set, at_set_same, has_cases, has_none, has_front}
 use Rattle.forced_graph.specs.Regions.{Waits}
 use Rattle.forced_graph.specs.Counts.{how_many}

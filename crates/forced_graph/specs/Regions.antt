@@ -14,7 +14,7 @@ use Rattle.cha_cert.specs.declared.nodes.Part.{Part}
 use Rattle.cha_cert.specs.declared.nodes.Part.TheVariants.{Inner, Leaf, Small, Lone}
 use Rattle.cha_cert.specs.Certificates.{LeafHolds}
 use Rattle.node_store.specs.declared.origin.Origin.{Origin}
-use Rattle.node_store.specs.Lists.{list_at, Has, put}
+use Rattle.node_store.specs.NameLists.{list_at, Has, put}
 use Rattle.node_store.specs.Nodes.{Node, positions, origins, IsAt, IsNew}
 use Rattle.forced_graph.specs.declared.region.Region.{Region}
 use Rattle.forced_graph.specs.Grown.{IsGrown}

@@ -2,4 +2,4 @@
 pub mod Shortest
 pub mod Parts
 -- inside the crate
-pub mod Turns
+pub mod ToMove

@@ -9,9 +9,9 @@ use Rattle.cha_moves.specs.Step.{Move}
 use Rattle.cha_moves.specs.Moves.{after}
 use Rattle.cha_moves.specs.Ends.{IsMated, IsMatingLine, HasNoMateWithin}
 use Rattle.node_store.specs.Nodes.{Node, IsAt, IsLine, IsPath}
-use Rattle.node_store.specs.Lists.{put, first_name}
+use Rattle.node_store.specs.NameLists.{put, first_name}
 use Rattle.node_store.proofs.Pushing.{map_push_keeps, map_within}
-use Rattle.mate_hunt.specs.Mates.{IsMatingMove, HasNoMatingMove, IsMateAfter, HasNoMateAfter, Keeps}
+use Rattle.mate_hunt.specs.MatingMoves.{IsMatingMove, HasNoMatingMove, IsMateAfter, HasNoMateAfter, Keeps}
 
 -- nodes stay, and further ones are added behind
 pub keeps_same : (old new : List Node) → new ≡ old → Keeps old new

@@ -1,2 +1,2 @@
 -- inside the crate
-pub mod Mates
+pub mod MatingMoves

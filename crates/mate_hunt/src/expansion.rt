@@ -3,7 +3,7 @@
 ghost use Rattle.std.specs.Prelude.{◌≡◌, ◌<◌, [], length, IfOk, IfSome, IfNone};
 ghost use Rattle.cha_moves.specs.Ends.{IsMatingLine};
 ghost use Rattle.node_store.specs.Nodes.{IsAt, IsReached};
-ghost use Rattle.mate_hunt.specs.Mates.{IsMateAfter, HasNoMateAfter, Keeps};
+ghost use Rattle.mate_hunt.specs.MatingMoves.{IsMateAfter, HasNoMateAfter, Keeps};
 
 use crate::waiting::Waiting;
 use cha_board::{Color, Position};

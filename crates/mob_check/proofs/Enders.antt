@@ -18,7 +18,7 @@ use Rattle.mob_law.proofs.Geometry.{near}
 use Rattle.mob_check.specs.SingleSteps.{is_stepped_to, spread_of}
 use Rattle.mob_check.specs.declared.scene.Scene.{Scene}
 use Rattle.mob_check.specs.Scenes.{squares_as}
-use Rattle.mob_check.specs.Mates.{ends_at, check_ends, stays_as}
+use Rattle.mob_check.specs.MatesInReach.{ends_at, check_ends, stays_as}
 
 -- a man steps or jumps where one of the other side steps or jumps back
 pub steps_back : (c : Color) (k : Kind) (s t : ℕ) → s < 64 → t < 64 → steps_to (other_color c) k t s ≡ steps_to c k s t

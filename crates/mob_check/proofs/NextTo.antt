@@ -4,7 +4,7 @@ use Rattle.cha_board.specs.Squares.{steps_apart}
 use Rattle.cha_board.specs.SquareSets.{set_of, has_square, set_joined, set_minus}
 use Rattle.cha_board.proofs.SetLaws.{has-set_of, same_set}
 use Rattle.mob_check.specs.Nearness.{is_next_to, next_to}
-use Rattle.mob_check.specs.Mates.{is_left, left_squares}
+use Rattle.mob_check.specs.MatesInReach.{is_left, left_squares}
 
 pub near_has : (s n : ℕ) → n < 64 → has_square (next_to s) n ≡ (steps_apart s n == 1)
 unfolding next_to is_next_to

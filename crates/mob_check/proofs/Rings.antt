@@ -20,7 +20,7 @@ use Rattle.mob_check.specs.declared.ring.Ring.{Ring}
 use Rattle.mob_check.specs.Nearness.{next_to}
 use Rattle.mob_check.specs.Reaches.{origins_of}
 use Rattle.mob_check.specs.Scenes.{squares_as, scene_of}
-use Rattle.mob_check.specs.Mates.{is_left, left_squares, is_filled, shuts_from, may_shut, stays_as, stays_on, men_near}
+use Rattle.mob_check.specs.MatesInReach.{is_left, left_squares, is_filled, shuts_from, may_shut, stays_as, stays_on, men_near}
 use Rattle.cha_moves.proofs.MateMoves.{in_squares}
 use Rattle.mob_check.proofs.Counting.{squares_apart, in_listed, counts, given}
 use Rattle.mob_check.proofs.MenInReach.{squares_as_is, king_gives, king_from, man_gives, man_from, near_gives, near_from, small_of}

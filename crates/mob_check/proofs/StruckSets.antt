@@ -16,7 +16,7 @@ use Rattle.mob_check.proofs.Gathering.{Gathers}
 use Rattle.mob_check.specs.declared.scene.Scene.{Scene}
 use Rattle.mob_check.specs.Nearness.{next_to}
 use Rattle.mob_check.specs.Scenes.{squares_as, all_in_reach}
-use Rattle.mob_check.specs.Mates.{strikes, struck_by, strikes_as, strikes_from, struck}
+use Rattle.mob_check.specs.MatesInReach.{strikes, struck_by, strikes_as, strikes_from, struck}
 use Rattle.mob_check.proofs.NextTo.{near_has}
 use Rattle.mob_check.proofs.Unreached.{no_strike_as}
 

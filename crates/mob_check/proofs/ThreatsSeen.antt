@@ -21,7 +21,7 @@ use Rattle.mob_sets.proofs.KindTests.{any_kind_at, some_kind}
 use Rattle.mob_check.specs.declared.scene.Scene.{Scene}
 use Rattle.mob_check.specs.declared.ring.Ring.{Ring}
 use Rattle.mob_check.specs.Scenes.{squares_as, has_at_most_one, scene_of}
-use Rattle.mob_check.specs.Mates.{checks_as, checks_from, has_check, seen_through, strikes, struck_by, strikes_as, strikes_from, struck, may_shut, stays_on, ring_of_one, mates_with_all, mates_as, mates_from, mates_with_one, men_near, mates_among, may_mate_on, may_mate}
+use Rattle.mob_check.specs.MatesInReach.{checks_as, checks_from, has_check, seen_through, strikes, struck_by, strikes_as, strikes_from, struck, may_shut, stays_on, ring_of_one, mates_with_all, mates_as, mates_from, mates_with_one, men_near, mates_among, may_mate_on, may_mate}
 use Rattle.mob_check.proofs.Choices.{chosen, chosen_first, chosen_second}
 use Rattle.mob_check.proofs.Seeing.{open_is, through_is}
 use Rattle.mob_check.proofs.Rings.{apart_from, apart_tells, Filled, Fills, filled_test, filled_gives, shut_test, shut_gives, stays_test, stays_give}

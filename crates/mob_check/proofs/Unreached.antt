@@ -15,7 +15,7 @@ use Rattle.mob_sets.proofs.KindTests.{no_kind}
 use Rattle.mob_check.specs.declared.scene.Reach.{Reach}
 use Rattle.mob_check.specs.declared.scene.Scene.{Scene}
 use Rattle.mob_check.specs.Scenes.{squares_as, all_in_reach}
-use Rattle.mob_check.specs.Mates.{checks_as, checks_from, has_check, seen_through, strikes_as, mates_as, mates_from, mates_with_one, mates_with_all, mates_among, men_near, may_mate_on, may_mate}
+use Rattle.mob_check.specs.MatesInReach.{checks_as, checks_from, has_check, seen_through, strikes_as, mates_as, mates_from, mates_with_one, mates_with_all, mates_among, men_near, may_mate_on, may_mate}
 
 neither : (a b : Bool) → (a || b) ≡ false → (a ≡ false) × (b ≡ false)
 neither true b h = cc

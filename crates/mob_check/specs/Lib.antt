@@ -7,4 +7,4 @@ pub mod Reaches
 pub mod Closing
 pub mod Nearness
 pub mod Scenes
-pub mod Mates
+pub mod MatesInReach

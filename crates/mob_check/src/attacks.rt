@@ -5,14 +5,14 @@ ghost use Rattle.std.specs.List.{list_any};
 ghost use Rattle.cha_board.specs.SquareSets.{set_of};
 ghost use Rattle.cha_board.specs.Aims.{aims_over};
 ghost use Rattle.mob_sets.specs.Rows.{kinds};
-ghost use Rattle.mob_check.specs.Mates.{checks_as, checks_from, has_check, struck_by, strikes_as, struck as struck_set};
+ghost use Rattle.mob_check.specs.MatesInReach.{checks_as, checks_from, has_check, struck_by, strikes_as, struck as struck_set};
 
 use crate::near::squares_near;
 use crate::scene::{Scene, reach_as, somewhere};
 use cha_board::{Color, Kind, Square, SquareSet, aims};
 
 /// Whether a man of the winner may give check to the king on a square.
-#[tactic(auto, unfolding(crate::specs::Mates::has_check), using(crate::proofs::Unreached::no_check_from))]
+#[tactic(auto, unfolding(crate::specs::MatesInReach::has_check), using(crate::proofs::Unreached::no_check_from))]
 pub fn some_check(scene: &Scene, king: Square) -> bool
     ensures { result ≡ has_check scene.now king }
 {
@@ -27,7 +27,7 @@ pub fn some_check(scene: &Scene, king: Square) -> bool
 }
 
 /// Whether a man of the winner may give check from a square.
-#[tactic(auto, unfolding(crate::specs::Mates::checks_from))]
+#[tactic(auto, unfolding(crate::specs::MatesInReach::checks_from))]
 fn check_from(scene: &Scene, king: Square, from: Square) -> bool
     ensures { result ≡ checks_from scene.now king from }
 {
@@ -40,7 +40,7 @@ fn check_from(scene: &Scene, king: Square, from: Square) -> bool
 }
 
 /// Whether a man of the winner may give check from a square, as a kind.
-#[tactic(auto, unfolding(crate::specs::Mates::checks_as))]
+#[tactic(auto, unfolding(crate::specs::MatesInReach::checks_as))]
 pub fn check_as(scene: &Scene, king: Square, from: Square, kind: Kind) -> bool
     ensures { result ≡ checks_as scene.now king from kind }
 {

@@ -8,7 +8,7 @@ ghost use Rattle.mob_law.specs.Threats.{HasNoMate};
 ghost use Rattle.mob_sets.specs.Rows.{sets_of};
 
 use crate::closing::closed;
-use crate::mates::no_mate;
+use crate::mates_in_reach::no_mate;
 use cha_board::{Color, Position};
 use mob_sets::Sets;
 

@@ -4,7 +4,7 @@ ghost use Rattle.std.specs.Prelude.{◌≡◌};
 ghost use Rattle.std.specs.List.{list_any};
 ghost use Rattle.cha_board.specs.SquareSets.{set_of};
 ghost use Rattle.mob_law.specs.Threats.{ends_check};
-ghost use Rattle.mob_check.specs.Mates.{is_filled, stays_as, stays_on, ring_of_one, check_ends};
+ghost use Rattle.mob_check.specs.MatesInReach.{is_filled, stays_as, stays_on, ring_of_one, check_ends};
 
 use crate::attacks::struck_from;
 use crate::scene::{Scene, reach_as};
@@ -23,7 +23,7 @@ pub struct Ring {
 }
 
 /// Whether the loser's men may stand on all of these squares, and are as many.
-#[tactic(auto, unfolding(crate::specs::Mates::is_filled))]
+#[tactic(auto, unfolding(crate::specs::MatesInReach::is_filled))]
 pub fn fills(ring: &Ring, left: SquareSet) -> bool
     ensures { result ≡ is_filled ring.now left }
 {
@@ -31,7 +31,7 @@ pub fn fills(ring: &Ring, left: SquareSet) -> bool
 }
 
 /// What keeps a king in while the winner's only man, as a kind on a square, gives check.
-#[tactic(auto, unfolding(crate::specs::Mates::ring_of_one))]
+#[tactic(auto, unfolding(crate::specs::MatesInReach::ring_of_one))]
 pub fn ring_of(
     scene: &Scene,
     seen: SquareSet,
@@ -50,7 +50,7 @@ pub fn ring_of(
 }
 
 /// The squares on which a man of the loser may stand that could not at once end a check from a square.
-#[tactic(auto, unfolding(crate::specs::Mates::stays_on))]
+#[tactic(auto, unfolding(crate::specs::MatesInReach::stays_on))]
 fn staying(scene: &Scene, king: Square, from: Square) -> SquareSet
     ensures { result ≡ stays_on scene.now king from }
 {

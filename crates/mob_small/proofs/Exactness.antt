@@ -18,7 +18,7 @@ use Rattle.cha_board.proofs.Identity.{man_of, on_board, is_man_from, some_inj, s
 use Rattle.cha_board.proofs.ManTests.{either_color, kinds_differ}
 use Rattle.cha_board.proofs.Scans.{any_square_at}
 use Rattle.mob_small.specs.Small.{HasNoPawn, HasOnlyKing, HasOneBeside, HasBeside, IsMateFree, IsSmallUnwinnable}
-use Rattle.mob_small.specs.Table.{is_free, AreMateFree, HasSeveral}
+use Rattle.mob_small.specs.MateFreeKinds.{is_free, AreMateFree, HasSeveral}
 use Rattle.mob_small.proofs.NoMate.{free_mates_not}
 use Rattle.mob_small.proofs.Keeping.{free_in_table, pawn_kind}
 use Rattle.mob_small.proofs.Scene.{non_king_of, non_king_inside, non_king_man}

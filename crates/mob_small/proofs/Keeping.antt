@@ -18,7 +18,7 @@ use Rattle.mob_law.specs.Closed.{IsClosed}
 use Rattle.mob_law.proofs.Begin.{facts_begin}
 use Rattle.mob_law.proofs.Facts.{Facts, FactsHold}
 use Rattle.mob_small.specs.Small.{HasNoPawn, HasOnlyKing, HasBeside, IsMateFree, IsSmallUnwinnable}
-use Rattle.mob_small.specs.Table.{is_free}
+use Rattle.mob_small.specs.MateFreeKinds.{is_free}
 use Rattle.mob_small.proofs.NoMate.{free_mates_not}
 use Rattle.mob_small.proofs.Scene.{bare_mates_not, non_king_inside}
 use Rattle.mob_small.proofs.Witnesses.{some_mate}

@@ -17,7 +17,7 @@ use Rattle.cha_moves.proofs.Clearing.{clear_at}
 use Rattle.cha_moves.proofs.Made.{moved_to}
 use Rattle.mob_law.proofs.Standing.{all_weaker}
 use Rattle.mob_small.specs.Small.{HasOnlyKing, HasOneBeside, HasBeside}
-use Rattle.mob_small.specs.Table.{is_free}
+use Rattle.mob_small.specs.MateFreeKinds.{is_free}
 use Rattle.mob_small.proofs.BesideKing.{flight_tables, reply_tables, is_hole, along_rank, along_file, across, there}
 use Rattle.mob_small.proofs.Flights.{Flight, flight, not_both, Answer, answer}
 use Rattle.mob_small.proofs.Scene.{Shown, shown, non_king_man}

@@ -16,7 +16,7 @@ use Rattle.cha_moves.specs.Moves.{is_step, is_double_step, is_pawn_capture, is_e
 use Rattle.cha_moves.specs.MateLines.{is_mated}
 use Rattle.cha_moves.proofs.Mated.{mated_is}
 use Rattle.mob_small.specs.Small.{HasOnlyKing, HasOneBeside, HasBeside, no_rights, IsSmallMate}
-use Rattle.mob_small.specs.Table.{is_free}
+use Rattle.mob_small.specs.MateFreeKinds.{is_free}
 use Rattle.mob_small.proofs.Scene.{non_king_inside}
 
 -- a man on a square

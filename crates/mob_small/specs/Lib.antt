@@ -2,4 +2,4 @@
 pub mod Small
 pub mod Lone
 -- what only the crate's own functions and lemmas use
-pub mod Table
+pub mod MateFreeKinds

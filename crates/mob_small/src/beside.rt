@@ -2,7 +2,7 @@
 
 ghost use Rattle.std.specs.Prelude.{OnErr, IfOk};
 ghost use Rattle.mob_small.specs.Small.{HasBeside};
-ghost use Rattle.mob_small.specs.Table.{HasSeveral};
+ghost use Rattle.mob_small.specs.MateFreeKinds.{HasSeveral};
 
 use cha_board::{Color, Kind, Position};
 

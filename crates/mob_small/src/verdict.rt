@@ -3,10 +3,10 @@
 ghost use Rattle.std.specs.Prelude.{◌≢◌, ◌↔◌, Some, IsTrue};
 ghost use Rattle.cha_board.specs.declared.men.Kind.TheVariants.{Pawn, King};
 ghost use Rattle.mob_small.specs.Small.{HasNoPawn, IsSmallUnwinnable};
-ghost use Rattle.mob_small.specs.Table.{AreMateFree};
+ghost use Rattle.mob_small.specs.MateFreeKinds.{AreMateFree};
 
 use crate::beside::kind_beside;
-use crate::table::mate_free;
+use crate::mate_free_kinds::mate_free;
 use cha_board::{Color, Kind, Position};
 
 /// Whether a position has small material with which a side cannot mate: no pawn, at most one man beside each king, and

@@ -7,7 +7,7 @@ use Rattle.cha_board.specs.Board.{Board, IsValid}
 use Rattle.node_store.specs.declared.spot.Spot.{Spot}
 use Rattle.node_store.specs.declared.origin.Origin.{Origin}
 use Rattle.node_store.specs.declared.origin.Place.{Place}
-use Rattle.node_store.specs.Lists.{list_at, Has, AreBelow, put}
+use Rattle.node_store.specs.NameLists.{list_at, Has, AreBelow, put}
 use Rattle.node_store.specs.Nodes.{Node, leaves, IsNew, IsReached}
 use Rattle.node_store.specs.Graphs.{IsStore}
 use Rattle.node_store.specs.Places.{node_of, nodes_of, AreStored}

@@ -2,7 +2,7 @@
 use Rattle.std.proofs.Common.{◌≡◌, ◌≢◌, ℕ, zero, suc, ◌+◌, ◌-◌, ◌<◌, ◌≤◌, inl, inr, List, [], ◌∷◌, ◌++◌, length, replicate, refl, sym, ap, subst, ◌∙◌, arith, Some, None, length-set, set, get_or, get_or-set_same, get_or-set_other}
 use Rattle.std.proofs.lemmas.List.{length_push, get_or_append_left, map-set, set-get_or, get_or_read}
 use Rattle.node_store.specs.declared.chains.Head.{Head}
-use Rattle.node_store.specs.Lists.{list_at, Has, AreBelow, put, front_of, rest_of, take_from}
+use Rattle.node_store.specs.NameLists.{list_at, Has, AreBelow, put, front_of, rest_of, take_from}
 use Rattle.node_store.specs.Chained.{AreChained}
 use Rattle.node_store.specs.Links.{chain, list_of, lists_of}
 use Rattle.node_store.proofs.Naming.{has_front, has_rest, few_fall, falls_put, falls_rest, below_put, chained_set, chained_more, chained_none}

@@ -5,7 +5,7 @@ use Rattle.cha_board.specs.Board.{Board}
 use Rattle.node_store.specs.declared.spot.Spot.{Spot}
 use Rattle.node_store.specs.declared.origin.Origin.{Origin}
 use Rattle.node_store.specs.declared.origin.Place.{Place}
-use Rattle.node_store.specs.Lists.{list_at, Has}
+use Rattle.node_store.specs.NameLists.{list_at, Has}
 use Rattle.node_store.specs.Nodes.{Node, positions, leaves, mark, IsAt}
 use Rattle.node_store.specs.Graphs.{HasOrigin, IsStore}
 use Rattle.node_store.specs.Places.{node_of, nodes_of, AreStored}

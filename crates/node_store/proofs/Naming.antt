@@ -1,6 +1,6 @@
 -- Lists of names, and lists of which one changes.
 use Rattle.std.proofs.Common.{◌≡◌, ℕ, zero, suc, ◌<◌, ◌≤◌, ◌⊎◌, inl, inr, List, [], ◌∷◌, length, replicate, refl, sym, ap, subst, ◌∙◌, arith, set, length-set}
-use Rattle.node_store.specs.Lists.{list_at, Has, AreBelow, Falls, rest_of}
+use Rattle.node_store.specs.NameLists.{list_at, Has, AreBelow, Falls, rest_of}
 use Rattle.node_store.specs.Chained.{AreChained}
 
 -- a list of which one was replaced is the new one or is as it was

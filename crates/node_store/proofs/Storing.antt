@@ -4,7 +4,7 @@ use Rattle.std.proofs.lemmas.List.{length_push}
 use Rattle.std.specs.Option.{IfSome, IfNone}
 use Rattle.cha_board.specs.Board.{Board, IsValid}
 use Rattle.node_store.specs.declared.origin.Origin.{Origin}
-use Rattle.node_store.specs.Lists.{list_at, Has, AreBelow, Falls, put, front_of, rest_of, take_from, first_name, without_first}
+use Rattle.node_store.specs.NameLists.{list_at, Has, AreBelow, Falls, put, front_of, rest_of, take_from, first_name, without_first}
 use Rattle.node_store.specs.Nodes.{Node, leaves, IsAt, IsNew, IsReached}
 use Rattle.node_store.specs.Graphs.{HasOrigin, IsStore}
 use Rattle.node_store.proofs.Naming.{at_set, at_set_same, at_empty, has_cases, has_none, has_rest, falls_put, falls_rest, falls_none, below_front, has_front}

@@ -1,6 +1,6 @@
 -- What contracts see of chains.
 use Rattle.std.specs.Prelude.{◌≡◌, ℕ, ◌<◌, List, length}
-use Rattle.node_store.specs.Lists.{list_at, Has, Falls}
+use Rattle.node_store.specs.NameLists.{list_at, Has, Falls}
 
 -- 64 lists of names, the number of names that there are, and how many more there is room for
 pub record Chained : Type 0 where

@@ -2,7 +2,7 @@
 use Rattle.std.specs.Prelude.{◌≡◌, ℕ, ◌<◌, false, List, length, Option, None, Some, slice_get}
 use Rattle.cha_board.specs.Board.{Board, IsValid}
 use Rattle.node_store.specs.declared.origin.Origin.{Origin}
-use Rattle.node_store.specs.Lists.{list_at, Has, Falls}
+use Rattle.node_store.specs.NameLists.{list_at, Has, Falls}
 use Rattle.node_store.specs.Nodes.{Node, leaves, IsAt, IsReached}
 
 -- the nodes, in the order of their names; 64 lists of the names that wait, each with the last that was added in front;

@@ -1,5 +1,5 @@
 -- what public contracts say
-pub mod Lists
+pub mod NameLists
 pub mod Chained
 pub mod Links
 pub mod Nodes

@@ -1,7 +1,7 @@
 //! 64 lists of names, linked by index: each list has its front, and each name the one that follows it.
 
 ghost use Rattle.std.specs.Prelude.{◌≡◌, ◌≢◌, ◌+◌, ◌-◌, ◌<◌, ◌≤◌, ℕ, [], replicate, OnOk, OnErr, IfSome, IfNone, vec_len, vec_capacity};
-ghost use Rattle.node_store.specs.Lists.{list_at, Has, AreBelow, put, front_of, take_from};
+ghost use Rattle.node_store.specs.NameLists.{list_at, Has, AreBelow, put, front_of, take_from};
 ghost use Rattle.node_store.specs.Chained.{AreChained};
 
 use cha_list::{NoMemory, Steps};

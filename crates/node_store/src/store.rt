@@ -2,7 +2,7 @@
 
 ghost use Rattle.std.specs.Prelude.{◌≡◌, ◌+◌, ◌<◌, ◌≤◌, ℕ, [], ◌∷◌, ◌++◌, false, true, None, Some, length, replicate, slice_get, IfSome, IfNone, IfOk, OnOk, OnErr};
 ghost use Rattle.cha_board.specs.Board.{Board};
-ghost use Rattle.node_store.specs.Lists.{list_at, Has, put, first_name, without_first};
+ghost use Rattle.node_store.specs.NameLists.{list_at, Has, put, first_name, without_first};
 ghost use Rattle.node_store.specs.Nodes.{leaves, origins, mark, IsAt, IsNew, IsReached};
 ghost use Rattle.node_store.specs.Graphs.{IsStore, HasOrigin};
 

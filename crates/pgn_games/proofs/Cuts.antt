@@ -3,9 +3,9 @@ use Rattle.std.proofs.Common.{◌≡◌, ℕ, ◌+◌, ◌≤◌, ◌==◌, ◌&
 use Rattle.pgn_lex.specs.declared.kinds.Token.{Token}
 use Rattle.pgn_lex.specs.declared.kinds.Token.TheVariants.{Tag, BadTag, Word, Star, Enter, Leave, Bad, Unclosed}
 use Rattle.pgn_lex.specs.declared.kinds.Placed.{Placed}
-use Rattle.pgn_games.specs.declared.turns.Place.{Place}
-use Rattle.pgn_games.specs.declared.turns.Place.TheVariants.{Before, Tags, Moves}
-use Rattle.pgn_games.specs.declared.turns.Turn.TheVariants.{Stays, Ends, Begins}
+use Rattle.pgn_games.specs.declared.token_turns.Place.{Place}
+use Rattle.pgn_games.specs.declared.token_turns.Place.TheVariants.{Before, Tags, Moves}
+use Rattle.pgn_games.specs.declared.token_turns.Turn.TheVariants.{Stays, Ends, Begins}
 use Rattle.pgn_games.specs.Cutting.{mark_of, is_tag, depth_after, open_at, tag_turn, move_turn, turn, place_after, put, cut}
 
 pub cut_step : (place : Place) (t : Placed) (ts : List Placed) → cut place (t ∷ ts) ≡ put (turn place t.token) t (cut (place_after (turn place t.token)) ts)

@@ -5,7 +5,7 @@ use Rattle.pgn_lex.specs.declared.kinds.Token.{Token}
 use Rattle.pgn_lex.specs.declared.kinds.Token.TheVariants.{Tag, BadTag, Word, Star, Enter, Leave, Bad}
 use Rattle.pgn_lex.specs.declared.kinds.Placed.{Placed}
 use Rattle.pgn_games.specs.declared.marks.ResultMark.TheVariants as result
-use Rattle.pgn_games.specs.declared.turns.Place.TheVariants.{Before}
+use Rattle.pgn_games.specs.declared.token_turns.Place.TheVariants.{Before}
 use Rattle.pgn_games.specs.Cutting.{mark_of, is_tag, depth_after, turn, cut}
 use Rattle.pgn_games.specs.Fields.{outside, value_named, tag_value, recorded_in, move_word, move_words, is_bad, first_bad, is_unclosed, says_forfeit, says_chess}
 use Rattle.pgn_games.specs.Games.{is_open}

@@ -8,12 +8,12 @@ use Rattle.pgn_lex.specs.Lexing.{Appends}
 use Rattle.pgn_lex.specs.Tokens.{tokens, has_mark, settled_after, has_half_mark, settled_tokens}
 use Rattle.pgn_lex.proofs.Feeding.{settled_first}
 use Rattle.pgn_games.specs.declared.played.Game.{Game}
-use Rattle.pgn_games.specs.declared.turns.Place.TheVariants.{Before}
+use Rattle.pgn_games.specs.declared.token_turns.Place.TheVariants.{Before}
 use Rattle.pgn_games.specs.Cutting.{cut}
 use Rattle.pgn_games.specs.Games.{game_of, games}
 use Rattle.pgn_games.specs.Settling.{games_ended, settled_games}
 use Rattle.pgn_games.specs.Holding.{first_end, IsScanned, IsCut, IsCutAtEnd, IsOpen, IsLast}
-use Rattle.pgn_games.proofs.Ends.{closes, none_ended, some_first, none_scanned, nothing_scanned, open_game}
+use Rattle.pgn_games.proofs.GameEnds.{closes, none_ended, some_first, none_scanned, nothing_scanned, open_game}
 use Rattle.pgn_games.proofs.Settled.{take_map, length_map}
 
 -- before the first byte

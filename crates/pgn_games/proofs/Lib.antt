@@ -1,6 +1,6 @@
 pub mod Cuts
 pub mod EachToken
-pub mod Ends
+pub mod GameEnds
 pub mod Examples
 pub mod KeptTokens
 pub mod KeptWords

@@ -2,12 +2,12 @@
 use Rattle.std.proofs.Common.{◌≡◌, ◌+◌, ◌-◌, ◌^◌, ◌<◌, ◌==◌, Bool, true, false, List, [], ◌∷◌, ◌++◌, Some, length, slice_index_or, sym, ap, ◌∙◌, arith, append_assoc, length-append}
 use Rattle.std.specs.List.{remove}
 use Rattle.pgn_lex.specs.declared.kinds.Placed.{Placed}
-use Rattle.pgn_games.specs.declared.turns.Place.{Place}
-use Rattle.pgn_games.specs.declared.turns.Place.TheVariants.{Before}
-use Rattle.pgn_games.specs.declared.turns.Turn.TheVariants.{Stays, Ends, Begins}
+use Rattle.pgn_games.specs.declared.token_turns.Place.{Place}
+use Rattle.pgn_games.specs.declared.token_turns.Place.TheVariants.{Before}
+use Rattle.pgn_games.specs.declared.token_turns.Turn.TheVariants.{Stays, Ends, Begins}
 use Rattle.pgn_games.specs.Cutting.{turn}
 use Rattle.pgn_games.specs.Holding.{first_end, IsScanned}
-use Rattle.pgn_games.proofs.Ends.{scanned_more, ends_scanned, begins_scanned}
+use Rattle.pgn_games.proofs.GameEnds.{scanned_more, ends_scanned, begins_scanned}
 
 pub first_item : (xs : List Placed) (t : Placed) → 0 < length xs → t ≡ slice_index_or xs 0 t → xs ≡ t ∷ remove xs 0
 first_item [] t some e = absurd (omega arith)

@@ -2,11 +2,11 @@
 use Rattle.std.proofs.Common.{◌≡◌, ℕ, zero, suc, ◌≤◌, List, [], ◌∷◌, ◌++◌, length, take, map, refl, sym, ap, ◌∙◌, arith, append-nil}
 use Rattle.pgn_lex.specs.declared.kinds.Placed.{Placed}
 use Rattle.pgn_lex.specs.Tokens.{tokens, settled_tokens}
-use Rattle.pgn_games.specs.declared.turns.Place.TheVariants.{Before}
+use Rattle.pgn_games.specs.declared.token_turns.Place.TheVariants.{Before}
 use Rattle.pgn_games.specs.Cutting.{cut}
 use Rattle.pgn_games.specs.Games.{game_of, games}
 use Rattle.pgn_games.specs.Settling.{games_ended, settled_games}
-use Rattle.pgn_games.proofs.Ends.{cut_alike, ended_are_there}
+use Rattle.pgn_games.proofs.GameEnds.{cut_alike, ended_are_there}
 
 -- settled tokens are the first ones
 abbrev pub AreFirst : Type 0

@@ -12,7 +12,7 @@ use Rattle.pgn_lex.specs.Tokens.{tokens}
 use Rattle.pgn_games.specs.declared.faults.GameFault.{GameFault}
 use Rattle.pgn_games.specs.declared.faults.GameFault.TheVariants.{BadToken, Unclosed, ValueTooLong, Variant, BadStart, TooManyPlies}
 use Rattle.pgn_games.specs.declared.played.Game.{Game}
-use Rattle.pgn_games.specs.declared.turns.Place.TheVariants.{Before}
+use Rattle.pgn_games.specs.declared.token_turns.Place.TheVariants.{Before}
 use Rattle.pgn_games.specs.Cutting.{cut}
 use Rattle.pgn_games.specs.Fields.{depth_at_end, tag_value, recorded_in, move_words, first_bad, is_unclosed, is_cut, says_forfeit, says_chess, passes}
 

@@ -3,10 +3,10 @@ use Rattle.std.specs.Prelude.{◌≡◌, ℕ, ◌+◌, ◌*◌, ◌-◌, ◌≤�
 use Rattle.cha_outside.specs.declared.gathering.TheConstants.{MOST_BYTES}
 use Rattle.pgn_lex.specs.declared.kinds.Placed.{Placed}
 use Rattle.pgn_lex.specs.Tokens.{tokens, settled_tokens}
-use Rattle.pgn_games.specs.declared.turns.Place.{Place}
-use Rattle.pgn_games.specs.declared.turns.Place.TheVariants.{Before}
-use Rattle.pgn_games.specs.declared.turns.Turn.{Turn}
-use Rattle.pgn_games.specs.declared.turns.Turn.TheVariants.{Stays, Ends, Begins}
+use Rattle.pgn_games.specs.declared.token_turns.Place.{Place}
+use Rattle.pgn_games.specs.declared.token_turns.Place.TheVariants.{Before}
+use Rattle.pgn_games.specs.declared.token_turns.Turn.{Turn}
+use Rattle.pgn_games.specs.declared.token_turns.Turn.TheVariants.{Stays, Ends, Begins}
 use Rattle.pgn_games.specs.Cutting.{turn, place_after, open_at, cut}
 use Rattle.pgn_games.specs.Settling.{games_ended}
 

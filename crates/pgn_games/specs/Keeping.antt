@@ -2,7 +2,7 @@
 use Rattle.std.specs.Prelude.{◌≡◌, ℕ, Bool, true, false, List, ◌++◌, drop, length, Option, Some, None, Result, Ok, Err}
 use Rattle.cha_list.specs.declared.memory.NoMemory.{NoMemory}
 use Rattle.pgn_games.specs.declared.played.Game.{Game}
-use Rattle.pgn_games.specs.declared.turns.Place.TheVariants.{Before}
+use Rattle.pgn_games.specs.declared.token_turns.Place.TheVariants.{Before}
 use Rattle.pgn_games.specs.declared.cutter.Cutter.{Cutter}
 use Rattle.pgn_games.specs.Holding.{first_end, IsScanned, IsOpen, IsLast}
 

@@ -13,7 +13,7 @@ use crate::filling::{Filled, fill};
 use crate::gathering::{Standing, gather};
 use crate::played::Game;
 use crate::summary::Summary;
-use crate::turns::Place;
+use crate::token_turns::Place;
 use cha_list::NoMemory;
 use cha_outside::{MOST_BYTES, ReadEnd, Source};
 use pgn_lex::{Lexer, Placed};

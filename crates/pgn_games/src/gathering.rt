@@ -3,11 +3,11 @@
 ghost use Rattle.std.specs.Prelude.{◌≡◌, ◌+◌, ◌-◌, ◌^◌, ◌<◌, ◌++◌, [], length, OnOk};
 ghost use Rattle.std.specs.declared.result.Result.TheVariants.{Ok};
 ghost use Rattle.std.specs.declared.option.Option.TheVariants.{Some};
-ghost use Rattle.pgn_games.specs.declared.turns.Place.TheVariants.{Before};
+ghost use Rattle.pgn_games.specs.declared.token_turns.Place.TheVariants.{Before};
 ghost use Rattle.pgn_games.specs.Holding.{first_end, IsScanned};
 
 use crate::summary::Summary;
-use crate::turns::{Place, Turn, turned};
+use crate::token_turns::{Place, Turn, turned};
 use cha_list::NoMemory;
 use pgn_lex::Placed;
 

@@ -8,7 +8,7 @@ ghost use Rattle.pgn_games.specs.Summing.{word_outside, with_word};
 
 use crate::marks::ResultMark;
 use crate::played::Words;
-use crate::turns::{mark, word_mark};
+use crate::token_turns::{mark, word_mark};
 use cha_list::{NoMemory, Text};
 use pgn_lex::{Placed, Token};
 

@@ -13,7 +13,7 @@ use crate::marks::ResultMark;
 use crate::movetext::{bad_outside, keep_word, mark_outside, unclosed};
 use crate::played::{Game, Words};
 use crate::tag_pairs::{TagValues, forfeited, other_game, start_refused, started, was_cut};
-use crate::turns::deeper;
+use crate::token_turns::deeper;
 use cha_list::NoMemory;
 use pgn_lex::{Placed, Token};
 use std::alloc::Global;

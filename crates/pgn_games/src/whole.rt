@@ -2,7 +2,7 @@
 
 ghost use Rattle.std.specs.Prelude.{◌≡◌, ◌<◌, List, length, flat_map, All};
 ghost use Rattle.pgn_lex.specs.declared.kinds.Placed.{Placed};
-ghost use Rattle.pgn_games.specs.declared.turns.Place.TheVariants.{Before};
+ghost use Rattle.pgn_games.specs.declared.token_turns.Place.TheVariants.{Before};
 ghost use Rattle.pgn_games.specs.Cutting.{cut};
 
 /// Each token of a text belongs to exactly one game: the tokens of the games, game behind game, are the tokens of the text,

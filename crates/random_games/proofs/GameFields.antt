@@ -8,9 +8,9 @@ use Rattle.pgn_lex.specs.declared.kinds.Token.TheVariants.{Tag, Word}
 use Rattle.pgn_lex.specs.declared.kinds.Placed.{Placed}
 use Rattle.pgn_games.specs.declared.marks.ResultMark.{ResultMark}
 use Rattle.pgn_games.specs.declared.marks.ResultMark.TheVariants.{Unknown}
-use Rattle.pgn_games.specs.declared.turns.Place.{Place}
-use Rattle.pgn_games.specs.declared.turns.Place.TheVariants.{Before, Tags, Moves}
-use Rattle.pgn_games.specs.declared.turns.Turn.TheVariants.{Stays, Ends}
+use Rattle.pgn_games.specs.declared.token_turns.Place.{Place}
+use Rattle.pgn_games.specs.declared.token_turns.Place.TheVariants.{Before, Tags, Moves}
+use Rattle.pgn_games.specs.declared.token_turns.Turn.TheVariants.{Stays, Ends}
 use Rattle.pgn_games.specs.Cutting.{mark_of, is_tag, depth_after, open_at, turn, place_after, onto, put, cut}
 use Rattle.pgn_games.specs.Fields.{outside, value_named, tag_value, recorded_in, move_word as word_of, move_words, is_bad, bad_offset, first_bad, is_unclosed, is_cut}
 use Rattle.pgn_games.specs.Games.{is_open}

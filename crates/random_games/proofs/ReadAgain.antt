@@ -22,7 +22,7 @@ use Rattle.pgn_lex.specs.Tokens.{tokens_after, has_mark, tokens}
 use Rattle.pgn_games.specs.declared.faults.GameFault.{GameFault}
 use Rattle.pgn_games.specs.declared.marks.ResultMark.{ResultMark}
 use Rattle.pgn_games.specs.declared.played.Game.{Game}
-use Rattle.pgn_games.specs.declared.turns.Place.TheVariants.{Before}
+use Rattle.pgn_games.specs.declared.token_turns.Place.TheVariants.{Before}
 use Rattle.pgn_games.specs.Cutting.{cut}
 use Rattle.pgn_games.specs.Fields.{tag_value, recorded_in, move_words, says_forfeit, passes}
 use Rattle.pgn_games.specs.Games.{opening, start_of, start_fault, fault_of, game_of, games}

@@ -1,6 +1,6 @@
 //! Tests of what turns bytes into games and plays them.
 //!
-//! `sources` has sources and sinks that fail, `tokens` texts with their tokens, `games` texts with their games, `played` words of
+//! `reads_and_writes` has sources and sinks that fail, `tokens` texts with their tokens, `games` texts with their games, `played` words of
 //! SAN and games that are played to their ends, and `drawn` games that are drawn at random.
 #![tactic(auto)]
 
@@ -11,6 +11,6 @@ mod games;
 #[cfg(test)]
 mod played;
 #[cfg(test)]
-mod sources;
+mod reads_and_writes;
 #[cfg(test)]
 mod tokens;

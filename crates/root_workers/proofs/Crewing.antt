@@ -19,7 +19,7 @@ use Rattle.root_workers.specs.declared.task.Task.{Task}
 use Rattle.root_workers.specs.declared.work.Work.{Work}
 use Rattle.root_workers.specs.declared.work.Worker.{Worker}
 use Rattle.root_workers.specs.declared.answers.RoundsDone.{RoundsDone}
-use Rattle.root_workers.specs.Ends.{RoundsCalls}
+use Rattle.root_workers.specs.RoundAnswers.{RoundsCalls}
 use Rattle.root_workers.specs.Shares.{IsShare, ShareCalls, AllGrow}
 use Rattle.root_workers.specs.Crews.{IsCrew, CrewMakes, LeavesWork, WorkerDone}
 

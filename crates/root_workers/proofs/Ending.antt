@@ -32,7 +32,7 @@ use Rattle.root_workers.specs.declared.answers.RoundsEnd.{RoundsEnd}
 use Rattle.root_workers.specs.declared.answers.RoundsEnd.TheVariants.{Mate, NoneWithin}
 use Rattle.root_workers.specs.declared.answers.RoundsDone.{RoundsDone}
 use Rattle.root_workers.specs.Shares.{IsShare, AreSharesSearched, ShareCalls, AllGrow}
-use Rattle.root_workers.specs.Ends.{IsMateEnd, IsEnd, IsAmple, IsDecidedEnd, FollowsFirst, IsUndecided, HasEndStore, RoundsCalls, claim_of}
+use Rattle.root_workers.specs.RoundAnswers.{IsMateEnd, IsEnd, IsAmple, IsDecidedEnd, FollowsFirst, IsUndecided, HasEndStore, RoundsCalls, claim_of}
 use Rattle.root_workers.specs.Deepens.{plies_of, IsFrom, DeepenCalls, KeepCalls, KeptCalls}
 use Rattle.root_workers.proofs.Going.{the_done, none_depth}
 

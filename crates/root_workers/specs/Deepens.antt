@@ -14,7 +14,7 @@ use Rattle.root_workers.specs.declared.answers.RoundsEnd.{RoundsEnd}
 use Rattle.root_workers.specs.declared.answers.RoundsEnd.TheVariants.{Mate, NoneWithin}
 use Rattle.root_workers.specs.declared.answers.RoundsDone.{RoundsDone}
 use Rattle.root_workers.specs.Shares.{AreSharesSearched}
-use Rattle.root_workers.specs.Ends.{HasEndStore}
+use Rattle.root_workers.specs.RoundAnswers.{HasEndStore}
 
 -- up to which depth a fact shows that there is no mate
 abbrev pub plies_of : Fact → ℕ

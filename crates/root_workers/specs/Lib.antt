@@ -1,6 +1,6 @@
 -- what public contracts say
 pub mod Shares
-pub mod Ends
+pub mod RoundAnswers
 pub mod Crews
 pub mod Gathers
 -- inside the crate

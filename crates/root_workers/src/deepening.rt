@@ -9,7 +9,7 @@ ghost use Rattle.cha_fact.specs.Keys.{key_of};
 ghost use Rattle.cha_fact.specs.Entries.{probe_entry, store_entry};
 ghost use Rattle.helpmate.specs.Rounds.{IsAnswer, decided_by};
 ghost use Rattle.root_workers.specs.Shares.{IsSpent, AllGrow};
-ghost use Rattle.root_workers.specs.Ends.{IsMateEnd, IsEnd, IsAmple, RoundsCalls, claim_of, fact_of};
+ghost use Rattle.root_workers.specs.RoundAnswers.{IsMateEnd, IsEnd, IsAmple, RoundsCalls, claim_of, fact_of};
 ghost use Rattle.root_workers.specs.Deepens.{plies_of, IsFrom, CrewCalls, RoundSearches, DeepenCalls, KeepCalls, KeptCalls};
 
 use crate::answers::{RoundsDone, RoundsEnd};

@@ -5,7 +5,7 @@ ghost use Rattle.cha_board.specs.Men.{other_color};
 ghost use Rattle.cha_moves.specs.Step.{Move as Step};
 ghost use Rattle.cha_moves.specs.Ends.{IsMated, IsMatingLine, IsUnwinnable};
 ghost use Rattle.root_workers.specs.Crews.{IsCrew, CrewMakes};
-ghost use Rattle.root_workers.specs.Ends.{IsMateEnd, IsEnd, IsAmple, RoundsCalls};
+ghost use Rattle.root_workers.specs.RoundAnswers.{IsMateEnd, IsEnd, IsAmple, RoundsCalls};
 
 use crate::answers::{RoundsDone, RoundsEnd};
 use crate::deepening::rounds_by;

@@ -1,5 +1,5 @@
 use Rattle.std.proofs.Common.{ℕ, List, subst, ◌∙◌}
-use Rattle.node_store.specs.Lists.{list_at, Has}
+use Rattle.node_store.specs.NameLists.{list_at, Has}
 use Rattle.node_store.proofs.Storing.{nowhere}
 use Rattle.finding_tests.proofs.stores.one_name.Goals as goal
 

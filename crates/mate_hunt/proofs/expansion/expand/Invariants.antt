@@ -1,7 +1,7 @@
 use Rattle.std.proofs.Common.{◌≡◌}
 use Rattle.cha_moves.specs.Moves.{legal}
 use Rattle.node_store.specs.Nodes.{IsAt}
-use Rattle.mate_hunt.specs.Mates.{Keeps}
+use Rattle.mate_hunt.specs.MatingMoves.{Keeps}
 use Rattle.mate_hunt.proofs.expansion.expand.Given as goal
 
 -- the node is there, and what was there is

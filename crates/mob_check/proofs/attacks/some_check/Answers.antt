@@ -1,7 +1,7 @@
 use Rattle.std.proofs.Common.{◌<◌, sym, ◌∙◌, arith}
 use Rattle.cha_board.proofs.Scans.{any_square_at, no_square}
-use Rattle.mob_check.specs.Mates.{checks_from}
-use Rattle.mob_check.specs.Mates.{has_check}
+use Rattle.mob_check.specs.MatesInReach.{checks_from}
+use Rattle.mob_check.specs.MatesInReach.{has_check}
 use Rattle.mob_check.proofs.attacks.some_check.Goals as goal
 
 pub returns-then-check_from : goal.returns-then-check_from

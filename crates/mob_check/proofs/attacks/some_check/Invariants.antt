@@ -1,5 +1,5 @@
 use Rattle.std.proofs.Common.{◌≡◌, ℕ, ◌<◌, false}
-use Rattle.mob_check.specs.Mates.{checks_from}
+use Rattle.mob_check.specs.MatesInReach.{checks_from}
 use Rattle.mob_check.proofs.attacks.some_check.Given as goal
 
 abbrev pub invariant-loop-index : goal.invariant-loop-index

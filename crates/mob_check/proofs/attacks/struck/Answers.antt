@@ -5,7 +5,7 @@ use Rattle.cha_board.proofs.SetLaws.{has-set_of}
 use Rattle.mob_sets.specs.Rows.{kinds}
 use Rattle.mob_check.proofs.Gathering.{gathers_none, gathers_joined, gathers_skipped, gathers_all}
 use Rattle.mob_check.specs.Scenes.{all_in_reach}
-use Rattle.mob_check.specs.Mates.{strikes_as, strikes_from, struck}
+use Rattle.mob_check.specs.MatesInReach.{strikes_as, strikes_from, struck}
 use Rattle.mob_check.proofs.StruckSets.{from_man, from_none, all_struck}
 use Rattle.mob_check.proofs.attacks.struck.Goals as goal
 use Rattle.mob_check.proofs.attacks.struck.Goals.{then-has, else-has}

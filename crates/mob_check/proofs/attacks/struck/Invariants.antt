@@ -1,6 +1,6 @@
 use Rattle.std.proofs.Common.{ℕ}
 use Rattle.mob_check.proofs.Gathering.{Gathers}
-use Rattle.mob_check.specs.Mates.{strikes_from}
+use Rattle.mob_check.specs.MatesInReach.{strikes_from}
 use Rattle.mob_check.proofs.attacks.struck.Given as goal
 
 abbrev pub invariant-loop-index : goal.invariant-loop-index

@@ -1,7 +1,7 @@
 use Rattle.std.proofs.Common.{ℕ}
 use Rattle.cha_board.specs.declared.men.Kind.{Kind}
 use Rattle.mob_check.proofs.Grounds.{kinds_joined}
-use Rattle.mob_check.specs.Mates.{stays_as, stays_on}
+use Rattle.mob_check.specs.MatesInReach.{stays_as, stays_on}
 use Rattle.mob_check.proofs.ring.staying.Goals as goal
 
 pub returns : goal.returns

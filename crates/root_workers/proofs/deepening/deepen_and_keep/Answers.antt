@@ -1,6 +1,6 @@
 use Rattle.std.proofs.Common.{Ok, ◌∙◌}
 use Rattle.helpmate.proofs.Saying.{no_answer}
-use Rattle.root_workers.specs.Ends.{claim_of}
+use Rattle.root_workers.specs.RoundAnswers.{claim_of}
 use Rattle.root_workers.proofs.Ending.{kept_nothing, kept_end, keep_count, deepened_kept, same_end}
 use Rattle.root_workers.proofs.deepening.deepen_and_keep.Goals as goal
 

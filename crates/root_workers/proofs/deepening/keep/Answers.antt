@@ -2,7 +2,7 @@ use Rattle.std.proofs.Common.{List, sym, ◌∙◌, ap}
 use Rattle.cha_moves.specs.Step.{Move}
 use Rattle.root_workers.specs.declared.answers.RoundsEnd.{RoundsEnd}
 use Rattle.root_workers.specs.declared.answers.RoundsEnd.TheVariants.{Mate}
-use Rattle.root_workers.specs.Ends.{claim_of}
+use Rattle.root_workers.specs.RoundAnswers.{claim_of}
 use Rattle.root_workers.proofs.Going.{keeps}
 use Rattle.root_workers.proofs.deepening.keep.Goals as goal
 use Rattle.root_workers.proofs.deepening.keep.Goals.{in-Mate, in-NoneWithin}

@@ -1,7 +1,7 @@
 use Rattle.std.proofs.Common.{◌≡◌, List, length, ap, subst, rules, Vec, Global}
 use Rattle.root_workers.specs.declared.work.Worker.{Worker}
 use Rattle.root_workers.specs.Crews.{CrewMakes}
-use Rattle.root_workers.specs.Ends.{RoundsCalls}
+use Rattle.root_workers.specs.RoundAnswers.{RoundsCalls}
 use Rattle.root_workers.proofs.Crewing.{rounds_seen}
 use Rattle.root_workers.proofs.table_rounds.rounds.Goals as goal
 

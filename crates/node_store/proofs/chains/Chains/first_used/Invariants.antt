@@ -1,5 +1,5 @@
 use Rattle.std.proofs.Common.{◌≡◌, ◌<◌, ℕ, []}
-use Rattle.node_store.specs.Lists.{list_at}
+use Rattle.node_store.specs.NameLists.{list_at}
 use Rattle.node_store.specs.Links.{lists_of}
 use Rattle.node_store.proofs.chains.Chains.first_used.Given as goal
 

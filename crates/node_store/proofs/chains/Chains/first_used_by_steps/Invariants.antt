@@ -1,5 +1,5 @@
 use Rattle.std.proofs.Common.{◌≡◌, ◌<◌, ◌+◌, ℕ, []}
-use Rattle.node_store.specs.Lists.{list_at}
+use Rattle.node_store.specs.NameLists.{list_at}
 use Rattle.node_store.proofs.chains.Chains.first_used_by_steps.Given as goal
 
 abbrev pub invariant-loop-bucket : goal.invariant-loop-bucket

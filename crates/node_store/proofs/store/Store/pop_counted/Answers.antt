@@ -1,6 +1,6 @@
 use Rattle.std.proofs.Common.{arith, refl, sym, subst, ◌∙◌}
 use Rattle.node_store.proofs.Storing.{store_take, first_used_is, none_used, front_inner, front_within, front_waited, front_cost, front_is}
-use Rattle.node_store.specs.Lists.{list_at}
+use Rattle.node_store.specs.NameLists.{list_at}
 use Rattle.node_store.specs.Places.{nodes_of}
 use Rattle.node_store.specs.Graphs.{IsStore}
 use Rattle.node_store.proofs.store.Store.pop_counted.Goals as goal

@@ -2,10 +2,10 @@
 use Rattle.std.proofs.Common.{◌≡◌, ℕ, zero, suc, ◌+◌, ◌<◌, ◌≤◌, ◌==◌, ◌&&◌, Bool, true, false, if◌then◌else◌, List, [], ◌∷◌, ◌++◌, Option, Some, None, is_some, length, take, drop, refl, sym, ap, ◌∙◌, subst, arith, append-nil, append_assoc, length-append}
 use Rattle.pgn_lex.specs.declared.kinds.Token.{Token}
 use Rattle.pgn_lex.specs.declared.kinds.Placed.{Placed}
-use Rattle.pgn_games.specs.declared.turns.Place.{Place}
-use Rattle.pgn_games.specs.declared.turns.Place.TheVariants.{Before, Tags, Moves}
-use Rattle.pgn_games.specs.declared.turns.Turn.{Turn}
-use Rattle.pgn_games.specs.declared.turns.Turn.TheVariants.{Stays, Ends, Begins}
+use Rattle.pgn_games.specs.declared.token_turns.Place.{Place}
+use Rattle.pgn_games.specs.declared.token_turns.Place.TheVariants.{Before, Tags, Moves}
+use Rattle.pgn_games.specs.declared.token_turns.Turn.{Turn}
+use Rattle.pgn_games.specs.declared.token_turns.Turn.TheVariants.{Stays, Ends, Begins}
 use Rattle.pgn_games.specs.Cutting.{mark_of, is_tag, depth_after, open_at, tag_turn, move_turn, turn, place_after, onto, put, cut}
 use Rattle.pgn_games.specs.Settling.{ends_by, games_ended}
 use Rattle.pgn_games.specs.Holding.{shifted, size_with, first_end, IsScanned}

@@ -1,10 +1,10 @@
 use Rattle.std.proofs.Common.{◌<◌, ap, sym, ◌∙◌, arith}
 use Rattle.cha_board.proofs.Scans.{any_square_at, no_square}
-use Rattle.mob_check.specs.Mates.{may_mate_on}
-use Rattle.mob_check.specs.Mates.{may_mate}
+use Rattle.mob_check.specs.MatesInReach.{may_mate_on}
+use Rattle.mob_check.specs.MatesInReach.{may_mate}
 use Rattle.cha_board.specs.SquareSets.{set_of_bits}
 use Rattle.mob_check.proofs.Unreached.{no_mate_without}
-use Rattle.mob_check.proofs.mates.some_mate.Goals as goal
+use Rattle.mob_check.proofs.mates_in_reach.some_mate.Goals as goal
 
 pub returns-then-bits-eq0 : goal.returns-then-bits-eq0
 returns-then-bits-eq0 c =

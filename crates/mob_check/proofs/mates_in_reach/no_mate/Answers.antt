@@ -1,8 +1,8 @@
 use Rattle.std.proofs.Common.{◌≡◌, not, sym, ap, ◌∙◌}
-use Rattle.mob_check.specs.Mates.{may_mate}
+use Rattle.mob_check.specs.MatesInReach.{may_mate}
 use Rattle.mob_check.specs.Scenes.{scene_of}
 use Rattle.mob_check.proofs.ThreatsSeen.{none_from, none_test}
-use Rattle.mob_check.proofs.mates.no_mate.Goals as goal
+use Rattle.mob_check.proofs.mates_in_reach.no_mate.Goals as goal
 
 pub returns : goal.returns
 returns c =

@@ -1,6 +1,6 @@
 -- The table is exact.
 use Rattle.mob_small.proofs.Exactness.{table_exact}
-use Rattle.mob_small.proofs.table.mate_free.Goals as goal
+use Rattle.mob_small.proofs.mate_free_kinds.mate_free.Goals as goal
 
 pub returns : goal.returns
 returns c =

@@ -1,5 +1,5 @@
 use Rattle.mob_check.proofs.NextTo.{left_is}
-use Rattle.mob_check.proofs.mates.left_to.Goals as goal
+use Rattle.mob_check.proofs.mates_in_reach.left_to.Goals as goal
 
 pub returns : goal.returns
 returns c =

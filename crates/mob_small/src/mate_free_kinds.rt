@@ -3,7 +3,7 @@
 ghost use Rattle.std.specs.Prelude.{◌≡◌, ◌≢◌, ◌↔◌, Some, IsTrue};
 ghost use Rattle.cha_board.specs.declared.men.Kind.TheVariants.{Pawn, King};
 ghost use Rattle.mob_small.specs.Small.{IsMateFree};
-ghost use Rattle.mob_small.specs.Table.{is_free};
+ghost use Rattle.mob_small.specs.MateFreeKinds.{is_free};
 
 use cha_board::{Color, Kind};
 
@@ -24,7 +24,7 @@ pub fn mate_free(winner: Color, own: Kind, other: Option<Kind>) -> bool
 }
 
 /// Whether two kinds are in the table of those that do not mate.
-#[tactic(auto, unfolding(crate::specs::Table::is_free))]
+#[tactic(auto, unfolding(crate::specs::MateFreeKinds::is_free))]
 fn never_mates(own: Kind, other: Option<Kind>) -> bool
     ensures { result ≡ is_free own other }
 {

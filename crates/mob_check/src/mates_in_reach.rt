@@ -3,8 +3,8 @@
 ghost use Rattle.std.specs.Prelude.{◌≡◌, ◌↔◌, ◌≤◌, IsTrue};
 ghost use Rattle.mob_law.specs.Threats.{HasNoMate};
 ghost use Rattle.mob_sets.specs.Rows.{sets_of};
-ghost use Rattle.mob_check.specs.Mates.{left_squares, shuts_from, may_shut, mates_with_all, mates_as, mates_from, mates_with_one, mates_among, may_mate_on, may_mate};
-ghost use Rattle.mob_check.specs.Mates.{men_near as men_near_king};
+ghost use Rattle.mob_check.specs.MatesInReach.{left_squares, shuts_from, may_shut, mates_with_all, mates_as, mates_from, mates_with_one, mates_among, may_mate_on, may_mate};
+ghost use Rattle.mob_check.specs.MatesInReach.{men_near as men_near_king};
 
 use crate::attacks::{check_as, some_check, struck};
 use crate::groups::origins_on;
@@ -27,7 +27,7 @@ pub fn no_mate(position: &Position, winner: Color, sets: &Sets) -> bool
 }
 
 /// Whether a mate is in reach.
-#[tactic(auto, unfolding(crate::specs::Mates::may_mate))]
+#[tactic(auto, unfolding(crate::specs::MatesInReach::may_mate))]
 fn some_mate(position: &Position, rows: &[SetRow], scene: &Scene) -> bool
     ensures { result ≡ may_mate position.now rows.now scene.now }
 {
@@ -43,7 +43,7 @@ fn some_mate(position: &Position, rows: &[SetRow], scene: &Scene) -> bool
 }
 
 /// Whether a mate of the king on a square is in reach.
-#[tactic(auto, unfolding(crate::specs::Mates::may_mate_on))]
+#[tactic(auto, unfolding(crate::specs::MatesInReach::may_mate_on))]
 fn mate_on(position: &Position, rows: &[SetRow], scene: &Scene, king: Square) -> bool
     ensures { result ≡ may_mate_on position.now rows.now scene.now king }
 {
@@ -55,7 +55,7 @@ fn mate_on(position: &Position, rows: &[SetRow], scene: &Scene, king: Square) ->
 }
 
 /// How many men of the winner's opponent may stand next to a king of theirs.
-#[tactic(auto, unfolding(crate::specs::Mates::men_near))]
+#[tactic(auto, unfolding(crate::specs::MatesInReach::men_near))]
 fn men_near(position: &Position, rows: &[SetRow], winner: Color, king: Square) -> u8
     ensures { result ≡ men_near_king position.now rows.now winner king }
 {
@@ -63,7 +63,7 @@ fn men_near(position: &Position, rows: &[SetRow], winner: Color, king: Square) -
 }
 
 /// Whether a mate is in reach with so many men of the loser's next to its king.
-#[tactic(auto, unfolding(crate::specs::Mates::mates_among))]
+#[tactic(auto, unfolding(crate::specs::MatesInReach::mates_among))]
 fn mate_among(scene: &Scene, seen: SquareSet, men: u8, king: Square) -> bool
     ensures { result ≡ mates_among scene.now seen men king }
 {
@@ -75,7 +75,7 @@ fn mate_among(scene: &Scene, seen: SquareSet, men: u8, king: Square) -> bool
 }
 
 /// Whether one man of the winner may give check while its men and its king keep the other king in.
-#[tactic(auto, unfolding(crate::specs::Mates::mates_with_all))]
+#[tactic(auto, unfolding(crate::specs::MatesInReach::mates_with_all))]
 fn mate_with_all(scene: &Scene, seen: SquareSet, men: u8, king: Square) -> bool
     ensures { result ≡ mates_with_all scene.now seen men king }
 {
@@ -91,7 +91,7 @@ fn mate_with_all(scene: &Scene, seen: SquareSet, men: u8, king: Square) -> bool
 }
 
 /// Whether the only man of the winner may give check while it and its king keep the other king in.
-#[tactic(auto, unfolding(crate::specs::Mates::mates_with_one), using(crate::proofs::Unreached::no_mate_from))]
+#[tactic(auto, unfolding(crate::specs::MatesInReach::mates_with_one), using(crate::proofs::Unreached::no_mate_from))]
 fn mate_with_one(scene: &Scene, seen: SquareSet, men: u8, king: Square) -> bool
     ensures { result ≡ mates_with_one scene.now seen men king }
 {
@@ -106,7 +106,7 @@ fn mate_with_one(scene: &Scene, seen: SquareSet, men: u8, king: Square) -> bool
 }
 
 /// The same from a square.
-#[tactic(auto, unfolding(crate::specs::Mates::mates_from))]
+#[tactic(auto, unfolding(crate::specs::MatesInReach::mates_from))]
 fn mate_from(scene: &Scene, seen: SquareSet, men: u8, king: Square, from: Square) -> bool
     ensures { result ≡ mates_from scene.now seen men king from }
 {
@@ -119,7 +119,7 @@ fn mate_from(scene: &Scene, seen: SquareSet, men: u8, king: Square, from: Square
 }
 
 /// The same from a square, as a kind.
-#[tactic(auto, unfolding(crate::specs::Mates::mates_as))]
+#[tactic(auto, unfolding(crate::specs::MatesInReach::mates_as))]
 fn mate_as(scene: &Scene, seen: SquareSet, men: u8, king: Square, from: Square, kind: Kind) -> bool
     ensures { result ≡ mates_as scene.now seen men king from kind }
 {
@@ -128,7 +128,7 @@ fn mate_as(scene: &Scene, seen: SquareSet, men: u8, king: Square, from: Square, 
 }
 
 /// Whether the winner's king may stand so that with a ring it keeps the other king in.
-#[tactic(auto, unfolding(crate::specs::Mates::may_shut))]
+#[tactic(auto, unfolding(crate::specs::MatesInReach::may_shut))]
 fn some_shut(scene: &Scene, ring: &Ring, king: Square) -> bool
     ensures { result ≡ may_shut scene.now ring.now king }
 {
@@ -141,7 +141,7 @@ fn some_shut(scene: &Scene, ring: &Ring, king: Square) -> bool
 }
 
 /// Whether the winner's king may stand on a square and does so there.
-#[tactic(auto, unfolding(crate::specs::Mates::shuts_from))]
+#[tactic(auto, unfolding(crate::specs::MatesInReach::shuts_from))]
 fn shut_from(scene: &Scene, ring: &Ring, king: Square, winner_king: Square) -> bool
     ensures { result ≡ shuts_from scene.now ring.now king winner_king }
 {

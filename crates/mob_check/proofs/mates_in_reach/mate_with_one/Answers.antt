@@ -1,8 +1,8 @@
 use Rattle.std.proofs.Common.{◌<◌, sym, ◌∙◌, arith}
 use Rattle.cha_board.proofs.Scans.{any_square_at, no_square}
-use Rattle.mob_check.specs.Mates.{mates_from}
-use Rattle.mob_check.specs.Mates.{mates_with_one}
-use Rattle.mob_check.proofs.mates.mate_with_one.Goals as goal
+use Rattle.mob_check.specs.MatesInReach.{mates_from}
+use Rattle.mob_check.specs.MatesInReach.{mates_with_one}
+use Rattle.mob_check.proofs.mates_in_reach.mate_with_one.Goals as goal
 
 pub returns-then-mate_from : goal.returns-then-mate_from
 unfolding mates_with_one

@@ -1,8 +1,8 @@
 use Rattle.std.proofs.Common.{◌<◌, sym, ◌∙◌, arith}
 use Rattle.cha_board.proofs.Scans.{any_square_at, no_square}
-use Rattle.mob_check.specs.Mates.{shuts_from}
-use Rattle.mob_check.specs.Mates.{may_shut}
-use Rattle.mob_check.proofs.mates.some_shut.Goals as goal
+use Rattle.mob_check.specs.MatesInReach.{shuts_from}
+use Rattle.mob_check.specs.MatesInReach.{may_shut}
+use Rattle.mob_check.proofs.mates_in_reach.some_shut.Goals as goal
 
 pub returns-then-shut_from : goal.returns-then-shut_from
 unfolding may_shut

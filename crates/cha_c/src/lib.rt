@@ -1,7 +1,8 @@
 //! The exports for C: a whole run, and the check of a certificate, over memory that the caller lends.
 //!
-//! `slice` has bytes that are lent, as a source, `command_words` the command words in one text, `grown` a sink that grows, `checking` the check of a certificate, `running` a run into memory of its own,
-//! and `exports` the functions that C calls.
+//! `slice` has bytes that are lent, as a source, `command_words` the command words in one text, `grown` a sink that
+//! grows, `checking` the check of a certificate, `running` a run into memory of its own, and `exports` the functions
+//! that C calls.
 #![tactic(auto)]
 
 mod checking;

@@ -3,8 +3,8 @@
 //! `rulings` has the result of a game, `status` the state of a position, `reasons` why an
 //! item cannot be read, `mates` the blocks of the shortest mates, `shared_texts` what all blocks share, `scans` from where on a
 //! game was dead, `games` and `positions` the blocks, `totals` the last line, and
-//! `cert_reports` the lines on certificates that were checked. Each call that gives a text takes memory for it, and its only error
-//! is want of memory.
+//! `cert_reports` the lines on certificates that were checked. Each call that gives a text takes memory for it, and its
+//! only error is want of memory.
 #![tactic(auto)]
 
 mod cert_reports;

@@ -1,11 +1,12 @@
 //! Mobility sets, checked against a position: whether they are closed, and whether they leave a mate in reach.
 //!
-//! The rules of closed sets stand as steps of sets of squares: `ground` has what the rules look at, `single_steps` where men aim by one
-//! step or a jump, `ranks` where pawns are promoted, `goes` where men of a kind go from a set of squares, as far as fixed and
-//! guarded squares let them, `frees` which origins become loose, and `rules` the law that these are the rules of closed sets.
+//! The rules of closed sets stand as steps of sets of squares: `ground` has what the rules look at, `single_steps`
+//! where men aim by one step or a jump, `ranks` where pawns are promoted, `goes` where men of a kind go from a set of
+//! squares, as far as fixed and guarded squares let them, `frees` which origins become loose, and `rules` the law that
+//! these are the rules of closed sets.
 //!
-//! The checks: `closing` has the test of closed sets; `mates_in_reach` the search for a mate, with `scene`, `attacks`, `near` and `ring`;
-//! `bound` both together, and `groups` entries of sets.
+//! The checks: `closing` has the test of closed sets; `mates_in_reach` the search for a mate, with `scene`, `attacks`,
+//! `near` and `ring`; `bound` both together, and `groups` entries of sets.
 #![tactic(auto)]
 
 mod attacks;

@@ -1,9 +1,9 @@
 //! A bounded list of true facts, the most recently used first, and a table of eight such lists at which threads take turns.
 //!
-//! `shard` has the list and its two calls, `shard_object` the list as a value at which passes take turns, `place` the list as a
-//! place that keeps facts, and `law` what holds after any calls. `table` has the table and its passes, `turns` a probe and
-//! a store there, and `passes` how a table is made, its passes split off and taken back, and how it ends; `eight` takes an
-//! array of eight apart.
+//! `shard` has the list and its two calls, `shard_object` the list as a value at which passes take turns, `place` the
+//! list as a place that keeps facts, and `law` what holds after any calls. `table` has the table and its passes,
+//! `turns` a probe and a store there, and `passes` how a table is made, its passes split off and taken back, and how it
+//! ends; `eight` takes an array of eight apart.
 #![tactic(auto)]
 
 mod eight;

@@ -1,9 +1,10 @@
 -- What is written so far of the games of a source.
 use Rattle.std.proofs.Common.{◌≡◌, ◌↔◌, ◌⊎◌, inl, inr, ℕ, zero, suc, ◌+◌, ◌^◌, ◌<◌, ◌≤◌, Bool, true, false, if◌then◌else◌, List, [], ◌∷◌, ◌++◌, length, map, take, drop, Option, Some, Result, Ok, slice_get, refl, sym, ap, ◌∙◌, arith, subst, take-append-drop, append-nil, None}
 use Rattle.std.specs.Io.KnownBytes.{Appends, Consumes, IsAtEnd}
-use Rattle.std.proofs.lemmas.List.{length-map, drop_all}
+use Rattle.std.proofs.lemmas.List.{length-map, drop_all, take-map}
 use Rattle.std.proofs.Math.Seq.{take-append_seam}
-use Rattle.cha_outside.proofs.Taking.{consumes_more}
+use Rattle.std.proofs.KnownBytes.{Consumes-trans}
+use Rattle.cha_outside.proofs.Gathered.{gathered_front}
 use Rattle.pgn_games.specs.declared.played.Game.{Game}
 use Rattle.pgn_games.specs.Games.{games}
 use Rattle.pgn_games.specs.Settling.{settled_games}
@@ -24,7 +25,7 @@ use Rattle.adjudicate.specs.Outcomes.{Item, item_of, game_item, game_items, bloc
 use Rattle.adjudicate.specs.Report.{last_of_games, HasWholeBlocksOn}
 use Rattle.adjudicate.specs.Runs.{Outside, outside, Grew, BeginsWhole, BeginsDue, IsRun}
 use Rattle.adjudicate.specs.ItemSteps.{JudgesGame, GameRoom, CountsAll}
-use Rattle.adjudicate.proofs.RunEndings.{short_run, long_run, taken_few}
+use Rattle.adjudicate.proofs.RunEndings.{short_run, long_run}
 use Rattle.adjudicate.proofs.Progress.{of_games, WroteUpTo, nothing_written, one_more, cut_block, whole_blocks, finished, cut_summary, room_for_game, one_counted}
 
 -- So many games of the bytes taken were judged, and their blocks written: where a source and a sink began and stand, the
@@ -33,11 +34,6 @@ pub record IsAt (limits : Bounds) (certs : Bool) (left left' old now : Option (L
   pub written : WroteUpTo of_games limits certs (game_items taken) (drop given (game_items taken)) old now s
   pub number : s.games ≡ given
   pub consumed : Consumes left left' taken
-
-take-map : {A B : Type 0} (f : A → B) (n : ℕ) (xs : List A) → take n (map f xs) ≡ map f (take n xs)
-take-map f zero xs = refl
-take-map f (suc n) [] = refl
-take-map f (suc n) (x ∷ xs) = ap (λ ys. f x ∷ ys) (take-map f n xs)
 
 -- the item at a place, and those behind it
 next_is : (gs : List Game) (n : ℕ) (game : Game) → slice_get gs n ≡ Some game → drop n (map game_item gs) ≡ game_item game ∷ drop (n + 1) (map game_item gs)
@@ -60,7 +56,7 @@ retook limits certs left left' left'' old now taken taken' given s at took same 
   written = retake limits certs (game_items taken) (game_items taken') given old now s at.number at.written
       (take-map game_item given (games taken') ∙ ap (map game_item) same ∙ sym (take-map game_item given (games taken)));
   number = at.number;
-  consumed = subst (Consumes left left'') (sym took.2) (consumes_more left left' left'' taken took.0 at.consumed took.1);
+  consumed = subst (Consumes left left'') (sym took.2) (Consumes-trans left left' left'' taken took.0 at.consumed took.1);
 }
 
 pub at_first : (limits : Bounds) (certs : Bool) (left old : Option (List ℕ)) (s : GameTotals) → s ≡ record { games = 0; unreadable = 0; changed = 0; undecided = 0 } → Consumes left left [] → IsAt limits certs left left old old [] 0 s
@@ -129,7 +125,7 @@ module _ (limits : Bounds) (certs : Bool) (left left' old now : Option (List ℕ
       by_end ends.ReadFault e = short_run o b n tt source_later later ReadFault (begun_due limits certs left left' old now f f' g g' taken given s at (settled e)) (λ _. cause e) (λ h. cc) (λ h. cc) (taken, at.consumed, not_more _ 268435456 (λ more. let t = sym e ∙ long.1 more in cc))
       by_end ends.TooLong e =
           long_run o b n tt source_later later whole (taken, at.consumed, (long.0 e, few))
-          (λ bytes told small. let had = taken_few left left' taken bytes at.consumed told in let more = long.0 e in omega (arith, had, more, small))
+          (λ bytes told small. let had = gathered_front left left' taken bytes at.consumed told in let more = long.0 e in omega (arith, had, more, small))
       by_end ends.NoMemory e = short_run o b n tt source_later later NoMemory whole (λ h. cc) (λ h. cc) (λ h. cc) (taken, at.consumed, not_more _ 268435456 (λ more. let t = sym e ∙ long.1 more in cc))
 
   -- memory was refused

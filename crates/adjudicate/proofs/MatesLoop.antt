@@ -5,7 +5,7 @@ use Rattle.std.specs.Io.KnownBytes.{Appends}
 use Rattle.std.proofs.lemmas.List.Sums.{sum_by-append}
 use Rattle.cha_board.specs.declared.men.Color.{Color}
 use Rattle.cha_outside.specs.Faults.{Rose}
-use Rattle.cha_outside.proofs.Adding.{appends_nothing, appends_more}
+use Rattle.std.proofs.KnownBytes.{Appends-nil, Appends-trans}
 use Rattle.flag_report.specs.declared.mates.MatesTotals.{MatesTotals}
 use Rattle.flag_report.specs.Mates.{mates_summary_text}
 use Rattle.cha_words.specs.declared.orders.Order.TheVariants.{ListMates}
@@ -51,7 +51,7 @@ totals_more side depth first item = λ i. record {
 
 pub no_mates_yet : (side : Color) (depth : ℕ) (all : List Item) (a : Option (List ℕ)) (s : MatesTotals) → s ≡ record { positions = 0; refused = 0; found = 0 } → WroteMates side depth all all a a s
 unfolding mates_items
-no_mates_yet side depth all a s is = ([], refl, appends_nothing a, is)
+no_mates_yet side depth all a s is = ([], refl, Appends-nil a, is)
 
 number_is : (side : Color) (depth : ℕ) (first : List Item) (s : MatesTotals) → s ≡ mates_totals side depth first → s.positions ≡ length first
 number_is side depth first s is = ap (λ t. t.positions) is
@@ -71,7 +71,7 @@ mates_more side depth all here later item old now next s listed w here_is j adde
     ap (λ x. mates_items side depth 1 first ++ x) (text ∙ sym (one_item side depth (1 + length first) item)) ∙ sym (items_more side depth 1 first (item ∷ [])) in (
       first ++ item ∷ [],
       w.1 ∙ ap (λ x. first ++ x) here_is ∙ sym (append_assoc first (item ∷ []) later),
-      subst (λ x. Appends old next x) whole (appends_more old now next (mates_items side depth 1 first) listed.block w.2 added),
+      subst (λ x. Appends old next x) whole (Appends-trans old now next (mates_items side depth 1 first) listed.block w.2 added),
       j.1 ∙ ap (λ t. mates_counted side depth t item) w.3 ∙ totals_more side depth first item,
     )
 
@@ -113,7 +113,7 @@ module _ (side : Color) (workers depth : ℕ) (bytes : List ℕ) (here : List It
   mates_cut later item next listed n here_is j added rose more = record {
     done = λ e. cc;
     not_accepted = λ e. cc;
-    cut = λ _. (rose, (mates_items side depth 1 w.0 ++ take n listed.block, appends_more old now next (mates_items side depth 1 w.0) (take n listed.block) w.2 added, cut_front later item listed n here_is j));
+    cut = λ _. (rose, (mates_items side depth 1 w.0 ++ take n listed.block, Appends-trans old now next (mates_items side depth 1 w.0) (take n listed.block) w.2 added, cut_front later item listed n here_is j));
     no_memory = λ e. cc;
     no_other = ((λ e. cc), (λ e. cc), (λ e. cc));
     later = more;
@@ -131,7 +131,7 @@ module _ (side : Color) (workers depth : ℕ) (bytes : List ℕ) (old now next :
 
   whole_mates : Appends now next (mates_summary_text s) → g ≤ g' → IsWritten (ListMates side workers depth) bytes Done old g next g'
   whole_mates added later = record {
-    done = λ _. (tt, (mates_items side depth 1 w.0 ++ mates_summary_text s, appends_more old now next (mates_items side depth 1 w.0) (mates_summary_text s) w.2 added, report_is));
+    done = λ _. (tt, (mates_items side depth 1 w.0 ++ mates_summary_text s, Appends-trans old now next (mates_items side depth 1 w.0) (mates_summary_text s) w.2 added, report_is));
     not_accepted = λ e. cc;
     cut = λ e. cc;
     no_memory = λ e. cc;
@@ -147,7 +147,7 @@ module _ (side : Color) (workers depth : ℕ) (bytes : List ℕ) (old now next :
       rose,
       (
         mates_items side depth 1 w.0 ++ take n (mates_summary_text s),
-        appends_more old now next (mates_items side depth 1 w.0) (take n (mates_summary_text s)) w.2 added,
+        Appends-trans old now next (mates_items side depth 1 w.0) (take n (mates_summary_text s)) w.2 added,
         (drop n (mates_summary_text s), sym report_is ∙ ap (λ x. mates_items side depth 1 w.0 ++ x) (sym (take-append-drop n (mates_summary_text s))) ∙ sym (append_assoc (mates_items side depth 1 w.0) (take n (mates_summary_text s)) (drop n (mates_summary_text s)))),
       ),
     );

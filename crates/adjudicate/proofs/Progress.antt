@@ -4,7 +4,7 @@ use Rattle.std.specs.List.{count_by}
 use Rattle.std.specs.Io.KnownBytes.{Appends}
 use Rattle.std.proofs.lemmas.List.Sums.{sum_by-append, count_by-le-length}
 use Rattle.std.proofs.lemmas.List.{map-append}
-use Rattle.cha_outside.proofs.Adding.{appends_nothing, appends_more}
+use Rattle.std.proofs.KnownBytes.{Appends-nil, Appends-trans}
 use Rattle.cha_limits.specs.Bounds.{Bounds}
 use Rattle.flag_report.specs.declared.totals.GameTotals.{GameTotals}
 use Rattle.flag_report.specs.declared.totals.PositionTotals.{PositionTotals}
@@ -68,7 +68,7 @@ of_positions = record { total = position_totals; number = λ s. s.positions; cou
 -- before the first item
 pub nothing_written : {T : Type 0} (y : Tally T) (limits : Bounds) (certs : Bool) (all : List Item) (a : Option (List ℕ)) → WroteUpTo y limits certs all all a a (y.total [])
 unfolding blocks
-nothing_written y limits certs all a = ([], refl, ([], refl, tt, appends_nothing a, refl))
+nothing_written y limits certs all a = ([], refl, ([], refl, tt, Appends-nil a, refl))
 
 -- the block of the next item is written whole
 pub one_more : {T : Type 0} (y : Tally T) (limits : Bounds) (certs : Bool) (all here later : List Item) (item : Item) (old now next : Option (List ℕ)) (s : T) (text' : List ℕ) (totals : T) → WroteUpTo y limits certs all here old now s → here ≡ item ∷ later → Judges y.counted limits certs item (y.number s) s text' totals
@@ -78,7 +78,7 @@ one_more y limits certs all here later item old now next s text' totals w here_i
     let o : Outcome = j.0 in
     let number : y.number s ≡ length os = ap y.number w.2.4 ∙ y.number_is os in
     let text : text' ≡ block certs (1 + length os) o = j.3 ∙ ap (λ k. block certs k o) (let e : y.number s + 1 ≡ 1 + length os = omega arith in e) in
-    let out : Appends old next (blocks certs 1 os ++ text') = appends_more old now next (blocks certs 1 os) text' w.2.3 added in
+    let out : Appends old next (blocks certs 1 os ++ text') = Appends-trans old now next (blocks certs 1 os) text' w.2.3 added in
     let whole : blocks certs 1 os ++ text' ≡ blocks certs 1 (os ++ o ∷ []) = ap (λ x. blocks certs 1 os ++ x) text ∙ sym (blocks_more certs 1 os o) in (
       w.0 ++ item ∷ [],
       w.1 ∙ ap (λ x. w.0 ++ x) here_is ∙ sym (append_assoc w.0 (item ∷ []) later),
@@ -100,7 +100,7 @@ cut_block y limits certs last items here later item old now next s text' totals 
     let text : block certs (length os + 1) j.0 ≡ take n text' ++ drop n text' =
     ap (λ k. block certs (k + 1) j.0) (sym number) ∙ sym j.3 ∙ sym (take-append-drop n text') in (
       blocks certs 1 os ++ take n text',
-      appends_more old now next (blocks certs 1 os) (take n text') w.2.3 added,
+      Appends-trans old now next (blocks certs 1 os) (take n text') w.2.3 added,
       (
         os,
         item ∷ later,
@@ -125,7 +125,7 @@ finished y limits certs summary items old now next s last w last_is added =
     let os = w.2.0 in
     let all : map item_of os ≡ items = w.2.1 ∙ sym (w.1 ∙ append-nil w.0) in (
       blocks certs 1 os ++ last,
-      appends_more old now next (blocks certs 1 os) last w.2.3 added,
+      Appends-trans old now next (blocks certs 1 os) last w.2.3 added,
       (os, all, w.2.2, ap (λ x. blocks certs 1 os ++ x) (last_is ∙ ap summary w.2.4)),
     )
 
@@ -137,7 +137,7 @@ cut_summary y limits certs summary items old now next s last n w last_is added =
     let all : items ≡ map item_of os ++ [] = w.1 ∙ ap (λ x. x ++ []) (sym w.2.1) in
     let text : summary (y.total os) ≡ take n last ++ drop n last = sym (last_is ∙ ap summary w.2.4) ∙ sym (take-append-drop n last) in (
       blocks certs 1 os ++ take n last,
-      appends_more old now next (blocks certs 1 os) (take n last) w.2.3 added,
+      Appends-trans old now next (blocks certs 1 os) (take n last) w.2.3 added,
       (os, [], take n last, all, w.2.2, refl, (drop n last, text)),
     )
 

@@ -1,12 +1,11 @@
 -- How runs end.
-use Rattle.std.proofs.Common.{◌≡◌, ◌≢◌, ℕ, ◌+◌, ◌<◌, ◌≤◌, List, [], ◌∷◌, length, Option, Some, None, Result, Err, refl, sym, ap, subst, arith, length-append, ◌⊎◌, inl, inr, take, drop, take-append-drop}
+use Rattle.std.proofs.Common.{◌≡◌, ◌≢◌, ℕ, ◌+◌, ◌<◌, ◌≤◌, List, [], ◌∷◌, length, Option, Some, Result, Err, refl, sym, ap, subst, arith, ◌⊎◌, inl, inr, take, drop, take-append-drop}
 use Rattle.std.specs.Io.KnownBytes.{Appends, Consumes, IsAtEnd}
 use Rattle.cha_outside.specs.Faults.{Rose}
 use Rattle.cha_outside.specs.Gathering.{Took}
 use Rattle.cha_outside.specs.declared.gathering.ReadEnd.{ReadEnd}
 use Rattle.cha_outside.specs.declared.gathering.ReadEnd.TheVariants as ends
-use Rattle.cha_outside.proofs.Adding.{appends_nothing}
-use Rattle.cha_outside.proofs.Taking.{consumes_nothing}
+use Rattle.std.proofs.KnownBytes.{Appends-nil, Consumes-nil}
 use Rattle.cha_board.specs.Board.{Board, IsValid}
 use Rattle.cha_cert.specs.declared.nodes.Node.{Node}
 use Rattle.cha_cert.specs.Certificates.{BeginsAt, AllValid}
@@ -111,7 +110,7 @@ has_read (ListMates side workers depth) left a f g end = end
 has_read (GenGames limits seed count) left a f g end = tt
 
 pub nothing_begun : (order : Order) (left left' a : Option (List ℕ)) (f f' g : ℕ) (P : List ℕ → Type 0) → Reads order → Took left left' P → BeginsWhole order (outside left f a g) (outside left' f' a g)
-nothing_begun order left left' a f f' g P reads took = (took.0, takes order left left' a a f f' g g took.0 reads took.1, ([], appends_nothing a, nothing_yet order took.0))
+nothing_begun order left left' a f f' g P reads took = (took.0, takes order left left' a a f f' g g took.0 reads took.1, ([], Appends-nil a, nothing_yet order took.0))
 
 reads_it : (order : Order) → ReadsAtOnce order → Reads order
 reads_it (AdjudicateGames limits certs) h = absurd h
@@ -173,14 +172,6 @@ module _ (order : Order) (reads : Reads order) (bytes : List ℕ) (left left' a 
 pub rose_in : (f f' f'' : ℕ) → f ≤ f' → Rose f' f'' → Rose f f''
 rose_in f f' f'' le rose = omega arith
 
--- what a source took is no more than it had
-pub taken_few : (left left' : Option (List ℕ)) (taken bytes : List ℕ) → Consumes left left' taken → left ≡ Some bytes → length taken ≤ length bytes
-taken_few None left' taken bytes consumed told = cc
-taken_few (Some xs) None taken bytes consumed told = absurd consumed
-taken_few (Some xs) (Some ys) taken bytes consumed told =
-    let same : xs ≡ bytes = cc in
-    omega (arith, ap length consumed, ap length same, length-append taken ys)
-
 -- where memory is refused before anything is read
 pub not_begun : (order : Order) (left a : Option (List ℕ)) (f g : ℕ) → IsRun order NoMemory (outside left f a g) (outside left f a g)
 not_begun order left a f g = record {
@@ -192,18 +183,18 @@ not_begun order left a f g = record {
   read_fault = λ e. cc;
   write_fault = λ e. cc;
   too_long = λ e. cc;
-  not_too_long = λ _. ([], consumes_nothing left, omega arith);
+  not_too_long = λ _. ([], Consumes-nil left, omega arith);
   never_too_long = λ bytes told small e. cc;
   source_later = omega arith;
   sink_later = omega arith;
 }
   where
     begins : (o : Order) → BeginsWhole o (outside left f a g) (outside left f a g)
-    begins (AdjudicateGames limits certs) = ([], consumes_nothing left, ([], appends_nothing a, nothing_yet (AdjudicateGames limits certs) []))
-    begins (JudgePositions limits certs) = ([], consumes_nothing left, ([], appends_nothing a, nothing_yet (JudgePositions limits certs) []))
-    begins CheckCert = ([], consumes_nothing left, ([], appends_nothing a, refl))
-    begins (GenGames limits seed count) = ([], (refl, refl, refl), ([], appends_nothing a, refl))
-    begins (ListMates side workers depth) = ([], consumes_nothing left, ([], appends_nothing a, nothing_yet (ListMates side workers depth) []))
+    begins (AdjudicateGames limits certs) = ([], Consumes-nil left, ([], Appends-nil a, nothing_yet (AdjudicateGames limits certs) []))
+    begins (JudgePositions limits certs) = ([], Consumes-nil left, ([], Appends-nil a, nothing_yet (JudgePositions limits certs) []))
+    begins CheckCert = ([], Consumes-nil left, ([], Appends-nil a, refl))
+    begins (GenGames limits seed count) = ([], (refl, refl, refl), ([], Appends-nil a, refl))
+    begins (ListMates side workers depth) = ([], Consumes-nil left, ([], Appends-nil a, nothing_yet (ListMates side workers depth) []))
 
 -- the summary of games that were made was written, or a part of it
 pub made_run : (limits : Bounds) (seed count : ℕ) (left a a' : Option (List ℕ)) (f g g' : ℕ) (s : GameTotals) (status : Status) → CountsAll limits (game_items (made seed count)) s → g ≤ g'
@@ -221,7 +212,7 @@ made_run limits seed count left a a' f g g' s status counts later done cut cause
             read_fault = λ e. cc;
             write_fault = λ e. cc;
             too_long = λ e. cc;
-            not_too_long = λ _. ([], consumes_nothing left, omega arith);
+            not_too_long = λ _. ([], Consumes-nil left, omega arith);
             never_too_long = λ bytes told small e. cc;
             source_later = omega arith;
             sink_later = later;
@@ -238,7 +229,7 @@ made_run limits seed count left a a' f g g' s status counts later done cut cause
             read_fault = λ e. cc;
             write_fault = λ _. cause is;
             too_long = λ e. cc;
-            not_too_long = λ _. ([], consumes_nothing left, omega arith);
+            not_too_long = λ _. ([], Consumes-nil left, omega arith);
             never_too_long = λ bytes told small e. cc;
             source_later = omega arith;
             sink_later = later;

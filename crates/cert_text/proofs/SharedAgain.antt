@@ -1,8 +1,8 @@
 -- Each line of version 2 that is written is read again.
-use Rattle.std.proofs.Common.{◌≡◌, ℕ, suc, ◌+◌, ◌%◌, ◌^◌, ◌<◌, ◌≤◌, ◌==◌, nat_lt, nat_le, Bool, true, false, ◌||◌, List, [], ◌∷◌, ◌++◌, length, drop, take, Option, Some, None, decimal, refl, ap, ◌∙◌, arith}
+use Rattle.std.proofs.Common.{◌≡◌, ℕ, suc, ◌+◌, ◌%◌, ◌^◌, ◌<◌, ◌≤◌, ◌==◌, nat_lt, nat_le, Bool, true, false, List, [], ◌∷◌, ◌++◌, length, drop, take, Option, Some, None, decimal, refl, ap, ◌∙◌, arith}
 use Rattle.std.specs.List.{list_all, prefix_len}
 use Rattle.std.proofs.Math.Seq.{take-append_seam, drop-append-add}
-use Rattle.std.proofs.lemmas.Bool.{and_parts, and_from}
+use Rattle.std.proofs.lemmas.Bool.{and_parts, and_from, or_from}
 use Rattle.std.proofs.lemmas.Bool.Decides.{nat_tests}
 use Rattle.std.proofs.lemmas.Fmt.{decimal_by_steps, decimal_nonempty, length-decimal-le}
 use Rattle.std.proofs.lemmas.List.{length-append}
@@ -77,9 +77,6 @@ line_drop ds rest =
 no_more : (a b : ℕ) → a ≤ b → nat_lt b a ≡ false
 no_more a b low = grind (arith, nat_tests)
 
-both_false : (a b : Bool) → a ≡ false → b ≡ false → (a || b) ≡ false
-both_false a b e f = rw (e, f) refl
-
 leaf_value : (m i : ℕ) (q : Board) (fenned : Option Board) (named : ℕ) → named ≡ i → fenned ≡ Some q → i < m
     → leaf_if m named (kept (shared_leaf_line named) (shared_leaf_line i q) fenned) ≡ Some (record { position = q; part = Leaf i })
 leaf_value m i q fenned named e f low =
@@ -99,7 +96,7 @@ shared_leaf_again m i q valid low high =
     ap (λ n. value_of 10 (take n (ds ++ 32 ∷ fen_text q))) len ∙ ap (value_of 10) (take-append_seam ds (32 ∷ fen_text q)) ∙ decimal_read i (omega arith) in
     let text : drop (number_len line + 6) line ≡ fen_text q = ap (λ n. drop (n + 6) line) len ∙ line_drop ds (fen_text q) in
     let fenned : position_if (fen (drop (number_len line + 6) line)) ≡ Some q = ap (λ t. position_if (fen t)) text ∙ ap position_if (written_is_read q valid) in
-    rw (both_false (nat_lt (length line) (number_len line + 6)) (nat_lt 10 (number_len line)) long short)
+    rw (or_from (nat_lt (length line) (number_len line + 6)) (nat_lt 10 (number_len line)) long short)
     (leaf_value m i q (position_if (fen (drop (number_len line + 6) line))) (value_of 10 (take (number_len line) (drop 5 line))) named fenned low)
 
 -- the line of a position with small material

@@ -1,12 +1,14 @@
 -- What one more node makes of a shared certificate.
-use Rattle.std.proofs.Common.{◌≡◌, ℕ, ◌+◌, ◌<◌, List, [], ◌∷◌, ◌++◌, length, map, get_or, Some, slice_get, refl, sym, ap, subst, ◌∙◌, arith, inl, inr}
+use Rattle.std.proofs.Common.{◌≡◌, ℕ, ◌+◌, ◌<◌, List, [], ◌∷◌, ◌++◌, length, map, get_or, refl, sym, ap, subst, ◌∙◌, arith, inl, inr}
 use Rattle.std.specs.List.{All, Contains}
 use Rattle.std.proofs.lemmas.Bool.{cases_lt}
 use Rattle.std.proofs.lemmas.List.{length-append, length-map, map-append, get_or-map, get_or_append_left, same_lists}
-use Rattle.std.proofs.lemmas.Option.{slice_get_within, slice_get-get_or, get_or_from_slice_get}
+use Rattle.std.proofs.lemmas.List.Elements.{All-push}
+use Rattle.std.proofs.lemmas.Option.{slice_get_within, get_or_from_slice_get}
 use Rattle.std.proofs.Math.Seq.{get_or-append_seam}
 use Rattle.cha_list.specs.Distinct.{AreDistinct}
 use Rattle.cha_list.proofs.Distinct.{push_apart}
+use Rattle.cha_list.proofs.Longer.{stays_at, was_at, last_at}
 use Rattle.cha_board.specs.Board.{Board}
 use Rattle.mob_sets.specs.Rows.{SetRows}
 use Rattle.cha_cert.specs.declared.nodes.Node.{Node}
@@ -15,33 +17,6 @@ use Rattle.cha_cert.specs.declared.shared.SharedNode.{SharedNode}
 use Rattle.cha_cert.specs.declared.shared.SharedPart.{SharedPart}
 use Rattle.cha_cert.specs.declared.shared.SharedPart.TheVariants.{Inner as SharedInner, Leaf as SharedLeaf, Small as SharedSmall, Lone as SharedLone}
 use Rattle.cha_cert.specs.Shared.{Shared, Names, no_sets, part_of, node_of, IsFirstNamed, Shares, IsAt}
-
--- the element at a place stays there as a list grows
-stays_at : {X : Type 0} (xs ys : List X) (k : ℕ) (x : X) → slice_get xs k ≡ Some x → slice_get (xs ++ ys) k ≡ Some x
-stays_at xs ys k x e =
-    let inside = slice_get_within xs k x e in
-    let longer : k < length (xs ++ ys) = omega (arith, length-append xs ys, inside) in
-    slice_get-get_or (xs ++ ys) k x longer ∙ ap Some (get_or_append_left xs ys x k inside ∙ get_or_from_slice_get xs k x x e)
-
-was_at : {X : Type 0} (xs ys : List X) (k : ℕ) (x : X) → k < length xs → slice_get (xs ++ ys) k ≡ Some x → slice_get xs k ≡ Some x
-was_at xs ys k x inside e =
-    slice_get-get_or xs k x inside ∙ ap Some (sym (get_or_append_left xs ys x k inside) ∙ get_or_from_slice_get (xs ++ ys) k x x e)
-
-last_at : {X : Type 0} (xs : List X) (x : X) → slice_get (xs ++ x ∷ []) (length xs) ≡ Some x
-last_at xs x =
-    let inside : length xs < length (xs ++ x ∷ []) = omega (arith, length-append xs (x ∷ [])) in
-    slice_get-get_or (xs ++ x ∷ []) (length xs) x inside ∙ ap Some (get_or-append_seam xs x [] x)
-
--- a fact of all elements and of one more
-all_more : {X : Type 0} (P : X → Type 0) (xs : List X) (x : X) → All P xs → P x → All P (xs ++ x ∷ [])
-all_more P xs x all one k d inside =
-    elim (cases_lt k (length xs)) [
-      | inl less ↦ subst P (sym (get_or_append_left xs (x ∷ []) d k less)) (all k d less)
-      | inr past ↦ (
-          let at : length xs ≡ k = omega (arith, length-append xs (x ∷ []), inside, past) in
-          let Q : ℕ → Type 0 = λ j. P (get_or (xs ++ x ∷ []) j d) in
-          subst Q at (subst P (sym (get_or-append_seam xs x [] d)) one))
-    ]
 
 -- more sets change no node that names others
 pub part_grown : (sets more : List SetRows) (part : SharedPart) → Names (length sets) part → part_of (sets ++ more) part ≡ part_of sets part
@@ -80,7 +55,7 @@ names_more n SharedLone named = tt
 pub node_shared : (c : Shared) (nodes : List Node) (node : SharedNode) → Names (length c.sets) node.part → Shares c nodes
     → Shares (record { sets = c.sets; nodes = c.nodes ++ node ∷ [] }) (nodes ++ node_of c.sets node ∷ [])
 node_shared c nodes node named s = record {
-  named = all_more (λ (n : SharedNode). Names (length c.sets) n.part) c.nodes node s.named named;
+  named = All-push (λ (n : SharedNode). Names (length c.sets) n.part) c.nodes node s.named named;
   few = (let few = s.few in omega (arith, few, length-append c.nodes (node ∷ [])));
   expands = map-append (node_of c.sets) c.nodes (node ∷ []) ∙ ap (λ ns. ns ++ node_of c.sets node ∷ []) s.expands;
   order = record {
@@ -100,7 +75,7 @@ leaf_shared c nodes q sets new s =
     let own : node_of more leaf ≡ record { position = q; part = Leaf sets } = ap (λ x. record { position = q; part = Leaf x }) (get_or-append_seam c.sets sets [] no_sets) in
     let N : ℕ → Type 0 = λ m. All (λ (x : SharedNode). Names m x.part) (c.nodes ++ leaf ∷ []) in
     record {
-      named = subst N (sym long) (all_more (λ (x : SharedNode). Names (n + 1) x.part) c.nodes leaf (λ k d inside. names_more n (get_or c.nodes k d).part (s.named k d inside)) (omega arith));
+      named = subst N (sym long) (All-push (λ (x : SharedNode). Names (n + 1) x.part) c.nodes leaf (λ k d inside. names_more n (get_or c.nodes k d).part (s.named k d inside)) (omega arith));
       few = (let few = s.few in omega (arith, few, long, length-append c.nodes (leaf ∷ [])));
       expands =
           map-append (node_of more) c.nodes (leaf ∷ [])

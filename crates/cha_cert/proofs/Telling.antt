@@ -3,7 +3,7 @@ use Rattle.std.proofs.Common.{◌≡◌, ℕ, zero, suc, ◌+◌, ◌<◌, ◌�
 use Rattle.std.specs.Bool.{Decides}
 use Rattle.std.specs.List.{position_or_len}
 use lib.Pointwise.{pointwise}
-use Rattle.std.proofs.lemmas.Bool.{and_parts, and_from}
+use Rattle.std.proofs.lemmas.Bool.{and_parts, and_from, false_from_ne_true}
 use Rattle.std.proofs.lemmas.Bool.Decides.{Decides-eqb, nat_tests}
 use Rattle.std.proofs.lemmas.List.Sums.{fold_more}
 use Rattle.std.proofs.lemmas.Slice.Eq.{slice_eq-Decides}
@@ -65,10 +65,6 @@ no_place_found p (x ∷ xs) none =
     let rest : position_or_len p xs ≡ length xs = no_place_found p xs (λ j d less. none (suc j) d (omega (arith, less))) in
     rw (none 0 x (omega arith)) (omega (arith, rest))
 
-fails : (b : Bool) → (b ≡ true → ⊥) → b ≡ false
-fails true none = absurd (none refl)
-fails false none = refl
-
 is_below : (a b k : ℕ) → a ≡ k → k < b → nat_lt a b ≡ true
 is_below a b k e less = grind (arith, nat_tests)
 
@@ -79,14 +75,14 @@ pub number_there : (all : List SetRows) (s : SetRows) (k : ℕ) → k < length a
 unfolding number_in
 number_there all s k inside here before =
     let p = λ (t : SetRows). same_sets t s in
-    let at = place_found p all k inside (λ d. (sets_decide (get_or all k d) s).1 (here d)) (λ j d less. fails (p (get_or all j d)) (λ t. before j d less ((sets_decide (get_or all j d) s).0 t))) in
+    let at = place_found p all k inside (λ d. (sets_decide (get_or all k d) s).1 (here d)) (λ j d less. false_from_ne_true (p (get_or all j d)) (λ t. before j d less ((sets_decide (get_or all j d) s).0 t))) in
     rw (is_below (position_or_len p all) (length all) k at inside) (ap Some (sym at))
 
 pub number_nowhere : (all : List SetRows) (s : SetRows) (n : ℕ) → length all ≤ n → ((j : ℕ) (d : SetRows) → j < n → get_or all j d ≡ s → ⊥) → None ≡ number_in all s
 unfolding number_in
 number_nowhere all s n many none =
     let p = λ (t : SetRows). same_sets t s in
-    let at = no_place_found p all (λ j d less. fails (p (get_or all j d)) (λ t. none j d (omega (arith, less, many)) ((sets_decide (get_or all j d) s).0 t))) in
+    let at = no_place_found p all (λ j d less. false_from_ne_true (p (get_or all j d)) (λ t. none j d (omega (arith, less, many)) ((sets_decide (get_or all j d) s).0 t))) in
     rw (is_not_below (position_or_len p all) (length all) at) refl
 
 -- a leaf whose sets are there

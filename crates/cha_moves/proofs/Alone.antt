@@ -3,7 +3,7 @@ use Rattle.std.proofs.Common.{◌≡◌, ◌≢◌, ℕ, ◌+◌, ◌-◌, ◌%�
 use Rattle.std.specs.List.{Contains}
 use Rattle.std.specs.Int.{abs_diff}
 use Rattle.std.specs.Option.{is_some}
-use Rattle.std.proofs.lemmas.Bool.{and_parts, or_cases, both_ways, eqb-true, false_from_ne_true}
+use Rattle.std.proofs.lemmas.Bool.{and_parts, or_cases, both_ways, eqb-true, false_from_ne_true, and_left}
 use Rattle.cha_board.specs.declared.men.Color.{Color}
 use Rattle.cha_board.specs.declared.men.Color.TheVariants.{White, Black}
 use Rattle.cha_board.specs.declared.men.Kind.{Kind}
@@ -45,10 +45,6 @@ the_man o c k h =
     let x = man_of o c k h in
     x.found ∙ (λ i. Some (record { color = x.color i; kind = x.kind i }))
 
-first_out : (a b : Bool) → a ≡ false → (a && b) ≡ false
-first_out false b h = refl
-first_out true b h = cc
-
 -- where no more than one man goes
 pub goes_alone : (q : Board) (m : Move) (k : Kind) → is_man q.side k (man_at q.men m.from) ≡ true → m.promotion ≡ None
     → captures_en_passant q (man_at q.men m.from) m.from m.to ≡ false → castles_short q (man_at q.men m.from) m.from m.to ≡ false → castles_long q (man_at q.men m.from) m.from m.to ≡ false
@@ -80,20 +76,20 @@ not_promoted q m k h man other =
 pub no_target : (q : Board) (m : Move) (k : Kind) → is_man q.side k (man_at q.men m.from) ≡ true → same_kind k Pawn ≡ false → None ≡ target_after q m
 unfolding target_after
 no_target q m k man other =
-    rw (first_out (is_man q.side Pawn (man_at q.men m.from)) (is_double_step q m.from m.to) (one_kind q.side q.side k Pawn (man_at q.men m.from) other man)) refl
+    rw (and_left (is_man q.side Pawn (man_at q.men m.from)) (is_double_step q m.from m.to) (one_kind q.side q.side k Pawn (man_at q.men m.from) other man)) refl
 
 pub piece_alone : (q : Board) (m : Move) (k : Kind) → Contains (legal q) m → is_man q.side k (man_at q.men m.from) ≡ true → same_kind k Pawn ≡ false → same_kind k King ≡ false
     → men_after q m ≡ moved q.men m.from m.to (Some (record { color = q.side; kind = k }))
 piece_alone q m k h man no_pawn no_king =
     let pawn = one_kind q.side q.side k Pawn (man_at q.men m.from) no_pawn man in
     let king = one_kind q.side q.side k King (man_at q.men m.from) no_king man in
-    goes_alone q m k man (not_promoted q m k h man no_pawn) (first_out _ (is_en_passant q m.from m.to) pawn) (first_out _ (is_short_castling q m.from m.to) king) (first_out _ (is_long_castling q m.from m.to) king)
+    goes_alone q m k man (not_promoted q m k h man no_pawn) (and_left _ (is_en_passant q m.from m.to) pawn) (and_left _ (is_short_castling q m.from m.to) king) (and_left _ (is_long_castling q m.from m.to) king)
 
 pub pawn_alone : (q : Board) (m : Move) → is_man q.side Pawn (man_at q.men m.from) ≡ true → m.promotion ≡ None → is_en_passant q m.from m.to ≡ false
     → men_after q m ≡ moved q.men m.from m.to (Some (record { color = q.side; kind = Pawn }))
 pawn_alone q m man none passing =
     let king = one_kind q.side q.side Pawn King (man_at q.men m.from) refl man in
-    goes_alone q m Pawn man none (two_kinds (is_man q.side Pawn (man_at q.men m.from)) (is_en_passant q m.from m.to) passing) (first_out _ (is_short_castling q m.from m.to) king) (first_out _ (is_long_castling q m.from m.to) king)
+    goes_alone q m Pawn man none (two_kinds (is_man q.side Pawn (man_at q.men m.from)) (is_en_passant q m.from m.to) passing) (and_left _ (is_short_castling q m.from m.to) king) (and_left _ (is_long_castling q m.from m.to) king)
 
 second_out : (a b : Bool) → a ≡ true → (a && b) ≡ false → b ≡ false
 second_out true b h e = e
@@ -108,8 +104,8 @@ passes q m man none passing =
     elim (makes q m) [
       | Plainly a b c e ↦ absurd (both_ways (is_en_passant q m.from m.to) (second_out _ _ man a) passing)
       | Passing t e ↦ e ∙ ap (λ b. f (arriving (man_at q.men m.from) b)) none ∙ ap f (the_man (man_at q.men m.from) q.side Pawn man)
-      | Shortly t e ↦ absurd (both_ways (castles_short q (man_at q.men m.from) m.from m.to) (first_out _ (is_short_castling q m.from m.to) king) t)
-      | Longly t e ↦ absurd (both_ways (castles_long q (man_at q.men m.from) m.from m.to) (first_out _ (is_long_castling q m.from m.to) king) t)
+      | Shortly t e ↦ absurd (both_ways (castles_short q (man_at q.men m.from) m.from m.to) (and_left _ (is_short_castling q m.from m.to) king) t)
+      | Longly t e ↦ absurd (both_ways (castles_long q (man_at q.men m.from) m.from m.to) (and_left _ (is_long_castling q m.from m.to) king) t)
     ]
 
 -- a king that castles goes two files
@@ -141,7 +137,7 @@ pub king_alone : (q : Board) (m : Move) → Contains (legal q) m → is_man q.si
     → men_after q m ≡ moved q.men m.from m.to (Some (record { color = q.side; kind = King }))
 king_alone q m h man near =
     let pawn = one_kind q.side q.side King Pawn (man_at q.men m.from) refl man in
-    goes_alone q m King man (not_promoted q m King h man refl) (first_out _ (is_en_passant q m.from m.to) pawn)
+    goes_alone q m King man (not_promoted q m King h man refl) (and_left _ (is_en_passant q m.from m.to) pawn)
     (two_kinds (is_man q.side King (man_at q.men m.from)) (is_short_castling q m.from m.to) (not_short q m.from m.to near))
     (two_kinds (is_man q.side King (man_at q.men m.from)) (is_long_castling q m.from m.to) (not_long q m.from m.to near))
 

@@ -1,8 +1,8 @@
 -- Which moves of a man give check: where it aims at the king from its new square, or leaves a line to the king, or moves another man
 -- too.
-use Rattle.std.proofs.Common.{◌≡◌, ◌≢◌, ℕ, ◌+◌, ◌-◌, ◌<◌, ◌==◌, Bool, true, false, not, ◌&&◌, ◌||◌, List, length, Option, Some, None, inl, inr, refl, sym, ◌∙◌, ap, subst, arith}
+use Rattle.std.proofs.Common.{◌≡◌, ◌≢◌, ℕ, ◌+◌, ◌-◌, ◌<◌, ◌==◌, Bool, true, false, not, ◌&&◌, ◌||◌, List, length, Option, Some, None, inl, inr, sym, ◌∙◌, ap, subst, arith}
 use Rattle.std.specs.List.{Contains}
-use Rattle.std.proofs.lemmas.Bool.{and_parts, and_from, and_left, and_right, or_right, eq-eqb, both_ways, cases_Bool, cases_eq, not-true, false_from_ne_true}
+use Rattle.std.proofs.lemmas.Bool.{and_parts, and_from, and_left, and_right, or_right, eq-eqb, both_ways, cases_Bool, cases_eq, not-true, false_from_ne_true, or_left}
 use Rattle.cha_board.specs.declared.men.Color.{Color}
 use Rattle.cha_board.specs.declared.men.Kind.{Kind}
 use Rattle.cha_board.specs.declared.men.Kind.TheVariants.{Pawn, Knight, Bishop, Rook, Queen, King}
@@ -130,8 +130,9 @@ pub data Gives (q : Board) (m : Move) (man : Man) : Type 0 where
   Short : man.kind ≡ King → m.to ≡ home_of q.side + 2 → Gives q m man
   Long : man.kind ≡ King → m.to ≡ home_of q.side - 2 → Gives q m man
 
-kind_of : (c : Color) (k : Kind) (o : Option Man) (man : Man) → o ≡ Some man → is_man c k o ≡ true → man.kind ≡ k
-kind_of c k o man found is =
+-- a man that is told by its kind
+pub kind_told : (c : Color) (k : Kind) (o : Option Man) (man : Man) → o ≡ Some man → is_man c k o ≡ true → man.kind ≡ k
+kind_told c k o man found is =
     let there : is_man c k (Some man) ≡ true = ap (is_man c k) (sym found) ∙ is in
     same_kind_equal man.kind k (and_parts (same_color man.color c) (same_kind man.kind k) there).1
 
@@ -155,22 +156,18 @@ gives_check q m man step off check =
       ]
       | Passing t e ↦
           let parts = and_parts (is_man q.side Pawn (man_at q.men m.from)) (is_en_passant q m.from m.to) t in
-          Taking (kind_of q.side Pawn (man_at q.men m.from) man found parts.0) (and_parts (aims_at q.side Pawn m.from m.to) (is_target q.target m.to) parts.1).1
+          Taking (kind_told q.side Pawn (man_at q.men m.from) man found parts.0) (and_parts (aims_at q.side Pawn m.from m.to) (is_target q.target m.to) parts.1).1
       | Shortly t e ↦
           let parts = and_parts (is_man q.side King (man_at q.men m.from)) (is_short_castling q m.from m.to) t in
-          Short (kind_of q.side King (man_at q.men m.from) man found parts.0) (short_tests q m.from m.to parts.1).two_files
+          Short (kind_told q.side King (man_at q.men m.from) man found parts.0) (short_tests q m.from m.to parts.1).two_files
       | Longly t e ↦
           let parts = and_parts (is_man q.side King (man_at q.men m.from)) (is_long_castling q m.from m.to) t in
-          Long (kind_of q.side King (man_at q.men m.from) man found parts.0) (long_tests q m.from m.to parts.1).two_files
+          Long (kind_told q.side King (man_at q.men m.from) man found parts.0) (long_tests q m.from m.to parts.1).two_files
     ]
 
 -- no man off the lines alone stands between the king and a man that aims at it
 pub off_lines : (q : Board) (lines : List Bool) (s : ℕ) → s < 64 → HaveScreens q (enemy_king q) lines → has_square lines s ≡ false → IsOffLines q s
 off_lines q lines s small on off u low aims alone = false_from_ne_true (lies_between u (enemy_king q) s) (λ lies. both_ways (has_square lines s) off (on u s low small aims lies alone))
-
-or_left : (a b : Bool) → a ≡ true → (a || b) ≡ true
-or_left true b h = refl
-or_left false b h = cc
 
 special_pawn : (q : Board) (k : Kind) (t : ℕ) → k ≡ Pawn → ((rank_of t == last_rank q.side) || is_target q.target t) ≡ true → is_special_check q k t ≡ true
 unfolding is_special_check

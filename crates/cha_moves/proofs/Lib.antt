@@ -3,7 +3,7 @@ pub mod Kept
 pub mod Validity
 pub mod Contained
 pub mod Listed
-mod Alone
+pub mod Alone
 pub mod Near
 pub mod Filling
 pub mod KingSquare

@@ -1,5 +1,5 @@
 -- A square from which a move is legal.
-use Rattle.std.proofs.Common.{◌≡◌, ◌≢◌, ℕ, ◌<◌, ◌==◌, Bool, true, not, ◌&&◌, List, [], ◌∷◌, ◌++◌, inl, inr, refl, sym, ap, ◌∙◌}
+use Rattle.std.proofs.Common.{◌≡◌, ◌≢◌, ℕ, ◌<◌, ◌==◌, Bool, true, not, ◌&&◌, List, [], ◌∷◌, ◌++◌, inl, inr, sym, ap, ◌∙◌}
 use Rattle.std.specs.List.{Contains, filter, flat_map}
 use Rattle.std.proofs.lemmas.List.Elements.{filter-append}
 use Rattle.cha_board.specs.Squares.{squares}
@@ -9,13 +9,10 @@ use Rattle.cha_moves.specs.Ways.{is_way, legal_between}
 use Rattle.cha_moves.specs.Shields.{goes_legally}
 use Rattle.cha_moves.proofs.GoingLegally.{some_between}
 use Rattle.std.proofs.lemmas.Bool.{and_parts}
+use Rattle.cha_list.proofs.Longer.{left_nothing}
 use Rattle.cha_board.specs.SquareSets.{has_square, set_without}
 use Rattle.cha_board.proofs.SetLaws.{has-set_of}
 use Rattle.cha_moves.proofs.Contained.{Contains-cons_cases, Contains-squares_from, not_in_nothing}
-
-left_nothing : {X : Type 0} (a b : List X) → a ++ b ≡ [] → a ≡ []
-left_nothing [] b e = refl
-left_nothing (x ∷ a) b e = cc
 
 right_nothing : {X : Type 0} (a b : List X) → a ++ b ≡ [] → b ≡ []
 right_nothing [] b e = e

@@ -1,5 +1,6 @@
 -- Squares on which a man may give check, as sets.
 use Rattle.std.proofs.Common.{◌≡◌, ℕ, ◌+◌, ◌-◌, ◌==◌, Bool, true, false, ◌||◌, List, Option, Some, None, refl, sym, ◌∙◌, ap}
+use Rattle.std.proofs.Math.Bool.{or_comm}
 use Rattle.cha_board.specs.declared.men.Color.{Color}
 use Rattle.cha_board.specs.declared.men.Kind.{Kind}
 use Rattle.cha_board.specs.declared.men.Kind.TheVariants.{Pawn, Knight, Bishop, Rook, Queen, King}
@@ -46,15 +47,9 @@ special_castling q one set a b left right one_is set_is =
     set_is ∙ same_set (λ s. (s == b) || has_square one s) (is_special_check q King) (λ t small.
     ap (λ x. (t == b) || x) (ap (λ x. has_square x t) one_is ∙ has-set_of (λ s. (s == a) || has_square empty_set s) t small ∙ ap (λ x. (t == a) || x) (has-set_of (λ _. false) t small))
     ∙ ap (λ x. (t == b) || x) (sym (or-false (t == a)))
-    ∙ swapped (t == b) (t == a)
+    ∙ or_comm (t == b) (t == a)
     ∙ ap (λ x. (t == x) || (t == b)) left
     ∙ ap (λ x. (t == home_of q.side - 2) || (t == x)) right)
-  where
-    swapped : (x y : Bool) → (x || y) ≡ (y || x)
-    swapped true true = refl
-    swapped true false = refl
-    swapped false true = refl
-    swapped false false = refl
 
 pub special_none : (q : Board) (k : Kind) → (k ≡ Pawn → ⊥) → (k ≡ King → ⊥) → empty_set ≡ set_of (is_special_check q k)
 unfolding is_special_check

@@ -1,4 +1,3 @@
 pub mod Adding
 pub mod Gathered
 pub mod Giving
-pub mod Taking

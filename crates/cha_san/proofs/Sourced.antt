@@ -7,12 +7,11 @@ use Rattle.cha_board.specs.declared.men.Color.TheVariants.{White, Black}
 use Rattle.cha_board.specs.declared.men.Kind.{Kind}
 use Rattle.cha_board.specs.declared.men.Kind.TheVariants.{Pawn, Knight, Bishop, Rook, Queen, King}
 use Rattle.cha_board.specs.declared.men.Man.{Man}
-use Rattle.cha_board.specs.Men.{other_color, same_color, same_kind, is_man}
+use Rattle.cha_board.specs.Men.{other_color, same_kind, is_man}
 use Rattle.cha_board.specs.Squares.{squares, file_of, rank_of, files_apart, ranks_apart, steps_apart, is_straight, is_rank_ahead, aims_at}
 use Rattle.cha_board.specs.Board.{Board, man_at, is_empty, is_clear, in_check, home_of}
 use Rattle.cha_board.specs.SquareSets.{set_of, squares_in, set_minus, set_joined, set_common}
 use Rattle.cha_board.proofs.SetLaws.{same_set}
-use Rattle.cha_board.proofs.Identity.{same_kind_equal}
 use Rattle.cha_board.proofs.Tables.{aims_from_there}
 use Rattle.cha_moves.specs.Step.{Move}
 use Rattle.cha_moves.specs.Moves.{second_rank, fourth_rank, last_rank, middle, is_step, is_double_step, is_pawn_capture, is_en_passant, is_target, is_short_castling, is_long_castling, goes, promotes_well, is_pseudo_legal, men_after, is_legal_in, moves_between, moves_from, all_moves, legal}
@@ -20,6 +19,7 @@ use Rattle.cha_moves.proofs.Made.{Mover, may_gives}
 use Rattle.cha_moves.proofs.Kept.{short_tests, long_tests}
 use Rattle.cha_moves.proofs.WayLaws.{filter_in_set}
 use Rattle.cha_moves.proofs.Goings.{joined_of, common_of, minus_of}
+use Rattle.cha_moves.proofs.Checking.{kind_told}
 use Rattle.cha_san.specs.declared.forms.Form.{Form}
 use Rattle.cha_san.specs.declared.forms.Form.TheVariants.{Short, Long, Plain}
 use Rattle.cha_san.specs.declared.forms.Parts.{Parts}
@@ -34,11 +34,6 @@ mover_named q form m h =
     let may = (and_parts (fits q form m) (is_legal_in q m) h).1 in
     may_gives q m (and_parts (is_pseudo_legal q m) (not (in_check (men_after q m) q.side)) may).0
 
--- a man that is told by its kind
-kind_told : (c : Color) (k : Kind) (o : Option Man) (man : Man) → o ≡ Some man → is_man c k o ≡ true → man.kind ≡ k
-kind_told c k o man found h =
-    same_kind_equal man.kind k (and_parts (same_color man.color c) (same_kind man.kind k) (ap (is_man c k) (sym found) ∙ h)).1
-
 -- what a king does that goes so
 king_goes_so : (q : Board) (s t : ℕ) → goes q King s t ≡ true → (aims_at q.side King s t ≡ true) ⊎ ((is_short_castling q s t ≡ true) ⊎ (is_long_castling q s t ≡ true))
 unfolding goes
@@ -50,7 +45,7 @@ king_goes_so q s t h = elim (or_cases (aims_at q.side King s t || is_short_castl
   | inr long ↦ inr (inr long)
 ]
 
-one_step : (c : Color) (s t : ℕ) → aims_at c King s t ≡ true → (files_apart s t == 2) ≡ true → ⊥
+pub one_step : (c : Color) (s t : ℕ) → aims_at c King s t ≡ true → (files_apart s t == 2) ≡ true → ⊥
 unfolding aims_at steps_apart
 one_step c s t near two =
     let step = eqb-true (steps_apart s t) 1 near in

@@ -1,9 +1,10 @@
 -- Positions in the order in which they are expanded, as one is added.
-use Rattle.std.proofs.Common.{◌≡◌, ℕ, zero, suc, ◌<◌, ◌⊎◌, inl, inr, List, [], ◌∷◌, ◌++◌, length, Some, slice_get, refl, sym, ap, subst, ◌∙◌, arith}
+use Rattle.std.proofs.Common.{◌≡◌, ℕ, suc, ◌<◌, ◌⊎◌, inl, inr, List, [], ◌∷◌, ◌++◌, length, Some, slice_get, refl, sym, ap, subst, ◌∙◌, arith}
 use Rattle.std.specs.List.{Contains}
 use Rattle.std.proofs.lemmas.List.Elements.{Contains-push_cases}
 use Rattle.cha_list.specs.Distinct.{AreDistinct}
 use Rattle.cha_list.proofs.Distinct.{push_apart}
+use Rattle.cha_list.proofs.Longer.{stays_at, push_cases}
 use Rattle.cha_board.specs.declared.men.Color.{Color}
 use Rattle.cha_board.specs.Men.{other_color}
 use Rattle.cha_board.specs.Board.{Board}
@@ -12,21 +13,15 @@ use Rattle.cha_moves.proofs.Contained.{not_in_nothing}
 use Rattle.mob_law.specs.Static.{IsStaticallyUnwinnable}
 use Rattle.mob_law.specs.Explored.{ComesFrom, IsExplored}
 use Rattle.node_store.specs.Nodes.{Node}
-use Rattle.node_store.proofs.Pushing.{push_cases}
 use Rattle.forced_graph.specs.Grown.{IsGrown}
 use Rattle.forced_graph.specs.Regions.{AreLed, AreExpanded}
-
-pub get_keeps : {X : Type 0} (xs ys : List X) (i : ℕ) (z : X) → slice_get xs i ≡ Some z → slice_get (xs ++ ys) i ≡ Some z
-get_keeps [] ys i z at = cc
-get_keeps (x ∷ xs) ys zero z at = at
-get_keeps (x ∷ xs) ys (suc i) z at = get_keeps xs ys i z at
 
 comes_more : (members more : List Board) (before : ℕ) (w : Color) (q : Board) → ComesFrom members before w q → ComesFrom (members ++ more) before w q
 comes_more members more before w q c = record {
   number = c.number;
   earlier = c.earlier;
   origin = c.origin;
-  is_origin = get_keeps members more c.number c.origin c.is_origin;
+  is_origin = stays_at members more c.number c.origin c.is_origin;
   by = c.by;
   is_legal = c.is_legal;
   leads = c.leads;

@@ -4,6 +4,7 @@ use Rattle.std.specs.List.{Contains}
 use Rattle.std.proofs.lemmas.Option.{same_Some, slice_get_within}
 use Rattle.std.proofs.lemmas.List.{length_push, take_more, take_all}
 use Rattle.std.proofs.lemmas.List.Elements.{Contains-push, Contains-push_cases}
+use Rattle.cha_list.proofs.Longer.{push_cases}
 use Rattle.cha_board.specs.declared.men.Color.{Color}
 use Rattle.cha_board.specs.Men.{other_color}
 use Rattle.cha_board.specs.Board.{Board}
@@ -15,7 +16,7 @@ use Rattle.cha_cert.specs.declared.nodes.Part.TheVariants.{Inner}
 use Rattle.node_store.specs.declared.origin.Origin.{Origin}
 use Rattle.node_store.specs.NameLists.{put}
 use Rattle.node_store.specs.Nodes.{Node, positions, IsAt, IsNew}
-use Rattle.node_store.proofs.Pushing.{push_cases, map_push_cases, map_push_keeps, map_within}
+use Rattle.node_store.proofs.Pushing.{map_push_cases, map_push_keeps, map_within}
 use Rattle.forced_graph.specs.declared.region.Region.{Region}
 use Rattle.forced_graph.specs.Regions.{Waits, IsSettled, IsLed, AreLed, AreExpanded, IsMap, Between, Expanding, IsExpanding, IsMet, IsSameTask}
 use Rattle.forced_graph.proofs.Waiting.{put_waits, put_waits_on, put_waited}

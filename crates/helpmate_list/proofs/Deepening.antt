@@ -1,7 +1,7 @@
 -- The least number of plies, looked for from one on.
 use Rattle.std.proofs.Common.{◌≡◌, ◌≢◌, ℕ, zero, suc, ◌+◌, ◌-◌, ◌<◌, ◌≤◌, ◌⊎◌, inl, inr, Bool, true, false, List, [], ◌∷◌, length, take, nat_lt, Contains, refl, sym, ◌∙◌, ap, subst, arith}
 use Rattle.std.proofs.lemmas.Bool.{lt-ltb, ltb-true, ltb-false}
-use Rattle.std.proofs.lemmas.List.{take_all, length-take-le}
+use Rattle.std.proofs.lemmas.List.{take_all, length-take-le, take-take}
 use Rattle.cha_board.specs.declared.men.Color.{Color}
 use Rattle.cha_board.specs.Men.{other_color, same_color}
 use Rattle.cha_board.specs.Board.{Board}
@@ -17,7 +17,6 @@ use Rattle.helpmate_list.specs.ToMove.{mover_after}
 use Rattle.helpmate_list.specs.declared.answers.Shortest.{Shortest}
 use Rattle.helpmate_list.specs.declared.answers.Shortest.TheVariants.{NoneWithin, Found}
 use Rattle.helpmate_list.proofs.Mating.{no_lines, none_within, none_below_more}
-use Rattle.helpmate_list.proofs.Taking.{first_of_first}
 
 -- who is to move after a move and some more
 mover_behind : (c : Color) (n : ℕ) → mover_after (other_color c) n ≡ mover_after c (suc n)
@@ -88,7 +87,7 @@ unfolding found_or
 found_is n kept lines [] more longer some lines_is more_is is = absurd (some is)
 found_is n kept lines (line ∷ rest) more longer some lines_is more_is is =
     let all = line ∷ rest in
-    let l : lines ≡ take most_lines all = lines_is ∙ ap (take most_lines) is ∙ first_of_first most_lines (suc most_lines) all (omega arith) in
+    let l : lines ≡ take most_lines all = lines_is ∙ ap (take most_lines) is ∙ take-take most_lines (suc most_lines) all (omega arith) in
     let m : more ≡ nat_lt most_lines (length all) = more_is ∙ ap (λ x. nat_lt most_lines (length x)) is ∙ tells_more most_lines all (nat_lt most_lines (length all)) refl in
     λ i. Found n (l i) (m i)
 

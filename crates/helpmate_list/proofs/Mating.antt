@@ -117,7 +117,3 @@ not_by_one q winner (m ∷ n ∷ ms) none size line = absurd (omega (arith, size
 pub none_by_move : (q : Board) (winner : Color) (p most : ℕ) (lines : List (List Move)) → lines ≡ [] → p ≡ 1 → ((m : Move) → IsMatingLine q winner (m ∷ []) → ⊥) → lines ≡ take most (mate_lines p q winner)
 none_by_move q winner p most lines is one none =
     is ∙ take_nothing most (mate_lines p q winner) (no_lines q winner p (λ ms size line. not_by_one q winner ms none (size ∙ one) line))
-
-pub no_length : {X : Type 0} (xs : List X) → length xs ≡ 0 → xs ≡ []
-no_length [] none = refl
-no_length (x ∷ xs) none = absurd (omega (arith, none))

@@ -2,19 +2,13 @@
 use Rattle.std.proofs.Common.{◌≡◌, ℕ, zero, suc, ◌+◌, ◌<◌, ◌≤◌, List, [], ◌∷◌, ◌++◌, length, map, take, min, get_or, refl, sym, ◌∙◌, ap, subst, arith}
 use Rattle.std.specs.List.{flat_map}
 use Rattle.std.proofs.Math.Nat.{min-le_left}
-use Rattle.std.proofs.lemmas.List.{length-take, take_more, take-map, take_all, flat_map_more}
-
-pub first_of_first : {X : Type 0} (n k : ℕ) (ys : List X) → n ≤ k → take n (take k ys) ≡ take n ys
-first_of_first zero k ys few = refl
-first_of_first (suc n) zero ys few = absurd (omega (arith, few))
-first_of_first (suc n) (suc k) [] few = refl
-first_of_first (suc n) (suc k) (y ∷ ys) few = ap (λ l. y ∷ l) (first_of_first n k ys (omega (arith, few)))
+use Rattle.std.proofs.lemmas.List.{length-take, take_more, take-map, take_all, flat_map_more, take-take}
 
 -- the first n of what begins with the first n of xs and goes on with the first k of ys
 first_both : {X : Type 0} (n k : ℕ) (xs ys : List X) → n ≤ k → take n (take n xs ++ take k ys) ≡ take n (xs ++ ys)
 first_both zero k xs ys few = refl
 first_both (suc n) zero xs ys few = absurd (omega (arith, few))
-first_both (suc n) (suc k) [] ys few = first_of_first (suc n) (suc k) ys few
+first_both (suc n) (suc k) [] ys few = take-take (suc n) (suc k) ys few
 first_both (suc n) (suc k) (x ∷ xs) ys few = ap (λ l. x ∷ l) (first_both n (suc k) xs ys (omega (arith, few)))
 
 -- none where there is no room

@@ -1,8 +1,7 @@
 -- Lines that go on from a position on them.
-use Rattle.std.proofs.Common.{◌≡◌, ℕ, ◌+◌, ◌<◌, List, [], ◌∷◌, ◌++◌, length, get_or, drop, append_assoc, Option, None, Some, sym, subst, ◌∙◌, ap}
+use Rattle.std.proofs.Common.{◌≡◌, ℕ, ◌+◌, ◌<◌, List, [], ◌∷◌, ◌++◌, length, get_or, drop, append_assoc, sym, subst, ◌∙◌, ap}
 use Rattle.std.specs.List.{Contains}
 use Rattle.std.proofs.lemmas.List.{drop_more}
-use Rattle.std.specs.Option.{IfSome}
 use Rattle.cha_board.specs.declared.men.Color.{Color}
 use Rattle.cha_board.specs.Board.{Board}
 use Rattle.cha_moves.specs.Step.{Move}
@@ -43,7 +42,3 @@ next_mates r next w ms i m h inside at is = subst (λ (b : Board). IsMatingLine 
 
 pub begins_so : (q : Board) (w : Color) (line items : List Move) → IsMatingLine q w line → items ≡ line → IsMatingLine q w items
 begins_so q w line items h is = subst (λ (l : List Move). IsMatingLine q w l) (sym is) h
-
-pub of_some : {A : Type 0} (o : Option A) (x : A) (P : A → Type 0) → o ≡ Some x → IfSome o P → P x
-of_some None x P e h = absurd (cc)
-of_some (Some y) x P e h = (let same : y ≡ x = cc in subst P same h)

@@ -1,6 +1,5 @@
 -- What an expansion leaves, and lines that end in a mate.
-use Rattle.std.proofs.Common.{◌≡◌, ℕ, ◌<◌, ◌≤◌, ◌⊎◌, inl, inr, false, List, [], ◌∷◌, ◌++◌, length, Option, None, Some, replicate, refl, sym, subst, ◌∙◌, arith}
-use Rattle.std.specs.Option.{IfNone}
+use Rattle.std.proofs.Common.{◌≡◌, ℕ, ◌<◌, ◌≤◌, ◌⊎◌, inl, inr, false, List, [], ◌∷◌, ◌++◌, length, None, Some, replicate, refl, sym, subst, ◌∙◌, arith}
 use Rattle.std.proofs.lemmas.Option.{same_Some}
 use Rattle.cha_board.specs.declared.men.Color.{Color}
 use Rattle.cha_board.specs.Men.{other_color}
@@ -64,10 +63,6 @@ whole_line ns root name w m line whole at path mates is =
     let last : mates.0 ≡ path.1 = same_Some mates.0 path.1 (sym mates.1 ∙ path.3) in
     let mates_there : IsMatingMove path.1 w m = subst (λ (x : Board). IsMatingMove x w m) last mates.2 in
     subst (λ (x : List Move). IsMatingLine root w x) (sym is) (subst (λ (x : Board). IsMatingLine x w (line ++ m ∷ [])) first (line_mates path.0 path.1 line w m path.4 mates_there))
-
-pub of_none : {A : Type 0} (o : Option A) (P : Type 0) → o ≡ None → IfNone o P → P
-of_none None P e h = h
-of_none (Some x) P e h = absurd (cc)
 
 -- at the first turn the root waits alone; after that it was expanded, and no move of it mates
 abbrev pub Begun : ℕ → List (List ℕ) → Board → Color → Type 0

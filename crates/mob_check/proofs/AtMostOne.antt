@@ -1,6 +1,7 @@
 -- Sets of at most one square.
-use Rattle.std.proofs.Common.{◌≡◌, ◌≢◌, ℕ, ◌<◌, Bool, true, false, not, ◌&&◌, ◌==◌, List, [], ◌∷◌, length, get_or, Option, Some, None, slice_get, refl, sym, ap, subst, ◌∙◌, arith, inl, inr}
+use Rattle.std.proofs.Common.{◌≡◌, ◌≢◌, ℕ, ◌<◌, Bool, true, false, not, ◌&&◌, ◌==◌, List, [], length, get_or, Option, Some, None, slice_get, refl, sym, ap, subst, ◌∙◌, arith, inl, inr}
 use Rattle.std.proofs.lemmas.Bool.{and_parts, and_from, both_ways, cases_eq, eqb-false, ltb-true, ltb-false, ne_eqb, not-true}
+use Rattle.std.proofs.lemmas.List.{nil_from_length}
 use Rattle.std.proofs.lemmas.List.Elements.{filter_passes}
 use Rattle.cha_board.specs.Squares.{squares}
 use Rattle.cha_board.specs.SquareSets.{set_of, has_square, squares_in, set_without}
@@ -8,10 +9,6 @@ use Rattle.cha_board.proofs.SetLaws.{has-set_of, squares_from_first, no_first_sq
 use Rattle.cha_board.proofs.Contents.{in_set_of}
 use Rattle.cha_moves.proofs.Facing.{none_left}
 use Rattle.mob_check.specs.Scenes.{has_at_most_one}
-
-no_length : (xs : List ℕ) → length xs ≡ 0 → xs ≡ []
-no_length [] e = refl
-no_length (x ∷ xs) e = absurd (omega (arith, e))
 
 -- where the first square is the only one
 only_first : (f : ℕ → Bool) (s : ℕ) → squares_in (set_without (set_of f) s) ≡ [] → (u : ℕ) → u < 64 → f u ≡ true → u ≡ s
@@ -28,7 +25,7 @@ one_by_first f None first less u v small small' here there =
     absurd (both_ways (has_square (set_of f) u) (none_left (set_of f) (no_first_square (set_of f) first) u small) (has-set_of f u small ∙ here))
 one_by_first f (Some s) first less u v small small' here there =
     let long = ap (λ (xs : List ℕ). length xs) (squares_from_first (set_of f) s first) in
-    let rest = no_length (squares_in (set_without (set_of f) s)) (omega (arith, long, less)) in
+    let rest = nil_from_length (squares_in (set_without (set_of f) s)) (omega (arith, long, less)) in
     only_first f s rest u small here ∙ sym (only_first f s rest v small' there)
 
 pub at_most_one : (f : ℕ → Bool) → has_at_most_one (set_of f) ≡ true → (u v : ℕ) → u < 64 → v < 64 → f u ≡ true → f v ≡ true → u ≡ v

@@ -1,5 +1,6 @@
 -- To which squares men go, as sets.
 use Rattle.std.proofs.Common.{◌≡◌, ℕ, ◌<◌, Bool, true, false, not, ◌&&◌, ◌||◌, ◌==◌, if◌then◌else◌, List, length, refl, sym, ap, ◌∙◌}
+use Rattle.std.proofs.Math.Bool.{and_comm}
 use Rattle.cha_board.specs.declared.men.Color.{Color}
 use Rattle.cha_board.specs.declared.men.Color.TheVariants.{White, Black}
 use Rattle.cha_board.specs.declared.men.Kind.{Kind}
@@ -17,12 +18,6 @@ use Rattle.mob_check.specs.Grounds.{side_in}
 use Rattle.mob_check.specs.Rules.{is_barred, piece_goes, pawn_steps, is_capturable, pawn_captures, pawn_goes, goes_on, is_entered, entered_from}
 use Rattle.cha_moves.proofs.Goings.{not_not}
 use Rattle.cha_board.proofs.Pulls.{Pulls, here, up, down, pull_here, pull_up, pull_down, pull_joined, pull_kept, pull_is, pulled, pulls_of, agree, pairs, from_pairs}
-
-other_way : (a b : Bool) → (a && b) ≡ (b && a)
-other_way true true = refl
-other_way true false = refl
-other_way false true = refl
-other_way false false = refl
 
 -- where a pawn does not stay one, and that others stay
 pub pawn_changes : (c : Color) (k : Kind) (set : List Bool) → same_kind k Pawn ≡ true → ((t : ℕ) → t < 64 → has_square set t ≡ (rank_of t == last_rank c)) → (t : ℕ) → t < 64 → has_square set t ≡ not (stays c k t)
@@ -57,7 +52,7 @@ unfolding is_capturable set_joined
 capturable_at g c reach enemies target set reach_is enemies_is target_is is t small =
     let there = has_square (side_in g (other_color c)).reach t in
     let free = not (has_square g.fixed t) in
-    let a : has_square enemies t ≡ (free && there) = ap (λ x. has_square x t) enemies_is ∙ has-set_of (λ s. has_square reach s && not (has_square g.fixed s)) t small ∙ ap (λ x. has_square x t && free) reach_is ∙ other_way there free in
+    let a : has_square enemies t ≡ (free && there) = ap (λ x. has_square x t) enemies_is ∙ has-set_of (λ s. has_square reach s && not (has_square g.fixed s)) t small ∙ ap (λ x. has_square x t && free) reach_is ∙ and_comm there free in
     ap (λ x. has_square x t) is ∙ has-set_of (λ s. has_square enemies s || has_square target s) t small
     ∙ ap (λ b. b || has_square target t) a ∙ ap (λ x. (free && there) || has_square x t) target_is
 

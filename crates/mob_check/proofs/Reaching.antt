@@ -3,6 +3,7 @@ use Rattle.std.proofs.Common.{◌≡◌, ℕ, ◌+◌, ◌<◌, ◌==◌, Bool, 
 use Rattle.std.specs.List.{list_any}
 use Rattle.std.proofs.lemmas.List.Folds.{list_any_more}
 use Rattle.std.proofs.lemmas.Bool.{and_right}
+use Rattle.std.proofs.Math.Bool.{or_comm}
 use Rattle.cha_board.specs.declared.men.Color.{Color}
 use Rattle.cha_board.specs.Board.{Board}
 use Rattle.cha_board.specs.SquareSets.{set_of, has_square, empty_set, set_with, set_joined}
@@ -46,12 +47,6 @@ pub none_originate : (p : Board) (c : Color) (on : List Bool) → empty_set ≡ 
 unfolding origins_of
 none_originate p c on = refl
 
-or_swap : (a b : Bool) → (a || b) ≡ (b || a)
-or_swap true true = refl
-or_swap true false = refl
-or_swap false true = refl
-or_swap false false = refl
-
 and_true : (a : Bool) → (a && true) ≡ a
 and_true true = refl
 and_true false = refl
@@ -64,7 +59,7 @@ one_origin p rows c on i d inside is =
     let test = λ (o : ℕ) (r : Row). (o == r.origin) && is_row_on p c on r in
     let before = λ (o : ℕ). list_any (test o) (take i rows) in
     same_set (λ o. (o == row.origin) || has_square (set_of before) o) (λ o. list_any (test o) (take (i + 1) rows)) (λ o small.
-    ap (λ b. (o == row.origin) || b) (has-set_of before o small) ∙ or_swap (o == row.origin) (before o)
+    ap (λ b. (o == row.origin) || b) (has-set_of before o small) ∙ or_comm (o == row.origin) (before o)
     ∙ sym (list_any_more (test o) rows i d inside ∙ ap (λ b. before o || b) (ap (λ b. (o == row.origin) && b) is ∙ and_true (o == row.origin))))
 
 pub skipped_origin : (p : Board) (rows : List Row) (c : Color) (on : List Bool) (i : ℕ) (d : Row) → i < length rows → is_row_on p c on (get_or rows i d) ≡ false

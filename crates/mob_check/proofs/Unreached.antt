@@ -2,7 +2,7 @@
 use Rattle.std.proofs.Common.{◌≡◌, ℕ, ◌<◌, Bool, true, false, ◌||◌, ◌==◌, if◌then◌else◌, List, refl, ap, sym, ◌∙◌}
 use Rattle.std.specs.List.{list_any}
 use Rattle.std.specs.Int.{bit_at}
-use Rattle.std.proofs.lemmas.Bool.{and_right}
+use Rattle.std.proofs.lemmas.Bool.{and_right, or_parts}
 use Rattle.std.proofs.lemmas.Nat.Bits.{bit_at-zero}
 use Rattle.cha_board.specs.declared.men.Kind.{Kind}
 use Rattle.cha_board.specs.declared.men.Kind.TheVariants.{Pawn, Knight, Bishop, Rook, Queen, King}
@@ -17,15 +17,11 @@ use Rattle.mob_check.specs.declared.scene.Scene.{Scene}
 use Rattle.mob_check.specs.Scenes.{squares_as, all_in_reach}
 use Rattle.mob_check.specs.MatesInReach.{checks_as, checks_from, has_check, seen_through, strikes_as, mates_as, mates_from, mates_with_one, mates_with_all, mates_among, men_near, may_mate_on, may_mate}
 
-neither : (a b : Bool) → (a || b) ≡ false → (a ≡ false) × (b ≡ false)
-neither true b h = cc
-neither false b h = (refl, h)
-
 -- a square of neither set
 pub in_neither : (a b : List Bool) (u : ℕ) → u < 64 → has_square (set_joined a b) u ≡ false → (has_square a u ≡ false) × (has_square b u ≡ false)
 unfolding set_joined
 in_neither a b u small h =
-    neither (has_square a u) (has_square b u) (sym (has-set_of (λ s. has_square a s || has_square b s) u small) ∙ h)
+    or_parts (has_square a u) (has_square b u) (sym (has-set_of (λ s. has_square a s || has_square b s) u small) ∙ h)
 
 pub not_as : (r : Reach) (u : ℕ) (k : Kind) → u < 64 → has_square (all_in_reach r) u ≡ false → has_square (squares_as r k) u ≡ false
 unfolding all_in_reach

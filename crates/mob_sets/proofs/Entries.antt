@@ -29,17 +29,18 @@ entry_from o k u row e f g =
     let same : same_kind row.kind k ≡ true = rw f (same_kind_self k) in
     and_from ((row.origin == o) && same_kind row.kind k) (has_square row.squares u) (and_from (row.origin == o) (same_kind row.kind k) (eq-eqb row.origin o e) same) g
 
+-- the first two of three tests
+swapped : (a b c : Bool) → (a || (b || c)) ≡ (b || (a || c))
+swapped true true c = refl
+swapped true false c = refl
+swapped false b c = refl
+
 -- after a row is replaced
 pub any_replaced : (q : Row → Bool) (e : Bool) (rows : List Row) (i : ℕ) (y d : Row) → i < length rows → q y ≡ (e || q (get_or rows i d)) → list_any q (set rows i y) ≡ (e || list_any q rows)
 any_replaced q e [] i y d inside h = absurd (omega (arith, inside))
 any_replaced q e (x ∷ rows) zero y d inside h = ap (λ b. b || list_any q rows) h ∙ or_assoc e (q x) (list_any q rows)
 any_replaced q e (x ∷ rows) (suc i) y d inside h =
     ap (λ b. q x || b) (any_replaced q e rows i y d (omega arith) h) ∙ swapped (q x) e (list_any q rows)
-  where
-    swapped : (a b c : Bool) → (a || (b || c)) ≡ (b || (a || c))
-    swapped true true c = refl
-    swapped true false c = refl
-    swapped false b c = refl
 
 -- after a row is inserted
 pub any_inserted : (q : Row → Bool) (e : Bool) (rows : List Row) (i : ℕ) (y : Row) → q y ≡ e → list_any q (insert rows i y) ≡ (e || list_any q rows)
@@ -47,12 +48,7 @@ any_inserted q e rows i y h =
     let a = list_any q (take i rows) in
     let b = list_any q (drop i rows) in
     let all : list_any q rows ≡ (a || b) = ap (list_any q) (sym (take-append-drop i rows)) ∙ list_any-append q (take i rows) (drop i rows) in
-    list_any-append q (take i rows) (y ∷ drop i rows) ∙ ap (λ x. a || (x || b)) h ∙ moved a e b ∙ ap (λ x. e || x) (sym all)
-  where
-    moved : (a b c : Bool) → (a || (b || c)) ≡ (b || (a || c))
-    moved true true c = refl
-    moved true false c = refl
-    moved false b c = refl
+    list_any-append q (take i rows) (y ∷ drop i rows) ∙ ap (λ x. a || (x || b)) h ∙ swapped a e b ∙ ap (λ x. e || x) (sym all)
 
 pub shared : (a b c d : Bool) → (a && b && (c || d)) ≡ ((a && b && c) || (a && b && d))
 shared true true c d = refl

@@ -1,15 +1,6 @@
--- Elements of a list to which one is added.
+-- What the elements of a list are mapped to, as one is added.
 use Rattle.std.proofs.Common.{◌≡◌, ℕ, zero, suc, ◌<◌, ◌⊎◌, inl, inr, List, [], ◌∷◌, ◌++◌, map, length, Some, slice_get, refl, ap, arith}
 use Rattle.std.proofs.lemmas.Option.{same_Some}
-
-pub push_cases : {X : Type 0} (xs : List X) (y : X) (i : ℕ) (z : X) → slice_get (xs ++ y ∷ []) i ≡ Some z → (slice_get xs i ≡ Some z) ⊎ ((i ≡ length xs) × (y ≡ z))
-push_cases [] y zero z h = inr (refl, same_Some y z h)
-push_cases [] y (suc i) z h = cc
-push_cases (x ∷ xs) y zero z h = inl h
-push_cases (x ∷ xs) y (suc i) z h = elim (push_cases xs y i z h) [
-  | inl before ↦ inl before
-  | inr last ↦ inr (ap suc last.0, last.1)
-]
 
 module _ {X Y : Type 0} (f : X → Y) where
   pub map_push_cases : (xs : List X) (y : X) (i : ℕ) (z : Y) → slice_get (map f (xs ++ y ∷ [])) i ≡ Some z → (slice_get (map f xs) i ≡ Some z) ⊎ ((i ≡ length xs) × (f y ≡ z))

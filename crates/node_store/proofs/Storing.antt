@@ -2,13 +2,14 @@
 use Rattle.std.proofs.Common.{◌≡◌, ℕ, zero, suc, ◌+◌, ◌<◌, ◌≤◌, ◌⊎◌, inl, inr, false, List, [], ◌∷◌, ◌++◌, length, replicate, Option, None, Some, slice_get, refl, sym, ap, subst, ◌∙◌, arith, length-set}
 use Rattle.std.proofs.lemmas.List.{length_push}
 use Rattle.std.specs.Option.{IfSome, IfNone}
+use Rattle.cha_list.proofs.Longer.{push_cases}
 use Rattle.cha_board.specs.Board.{Board, IsValid}
 use Rattle.node_store.specs.declared.origin.Origin.{Origin}
 use Rattle.node_store.specs.NameLists.{list_at, Has, AreBelow, Falls, put, front_of, rest_of, take_from, first_name, without_first}
 use Rattle.node_store.specs.Nodes.{Node, leaves, IsAt, IsNew, IsReached}
 use Rattle.node_store.specs.Graphs.{HasOrigin, IsStore}
 use Rattle.node_store.proofs.Naming.{at_set, at_set_same, at_empty, has_cases, has_none, has_rest, falls_put, falls_rest, falls_none, below_front, has_front}
-use Rattle.node_store.proofs.Pushing.{push_cases, map_push_cases, map_push_keeps, map_within}
+use Rattle.node_store.proofs.Pushing.{map_push_cases, map_push_keeps, map_within}
 
 reached_push : (nodes : List Node) (n : Node) (i : ℕ) (q : Board) (origin : Option Origin) → HasOrigin nodes i q origin → HasOrigin (nodes ++ n ∷ []) i q origin
 unfolding HasOrigin

@@ -2,6 +2,7 @@
 use Rattle.std.proofs.Common.{◌≡◌, ◌==◌, ℕ, zero, suc, ◌+◌, ◌-◌, ◌^◌, ◌<◌, ◌≤◌, Bool, true, false, List, [], ◌∷◌, ◌++◌, Some, length, take, drop, map, refl, sym, ap, ◌∙◌, arith, append-nil, append_assoc, length-append}
 use Rattle.std.specs.List.{slice_get}
 use Rattle.std.proofs.lemmas.Bool.Decides.{nat_tests}
+use Rattle.std.proofs.lemmas.List.{length-map, take-map}
 use Rattle.std.proofs.Math.Seq.{take-append_seam}
 use Rattle.pgn_lex.specs.declared.kinds.Placed.{Placed}
 use Rattle.pgn_lex.specs.Lexing.{Appends}
@@ -14,7 +15,6 @@ use Rattle.pgn_games.specs.Games.{game_of, games}
 use Rattle.pgn_games.specs.Settling.{games_ended, settled_games}
 use Rattle.pgn_games.specs.Holding.{first_end, IsScanned, IsCut, IsCutAtEnd, IsOpen, IsLast}
 use Rattle.pgn_games.proofs.GameEnds.{closes, none_ended, some_first, none_scanned, nothing_scanned, open_game}
-use Rattle.pgn_games.proofs.Settled.{take_map, length_map}
 
 -- before the first byte
 pub nothing_cut : IsCut [] [] 0
@@ -118,7 +118,7 @@ pub none_last : (fed bytes : List ℕ) (kept : List Placed) (given : ℕ) → Is
 unfolding games cut
 none_last fed bytes kept given h none e =
     let all : cut Before (tokens bytes) ≡ h.games = ap (λ bs. cut Before (tokens bs)) e ∙ h.cuts ∙ ap (λ xs. h.games ++ cut Before xs) none ∙ append-nil h.games in
-    omega (arith, length_map game_of (cut Before (tokens bytes)), ap length all, h.number)
+    omega (arith, length-map (cut Before (tokens bytes)) game_of, ap length all, h.number)
 
 -- the games that were given stay the first
 front_of : (all games later : List (List Placed)) (given : ℕ) → all ≡ games ++ later → length games ≡ given → take given all ≡ games
@@ -127,7 +127,7 @@ front_of all games later given e n = rw (e, ← n) (take-append_seam games later
 fronts : (fed rest : List ℕ) (kept : List Placed) (given : ℕ) → (h : IsCut (settled_tokens fed) kept given) → take given (games (fed ++ rest)) ≡ map game_of h.games
 unfolding games
 fronts fed rest kept given h =
-    take_map game_of given (cut Before (tokens (fed ++ rest)))
+    take-map game_of given (cut Before (tokens (fed ++ rest)))
     ∙ ap (map game_of) (front_of (cut Before (tokens (fed ++ rest))) h.games _ given (ap (cut Before) (settled_first fed rest) ∙ h.cuts _) h.number)
 
 pub same_front : (fed a b rest rest' : List ℕ) (kept : List Placed) (given : ℕ) → IsCut (settled_tokens fed) kept given → a ≡ fed ++ rest → b ≡ fed ++ rest' → take given (games a) ≡ take given (games b)

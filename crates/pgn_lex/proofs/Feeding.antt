@@ -216,7 +216,7 @@ no_mark_ends : (b : ℕ) (rest : List ℕ) → (b == 191) ≡ false → (has_mar
 unfolding has_mark has_half_mark
 no_mark_ends b rest e = (rw e refl, refl)
 
-unmarked : (bytes : List ℕ) → has_mark bytes ≡ false → tokens bytes ≡ tokens_after 0 0 true bytes
+pub unmarked : (bytes : List ℕ) → has_mark bytes ≡ false → tokens bytes ≡ tokens_after 0 0 true bytes
 unfolding tokens
 unmarked bytes e = rw e refl
 

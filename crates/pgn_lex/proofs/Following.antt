@@ -17,6 +17,7 @@ use Rattle.pgn_lex.specs.Values.{onto_all}
 use Rattle.pgn_lex.specs.TagStages.{tag_valued, tag_in_value, tag_named, tag_in_name}
 use Rattle.pgn_lex.specs.Stages.{run_on, spoils, after_part, in_value, past_backslash, next_stage, token_at, word_after, value_from, grown_value, begins_line}
 use Rattle.pgn_lex.specs.Left.{left_of_piece, one_more}
+use Rattle.pgn_lex.proofs.Keeping.{onto_one, onto_two}
 use Rattle.pgn_lex.proofs.Runs.{run_grows, run_ends, in_line}
 use Rattle.pgn_lex.proofs.TagSteps.{valued_blank, valued_closes, valued_breaks, value_goes_on, value_closes, value_breaks, named_blank, named_opens, named_breaks, name_goes_on, name_ends, opened_blank, opened_name, opened_breaks, tag_falls}
 use Rattle.pgn_lex.proofs.TagRests.{valued_le, in_value_le, named_le, in_name_le, opened_le}
@@ -180,29 +181,21 @@ none_added : (o : Option Read) → o ≡ onto_all [] o
 none_added None = refl
 none_added (Some r) = refl
 
-one_added : (b : ℕ) (o : Option Read) → onto b o ≡ onto_all (b ∷ []) o
-one_added b None = refl
-one_added b (Some r) = refl
-
-two_added : (a b : ℕ) (o : Option Read) → onto a (onto b o) ≡ onto_all (a ∷ b ∷ []) o
-two_added a b None = refl
-two_added a b (Some r) = refl
-
 begins_escape : (b : ℕ) (bs : List ℕ) → (b == 34) ≡ false → in_class InLine b ≡ true → (b == 92) ≡ true → value_after false (b ∷ bs) ≡ onto_all [] (value_after true bs)
 unfolding value_after
 begins_escape b bs e f g = rw (e, f, g) (none_added (value_after true bs))
 
 grows_value : (b : ℕ) (bs : List ℕ) → (b == 34) ≡ false → in_class InLine b ≡ true → (b == 92) ≡ false → value_after false (b ∷ bs) ≡ onto_all (b ∷ []) (value_after false bs)
 unfolding value_after
-grows_value b bs e f g = rw (e, f, g) (one_added b (value_after false bs))
+grows_value b bs e f g = rw (e, f, g) (onto_one b (value_after false bs))
 
 ends_escape : (b : ℕ) (bs : List ℕ) → ((b == 34) || (b == 92)) ≡ true → value_after true (b ∷ bs) ≡ onto_all (b ∷ []) (value_after false bs)
 unfolding value_after
-ends_escape b bs e = rw e (one_added b (value_after false bs))
+ends_escape b bs e = rw e (onto_one b (value_after false bs))
 
 keeps_backslash : (b : ℕ) (bs : List ℕ) → ((b == 34) || (b == 92)) ≡ false → in_class InLine b ≡ true → value_after true (b ∷ bs) ≡ onto_all (92 ∷ b ∷ []) (value_after false bs)
 unfolding value_after
-keeps_backslash b bs e f = rw (e, f) (two_added 92 b (value_after false bs))
+keeps_backslash b bs e f = rw (e, f) (onto_two 92 b (value_after false bs))
 
 breaks_escape : (b : ℕ) (bs : List ℕ) → ((b == 34) || (b == 92)) ≡ false → in_class InLine b ≡ false → value_after true (b ∷ bs) ≡ None
 unfolding value_after

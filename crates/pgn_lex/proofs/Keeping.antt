@@ -11,7 +11,7 @@ use Rattle.pgn_lex.specs.Values.{Keeps, onto_all}
 short : (kept front : List ℕ) → kept ≡ take 4096 front → length kept < 4096 → length front < 4096
 short kept front e small = omega (arith, ap length e, length-take 4096 front)
 
-below : (n : ℕ) → n ≤ 4096 → nat_lt 4096 n ≡ false
+pub below : (n : ℕ) → n ≤ 4096 → nat_lt 4096 n ≡ false
 below n small = grind (arith, nat_tests)
 
 above : (n : ℕ) → 4096 < n → nat_lt 4096 n ≡ true
@@ -60,11 +60,11 @@ unfolding value_after
 ends bytes front at escaped large before = before ∙ ap (λ x. onto_all front (value_after escaped x)) (drop_all at bytes large) ∙ none_after front escaped
 
 -- what each kind of byte does
-onto_one : (b : ℕ) (o : Option Read) → onto b o ≡ onto_all (b ∷ []) o
+pub onto_one : (b : ℕ) (o : Option Read) → onto b o ≡ onto_all (b ∷ []) o
 onto_one b None = refl
 onto_one b (Some r) = refl
 
-onto_two : (a b : ℕ) (o : Option Read) → onto a (onto b o) ≡ onto_all (a ∷ b ∷ []) o
+pub onto_two : (a b : ℕ) (o : Option Read) → onto a (onto b o) ≡ onto_all (a ∷ b ∷ []) o
 onto_two a b None = refl
 onto_two a b (Some r) = refl
 

@@ -1,6 +1,6 @@
 -- What is kept of a word and of a value.
-use Rattle.std.proofs.Common.{◌≡◌, ℕ, zero, suc, ◌≤◌, min, nat_lt, List, [], ◌∷◌, length, take, refl, ap, ◌∙◌, arith}
-use Rattle.std.proofs.lemmas.List.{take_min, length-take}
+use Rattle.std.proofs.Common.{◌≡◌, ℕ, min, nat_lt, List, length, take, refl, ap, ◌∙◌, arith}
+use Rattle.std.proofs.lemmas.List.{take_min, length-take, take-take}
 use Rattle.std.proofs.lemmas.Bool.Decides.{nat_tests}
 use Rattle.pgn_lex.specs.declared.kinds.Token.TheVariants.{Tag}
 
@@ -10,13 +10,7 @@ few_kept k size value kept e f g =
     g ∙ ap (λ x. take x value) k' ∙ take_min 4096 value
 
 take_fewer : (value : List ℕ) → take 4096 (take 4097 value) ≡ take 4096 value
-take_fewer value = take_take 4096 4097 value (omega arith)
-  where
-    take_take : (n m : ℕ) (xs : List ℕ) → n ≤ m → take n (take m xs) ≡ take n xs
-    take_take zero m xs le = refl
-    take_take (suc n) zero xs le = absurd (omega arith)
-    take_take (suc n) (suc m) [] le = refl
-    take_take (suc n) (suc m) (x ∷ xs) le = ap (λ ys. x ∷ ys) (take_take n m xs (omega arith))
+take_fewer value = take-take 4096 4097 value (omega arith)
 
 longer : (n m : ℕ) → n ≡ min 4097 m → nat_lt 4096 n ≡ nat_lt 4096 m
 longer n m e = grind (arith, nat_tests)

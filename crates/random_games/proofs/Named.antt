@@ -1,5 +1,5 @@
 -- The word of a legal move names that move.
-use Rattle.std.proofs.Common.{◌≡◌, ℕ, ◌+◌, ◌-◌, ◌<◌, ◌==◌, ◌&&◌, ◌||◌, ◌⊎◌, inl, inr, Bool, true, false, not, max, List, [], ◌∷◌, ◌++◌, Option, Some, None, Ok, refl, sym, ap, subst, ◌∙◌, arith}
+use Rattle.std.proofs.Common.{◌≡◌, ℕ, ◌+◌, ◌-◌, ◌<◌, ◌==◌, ◌&&◌, ◌||◌, ◌⊎◌, inl, inr, Bool, true, false, not, List, [], ◌∷◌, ◌++◌, Option, Some, None, Ok, refl, sym, ap, subst, ◌∙◌, arith}
 use Rattle.std.specs.Prelude.{codes, if◌then◌else◌}
 use Rattle.std.specs.List.{filter, Contains}
 use Rattle.std.proofs.lemmas.Bool.{and_parts, eqb-true, eq-eqb}
@@ -10,23 +10,24 @@ use Rattle.cha_board.specs.declared.men.Kind.{Kind}
 use Rattle.cha_board.specs.declared.men.Kind.TheVariants.{Pawn, Knight, Bishop, Rook, Queen, King}
 use Rattle.cha_board.specs.declared.men.Man.{Man}
 use Rattle.cha_board.specs.Men.{same_color, same_kind, is_man}
-use Rattle.cha_board.specs.Squares.{file_of, rank_of, files_apart, ranks_apart, steps_apart, aims_at}
-use Rattle.cha_board.specs.Board.{Board, man_at, home_of, in_check}
+use Rattle.cha_board.specs.Squares.{file_of, rank_of, files_apart, aims_at}
+use Rattle.cha_board.specs.Board.{Board, man_at, home_of}
 use Rattle.cha_board.specs.Letters.{kind_of}
 use Rattle.cha_board.proofs.Identity.{same_kind_equal, same_kind_self}
 use Rattle.cha_moves.specs.Step.{Move}
-use Rattle.cha_moves.specs.Moves.{last_rank, goes, promotes_well, is_short_castling, is_long_castling, is_promotion, is_pseudo_legal, is_legal_in, men_after, legal}
+use Rattle.cha_moves.specs.Moves.{last_rank, goes, promotes_well, is_short_castling, is_long_castling, is_promotion, legal}
 use Rattle.cha_moves.proofs.Contained.{not_in_nothing, Contains-cons_here, Contains-cons_there, Contains-filter_from, Contains-filter_parts}
-use Rattle.cha_moves.proofs.Made.{Mover, may_gives}
+use Rattle.cha_moves.proofs.Made.{Mover}
 use Rattle.cha_moves.proofs.Kept.{promoted, short_tests, long_tests}
 use Rattle.cha_moves.proofs.Listed.{is_listed}
-use Rattle.cha_moves.proofs.Near.{king_aims}
+use Rattle.cha_moves.proofs.Alone.{mover_of}
 use Rattle.cha_san.specs.declared.forms.Form.{Form}
 use Rattle.cha_san.specs.declared.forms.Form.TheVariants.{Short, Long}
 use Rattle.cha_san.specs.Fitting.{is_castling, promotes_as, fits_parts, fits}
 use Rattle.cha_san.specs.Forms.{is_sign, stem, is_short, is_long, unsigned_form, form_of}
 use Rattle.cha_san.specs.Resolving.{only, resolved}
 use Rattle.cha_san.proofs.Resolved.{answers_resolved}
+use Rattle.cha_san.proofs.Sourced.{one_step}
 use Rattle.random_games.specs.Words.{kind_text, man_text, castling_text, plain_text, move_word}
 use Rattle.cha_moves.proofs.LegalApart.{legal_apart}
 use Rattle.cha_moves.proofs.Apart.{filtered_apart}
@@ -59,11 +60,6 @@ move s t p = record { from = s; to = t; promotion = p }
 same_move : (n m : Move) → n.from ≡ m.from → n.to ≡ m.to → n.promotion ≡ m.promotion → n ≡ m
 same_move n m a b c = ap (λ s. move s n.to n.promotion) a ∙ ap (λ t. move m.from t n.promotion) b ∙ ap (λ p. move m.from m.to p) c
 
--- the man of a legal move
-mover : (q : Board) (m : Move) → Contains (legal q) m → (man : Man) × Mover q m man
-unfolding is_legal_in
-mover q m h = may_gives q m (and_parts (is_pseudo_legal q m) (not (in_check (men_after q m) q.side)) (is_listed q m h).legal).0
-
 -- castling goes from the king's home, two files to one side or the other
 record Castles (q : Board) (m : Move) : Type 0 where
   from_home : m.from ≡ home_of q.side
@@ -76,17 +72,10 @@ three_ways false true c h = inr (inl refl)
 three_ways false false true h = inr (inr refl)
 three_ways false false false h = cc
 
-one_step : (c : Color) (s t : ℕ) → aims_at c King s t ≡ true → (files_apart s t == 2) ≡ true → ⊥
-unfolding steps_apart
-one_step c s t h two =
-    let near : max (files_apart s t) (ranks_apart s t) ≡ 1 = eqb-true (steps_apart s t) 1 (king_aims c s t h) in
-    let far : files_apart s t ≡ 2 = eqb-true (files_apart s t) 2 two in
-    omega (arith, near, far)
-
 castles : (q : Board) (m : Move) → Contains (legal q) m → is_castling q m ≡ true → Castles q m
 unfolding is_castling goes
 castles q m there h =
-    let may = mover q m there in
+    let may = mover_of q m there in
     let man = may.0 in
     let both = and_parts (is_man q.side King (man_at q.men m.from)) (files_apart m.from m.to == 2) h in
     let king : man.kind ≡ King = same_kind_equal man.kind King (and_parts (same_color man.color q.side) (same_kind man.kind King) (sym (ap (is_man q.side King) may.1.found) ∙ both.0)).1 in
@@ -236,7 +225,7 @@ plain_named q m man there may h =
     let all = six_parts (not (is_castling q n)) (is_man q.side man.kind (man_at q.men n.from)) (file_of n.from == file_of m.from) (rank_of n.from == rank_of m.from) (n.to == m.to) (promotes_as m.promotion n.promotion) fit in
     let from : n.from ≡ m.from = one_square n.from m.from (eqb-true (file_of n.from) (file_of m.from) all.2) (eqb-true (rank_of n.from) (rank_of m.from) all.3) in
     let target : n.to ≡ m.to = eqb-true n.to m.to all.4 in
-    let other = mover q n in_list in
+    let other = mover_of q n in_list in
     let kind : other.0.kind ≡ man.kind = same_kind_equal other.0.kind man.kind (and_parts (same_color other.0.color q.side) (same_kind other.0.kind man.kind) (sym (ap (is_man q.side man.kind) other.1.found) ∙ all.1)).1 in
     let well = subst (λ k. promotes_well q.side k n.to n.promotion ≡ true) kind other.1.well in
     let well' = subst (λ t. promotes_well q.side man.kind t n.promotion ≡ true) target well in
@@ -246,7 +235,7 @@ by_castling : (q : Board) (m : Move) (castling : Bool) → Contains (legal q) m 
 unfolding castling_text
 by_castling q m true there h = castling_named q m (file_of m.to == 6) there h refl
 by_castling q m false there h =
-    let may = mover q m there in
+    let may = mover_of q m there in
     let text : plain_text q m ≡ kind_text may.0.kind ++ way_of m.from m.to m.promotion = plain_is q m ∙ ap (λ o. man_text o ++ way_of m.from m.to m.promotion) may.1.found in
     ap (resolved q) text ∙ plain_named q m may.0 there may.1 h
 

@@ -18,7 +18,8 @@ use Rattle.cha_moves.specs.declared.ends.Standing.TheVariants.{Mate, Stalemate, 
 use Rattle.cha_moves.specs.Standings.{standing_of}
 use Rattle.cha_moves.proofs.Listed.{is_listed}
 use Rattle.pgn_lex.specs.declared.kinds.Placed.{Placed}
-use Rattle.pgn_lex.specs.Tokens.{tokens_after, has_mark, tokens}
+use Rattle.pgn_lex.specs.Tokens.{tokens_after, has_mark}
+use Rattle.pgn_lex.proofs.Feeding.{unmarked}
 use Rattle.pgn_games.specs.declared.faults.GameFault.{GameFault}
 use Rattle.pgn_games.specs.declared.marks.ResultMark.{ResultMark}
 use Rattle.pgn_games.specs.declared.played.Game.{Game}
@@ -155,12 +156,8 @@ unfolding has_mark texts_from game_text tags_text tag_line
 no_mark number [] = refl
 no_mark number (game ∷ games) = refl
 
-by_mark : (bytes : List ℕ) → has_mark bytes ≡ false → tokens bytes ≡ tokens_after 0 0 true bytes
-unfolding tokens
-by_mark bytes e = rw e refl
-
 pub games_are_read : (seed count : ℕ) → 1 ≤ count → count ≤ 1000 → games (made seed count) ≡ map as_read (made_games count (seeded seed))
 unfolding games made
 games_are_read seed count some few =
     let all = made_games count (seeded seed) in
-    ap (λ ts. map game_of (cut Before ts)) (by_mark (texts_from 1 all) (no_mark 1 all)) ∙ games_from count 1 (seeded seed) 0 true (omega (arith, few))
+    ap (λ ts. map game_of (cut Before ts)) (unmarked (texts_from 1 all) (no_mark 1 all)) ∙ games_from count 1 (seeded seed) 0 true (omega (arith, few))

@@ -4,7 +4,6 @@ use Rattle.std.specs.Prelude.{codes}
 use Rattle.std.specs.List.{list_all}
 use Rattle.std.proofs.lemmas.List.{take_all, length-append}
 use Rattle.std.proofs.lemmas.Bool.{and_parts, not-true}
-use Rattle.std.proofs.lemmas.Bool.Decides.{nat_tests}
 use Rattle.cha_list.specs.declared.classes.Class.TheVariants.{InLine}
 use Rattle.cha_list.specs.Bytes.{in_class}
 use Rattle.pgn_lex.specs.declared.kinds.Token.TheVariants.{Tag}
@@ -12,6 +11,7 @@ use Rattle.pgn_lex.specs.declared.pieces.Piece.{Piece}
 use Rattle.pgn_lex.specs.Pieces.{spoken_piece, is_white}
 use Rattle.pgn_lex.specs.Tags.{past_blanks, past_byte, name_at, onto, value_after, tag_piece}
 use Rattle.pgn_lex.specs.Tokens.{piece, placed, tokens_after}
+use Rattle.pgn_lex.proofs.Keeping.{below}
 use Rattle.pgn_lex.proofs.TagParts.{tag_is}
 use Rattle.random_games.specs.Made.{tag_line}
 use Rattle.random_games.proofs.Passed.{first_behind, passed, new_line}
@@ -71,9 +71,6 @@ length_line name value =
     let c = ap length (inside_is name value []) in
     let d = length-append (inside name value) (10 ∷ []) in
     omega (arith, a, b, c, d)
-
-below : (n : ℕ) → n ≤ 4096 → nat_lt 4096 n ≡ false
-below n small = grind (arith, nat_tests)
 
 bracket : (first : Bool) (bs : List ℕ) → piece first 91 bs ≡ tag_piece bs
 unfolding piece is_white

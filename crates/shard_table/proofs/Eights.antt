@@ -1,9 +1,10 @@
 -- What is done to each of the eight in turn.
 use Rattle.std.proofs.Common.{◌≡◌, ◌∙◌, refl, sym, ap, subst, ℕ, zero, suc, ◌+◌, ◌<◌, List, [], ◌∷◌, length, Some, slice_get, slice_index_or, arith}
+use Rattle.std.proofs.lemmas.Option.{same_Some}
 use Rattle.std.specs.Bool.{⊤}
 use Rattle.turn_cell.specs.Histories.{IsLegalHistory}
 use Rattle.turn_cell.specs.Passes.{SplitOff, Joined, start, seen, splits, joins, IsOf, IsFirst}
-use Rattle.shard_table.proofs.PassAt.{one_some, pass_get}
+use Rattle.shard_table.proofs.PassAt.{pass_get}
 use Rattle.shard_table.specs.ShardRows.{Rows}
 use Rattle.shard_table.specs.Shards.{ShardStep, empty}
 use Rattle.shard_table.specs.Tables.{ShardPass, pass_at, seen_at, OthersStay, IsOfTable, IsFirstPass, splits_of, joins_of}
@@ -18,7 +19,7 @@ module _ {A : Type 0} (Q : ℕ → A → Type 0) where
 
   held_at : (i : ℕ) (xs : List A) → Holds i xs → (k : ℕ) (x : A) → slice_get xs k ≡ Some x → Q (i + k) x
   held_at i [] h k x e = cc
-  held_at i (y ∷ ys) h zero x e = subst (λ n. Q n x) (let s : i ≡ i + 0 = omega arith in s) (subst (λ z. Q i z) (one_some y x e) h.0)
+  held_at i (y ∷ ys) h zero x e = subst (λ n. Q n x) (let s : i ≡ i + 0 = omega arith in s) (subst (λ z. Q i z) (same_Some y x e) h.0)
   held_at i (y ∷ ys) h (suc k) x e = subst (λ n. Q n x) (let s : suc i + k ≡ i + suc k = omega arith in s) (held_at (suc i) ys h.1 k x e)
 
   pub held : (xs : List A) → Holds 0 xs → (k : ℕ) (x : A) → slice_get xs k ≡ Some x → Q k x
@@ -45,7 +46,7 @@ module _ {A B : Type 0} (Q : A → B → Type 0) where
   pub held_two : (xs : List A) (ys : List B) → Two xs ys → (k : ℕ) (x : A) (y : B) → slice_get xs k ≡ Some x → slice_get ys k ≡ Some y → Q x y
   held_two [] ys h k x y e f = cc
   held_two (a ∷ xs) [] h k x y e f = cc
-  held_two (a ∷ xs) (b ∷ ys) h zero x y e f = subst (λ z. Q z y) (one_some a x e) (subst (λ z. Q a z) (one_some b y f) h.0)
+  held_two (a ∷ xs) (b ∷ ys) h zero x y e f = subst (λ z. Q z y) (same_Some a x e) (subst (λ z. Q a z) (same_Some b y f) h.0)
   held_two (a ∷ xs) (b ∷ ys) h (suc k) x y e f = held_two xs ys h.1 k x y e f
 
 -- a fact at each of the first numbers

@@ -1,5 +1,6 @@
 -- A pass at its place among the eight.
 use Rattle.std.proofs.Common.{◌≡◌, ◌≢◌, ◌∙◌, refl, sym, ap, subst, ℕ, zero, suc, List, [], ◌∷◌, length, Some, slice_get, slice_index_or, slice_set, ◌<◌, ◌⊎◌, inl, inr, ⊎_elim, arith}
+use Rattle.std.proofs.lemmas.Option.{same_Some}
 use Rattle.turn_cell.specs.declared.object.Object.{Ghosts}
 use Rattle.turn_cell.specs.declared.cells.Pass.{Pass}
 use Rattle.turn_cell.specs.declared.cells.TurnCell.{TurnCell}
@@ -11,9 +12,6 @@ use Rattle.shard_table.specs.Shards.{ShardStep}
 use Rattle.shard_table.specs.Tables.{ShardPass, pass_or}
 
 module _ {A : Type 0} where
-  pub one_some : (a b : A) → Some a ≡ Some b → a ≡ b
-  one_some a b e = cc
-
   pub get_index : (xs : List A) (k : ℕ) (d : A) → k < length xs → slice_get xs k ≡ Some (slice_index_or xs k d)
   get_index [] k d lt = absurd (omega (arith, lt))
   get_index (x ∷ xs) zero d lt = refl
@@ -39,7 +37,7 @@ module _ {G : Ghosts Rows FactCall FactReply} where
 
   pub pass_get : (ps : List (Pass Rows FactCall FactReply G)) (k : ℕ) (p : Pass Rows FactCall FactReply G) → slice_get ps k ≡ Some p → known p ≡ pass_or ps k
   pass_get [] k p e = cc
-  pass_get (q ∷ ps) zero p e = ap known (sym (one_some q p e))
+  pass_get (q ∷ ps) zero p e = ap known (sym (same_Some q p e))
   pass_get (q ∷ ps) (suc k) p e = pass_get ps k p e
 
   -- a change of one pass leaves the others
@@ -67,7 +65,7 @@ module _ {G : Ghosts Rows FactCall FactReply} where
         → IsOf (slice_index_or cells k d) q → (j : ℕ) (c : TurnCell Rows FactCall FactReply) (p : Pass Rows FactCall FactReply G) → slice_get cells j ≡ Some c → slice_get (slice_set ps k q) j ≡ Some p → IsOf c p
     of_all old new j c p e f = ⊎_elim
         (λ h. let there : slice_get cells j ≡ Some (slice_index_or cells k d) = ap (λ i. slice_get cells i) h.0 ∙ get_index cells k d lt in
-        let same : c ≡ slice_index_or cells k d = one_some c (slice_index_or cells k d) (sym e ∙ there) in
+        let same : c ≡ slice_index_or cells k d = same_Some c (slice_index_or cells k d) (sym e ∙ there) in
         subst (λ x. IsOf x p) (sym same) (subst (λ y. IsOf (slice_index_or cells k d) y) h.1 new))
         (λ h. old j c p e h.1)
         (get_set ps k j q p f)

@@ -1,5 +1,6 @@
 -- Looking at the number that is now_served keeps the rule.
 use Rattle.std.proofs.Common.{◌≡◌, ◌∙◌, sym, ap, subst, refl, ℕ, ◌%◌, ◌^◌, inr, ⊎_elim, true, false, [], ◌∷◌, length, set, get_or, Some, arith, append-nil, eq-eqb, ne_eqb, nat_eq, MatchBool}
+use Rattle.std.proofs.lemmas.Option.{same_Some}
 use lib.Seq.{set-get_or}
 use mathlib.Core.Option as maybe
 use lib.ListN.{get_elem?}
@@ -91,15 +92,12 @@ module _ {V C R : Type 0} (step : V → C → R → V → Type 0) (start : V) (s
 pub found_home : {V C R : Type 0} (s : State (Held V C R) (View V C R)) (held : Held V C R) → s.homes ≡ maybe.some held ∷ [] → get_elem? s.homes 0 ≡ maybe.some (maybe.some held)
 found_home s held h = ap (λ hs. get_elem? hs 0) h
 
-pub some_is : {A : Type 0} {x y : A} → Some x ≡ Some y → x ≡ y
-some_is {A} {x} {y} e = cc
-
 module _ {V C R : Type 0} (step : V → C → R → V → Type 0) (st : Step (Held V C R)) (m w : Me (Held V C R) (View V C R)) (found ticket t : ℕ) (has : m.0.ticket ≡ Some t) (is : ticket ≡ t % 2 ^ 64) (empty : m.1 ≡ []) where
   -- what the caller reads off the answer
   pub tells : Looks step st m found w → MatchBool (nat_eq found ticket) (HasTurn step m.0 w) (w ≡ m)
   tells l = ⊎_elim
       (λ h.
-      let same : t ≡ h.8.0 = some_is (sym has ∙ h.8.1) in
+      let same : t ≡ h.8.0 = same_Some _ _ (sym has ∙ h.8.1) in
       let hit : found ≡ ticket = h.8.2 ∙ (ap (λ n. n % 2 ^ 64) (sym same) ∙ sym is) in
       rw (eq-eqb found ticket hit) (h.0, h.1, h.2, h.3, h.4, h.5, h.6, h.7 ∙ ap (λ xs. (with_turn m.0 h.0, (0, h.1) ∷ xs)) empty))
       (λ h. rw (ne_eqb found ticket (λ e. h.1 t has (e ∙ is))) h.0)

@@ -1,11 +1,11 @@
 -- A new cell has the rule.
 use Rattle.std.proofs.Common.{◌≡◌, ◌∙◌, sym, ap, subst, refl, ℕ, inl, false, [], ◌∷◌, Some, arith, zero, suc}
+use Rattle.std.proofs.lemmas.Option.{same_Some}
 use mathlib.Core.Option as maybe
 use lib.ListN.{get_elem?}
 use Rattle.atomic_table.specs.Table.{opening}
 use Rattle.turn_cell.specs.Rule.{TakesTurns, Fits}
 use Rattle.turn_cell.specs.Views.{first_view}
-use Rattle.turn_cell.proofs.Looking.{some_is}
 use Rattle.turn_cell.specs.declared.views.View.{View}
 use Rattle.turn_cell.specs.declared.views.Held.{Held}
 use Rattle.std.specs.declared.snapshot.Snapshot.{Snapshot}
@@ -20,7 +20,7 @@ module _ {V C R : Type 0} (step : V → C → R → V → Type 0) (key : Snapsho
 
   fits : Fits key.value [] 0 begun
   fits = record {
-    origin = λ o e. let same : key ≡ o = some_is e in ap (λ (x : Snapshot V). x.value) (sym same);
+    origin = λ o e. let same : key ≡ o = same_Some key o e in ap (λ (x : Snapshot V). x.value) (sym same);
     before = ([], refl);
     joined_shorter = ([], refl);
     own = λ l. refl;

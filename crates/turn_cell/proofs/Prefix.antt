@@ -2,13 +2,10 @@
 use Rattle.std.proofs.Common.{◌≡◌, ◌∙◌, sym, ap, subst, refl, ℕ, ◌≤◌, ◌<◌, Bool, true, false, cond, length, List, [], ◌∷◌, ◌++◌, arith, length-append, append-nil, append_assoc, nat_eq, nat_lt}
 use Rattle.std.proofs.lemmas.List.Elements.{filter-append}
 use Rattle.std.proofs.lemmas.Bool.{ltb-true, ltb-false}
+use Rattle.cha_list.proofs.Longer.{left_nothing}
 use Rattle.turn_cell.specs.Histories.{IsPrefix, entries_of, longer_of}
 use Rattle.turn_cell.specs.Views.{shorter_of}
 use Rattle.turn_cell.specs.declared.object.Entry.{Entry}
-
-pub nil_left : {A : Type 0} (xs ys : List A) → xs ++ ys ≡ [] → xs ≡ []
-nil_left [] ys e = refl
-nil_left (x ∷ xs) ys e = absurd (let h : x ∷ (xs ++ ys) ≡ [] = e in cc)
 
 nil_short : {A : Type 0} (xs : List A) → length xs ≤ 0 → xs ≡ []
 nil_short [] h = refl
@@ -50,7 +47,7 @@ module _ {C R : Type 0} (n : ℕ) where
   by_more xs ys = filter-append (λ e. nat_eq e.number n) xs ys
 
   pub none_seen : (seen history : List (Entry C R)) → IsPrefix seen history → entries_of n history ≡ [] → entries_of n seen ≡ []
-  none_seen seen history g h = nil_left (entries_of n seen) (entries_of n g.0) (sym (by_more seen g.0) ∙ (ap (entries_of n) (sym g.1) ∙ h))
+  none_seen seen history g h = left_nothing (entries_of n seen) (entries_of n g.0) (sym (by_more seen g.0) ∙ (ap (entries_of n) (sym g.1) ∙ h))
 
   -- what stands between has no more
   pub squeeze : (xs ys history m : List (Entry C R)) → IsPrefix xs ys → IsPrefix ys history → entries_of n xs ≡ m → entries_of n history ≡ m → entries_of n ys ≡ m
@@ -58,7 +55,7 @@ module _ {C R : Type 0} (n : ℕ) where
       let a : entries_of n ys ≡ m ++ entries_of n g.0 = ap (entries_of n) g.1 ∙ (by_more xs g.0 ∙ ap (λ z. z ++ entries_of n g.0) low) in
       let b : entries_of n history ≡ entries_of n ys ++ entries_of n h.0 = ap (entries_of n) h.1 ∙ by_more ys h.0 in
       let c : m ≡ m ++ (entries_of n g.0 ++ entries_of n h.0) = sym high ∙ (b ∙ (ap (λ z. z ++ entries_of n h.0) a ∙ append_assoc m (entries_of n g.0) (entries_of n h.0))) in
-      let d = nil_left (entries_of n g.0) (entries_of n h.0) (same_left m (entries_of n g.0 ++ entries_of n h.0) c) in
+      let d = left_nothing (entries_of n g.0) (entries_of n h.0) (same_left m (entries_of n g.0 ++ entries_of n h.0) c) in
       a ∙ (ap (λ z. m ++ z) d ∙ append-nil m)
 
 -- both lists of a join

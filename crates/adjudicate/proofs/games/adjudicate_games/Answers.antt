@@ -1,6 +1,6 @@
 use Rattle.std.proofs.Common.{ℕ, ◌<◌, ◌≤◌, ◌+◌, ◌*◌, List, [], length, Err, Ok, refl, sym, ap, ◌∙◌, arith}
 use Rattle.cha_outside.specs.Gathering.{Took}
-use Rattle.cha_outside.proofs.Taking.{consumes_nothing}
+use Rattle.std.proofs.KnownBytes.{Consumes-nil}
 use Rattle.cha_words.specs.declared.orders.Order.TheVariants.{AdjudicateGames}
 use Rattle.adjudicate.specs.declared.endings.Status.TheVariants.{NoMemory}
 use Rattle.adjudicate.proofs.RunEndings.{short_run, nothing_begun, rose_in}
@@ -11,13 +11,13 @@ use Rattle.adjudicate.proofs.games.adjudicate_games.Goals as goal
 pub returns-in_default-clause-run : goal.returns-in_default-clause-run
 returns-in_default-clause-run g c =
     let left = g.S.Source.left c.args.source.now in
-    let taken : Took left left (λ (bytes : List ℕ). length bytes ≤ 268435456) = ([], consumes_nothing left, omega arith) in
+    let taken : Took left left (λ (bytes : List ℕ). length bytes ≤ 268435456) = ([], Consumes-nil left, omega arith) in
     short_run (AdjudicateGames _ _) _ _ tt (omega arith) (omega arith) NoMemory (nothing_begun (AdjudicateGames _ _) _ _ _ 0 0 0 _ tt taken) (λ h. cc) (λ h. cc) (λ h. cc) taken
 
 pub loop-found-init : goal.loop-found-init
 loop-found-init g c =
     rw c.in-Ok.ensures (record {
-      at = at_first _ _ _ _ _ c.new-totals.ensures (consumes_nothing (g.S.Source.left c.args.source.now));
+      at = at_first _ _ _ _ _ c.new-totals.ensures (Consumes-nil (g.S.Source.left c.args.source.now));
       end = λ h. cc;
       few = omega arith;
       fine = refl;

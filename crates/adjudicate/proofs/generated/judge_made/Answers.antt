@@ -1,5 +1,5 @@
 use Rattle.std.proofs.Common.{◌≡◌, ◌<◌, ◌+◌, ◌*◌, [], length, None, Some, Ok, false, refl, sym, ap, ◌∙◌, subst, arith}
-use Rattle.cha_outside.proofs.Taking.{consumes_nothing}
+use Rattle.std.proofs.KnownBytes.{Consumes-nil}
 use Rattle.random_games.specs.Made.{made}
 use Rattle.adjudicate.proofs.PlayedGames.{few_words, given_few}
 use Rattle.adjudicate.proofs.GameLoop.{IsAt, at_first, room_at, retook, gave, at_end, not_more, given_more, all_counted}
@@ -16,7 +16,7 @@ pub loop-found-init : goal.loop-found-init
 loop-found-init g c =
     let text = made c.args.seed c.args.count in
     let same : c.new-source.result ≡ text = c.new-source.ensures ∙ c.into_vec.ensures ∙ c.in_ok-text.ensures in
-    let first = at_first c.args.limits.now false (Some text) None c.new-totals.result c.new-totals.ensures (consumes_nothing (Some text)) in
+    let first = at_first c.args.limits.now false (Some text) None c.new-totals.result c.new-totals.ensures (Consumes-nil (Some text)) in
     rw c.in_ok-reader.ensures (record {
       at = subst (λ x. IsAt c.args.limits.now false (Some text) (Some x) None None [] 0 c.new-totals.result) (sym same) first;
       end = λ h. cc;

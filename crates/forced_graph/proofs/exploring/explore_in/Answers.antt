@@ -5,7 +5,7 @@ use Rattle.node_store.proofs.Pushing.{map_within}
 use Rattle.forced_graph.specs.Regions.{IsBetween, IsExpanding}
 use Rattle.forced_graph.proofs.Calling.{more_made}
 use Rattle.forced_graph.proofs.Members.{explored_asked}
-use Rattle.forced_graph.proofs.Popping.{when_some, when_none}
+use Rattle.cha_list.proofs.WhenTold.{when_some, when_none}
 use Rattle.forced_graph.proofs.exploring.explore_in.Goals as goal
 
 pub loop-region-init : goal.loop-region-init

@@ -1,9 +1,10 @@
 use Rattle.std.proofs.Common.{◌≡◌, ◌-◌, length, sym, ◌∙◌, ap, arith, rules}
+use Rattle.std.proofs.lemmas.List.{nil_from_length}
 use Rattle.std.proofs.lemmas.Result.{IfOk-weaker}
 use Rattle.cha_moves.specs.MateLines.{mate_lines}
 use Rattle.cha_moves.proofs.MateLines.{begun}
 use Rattle.helpmate_list.proofs.Taking.{join_full}
-use Rattle.helpmate_list.proofs.Mating.{none_below_at, led_more, led_all, all_of_none, none_by_move, none_first, none_within, none_at_all, no_length}
+use Rattle.helpmate_list.proofs.Mating.{none_below_at, led_more, led_all, all_of_none, none_by_move, none_first, none_within, none_at_all}
 use Rattle.helpmate_list.proofs.first.+listing.Goals as goal
 use Rattle.helpmate_list.proofs.first.+listing.Goals.{expand-then-items-most+in_ok-rest+in_ok-add_led, expand-else-items-most}
 
@@ -58,4 +59,4 @@ first_lines-returns-then-is_known-clause-lines g t c = c.new-then-is_known.ensur
 
 pub first_lines-none-requires : goal.first_lines-none-requires
 first_lines-none-requires g t c =
-    none_within c.args.position.now c.args.winner c.args.plies c.requires.least (none_at_all c.args.most c.in_ok-lines.lines (mate_lines c.args.plies c.args.position.now c.args.winner) c.in_ok-lines.ensures.lines c.requires.some (no_length c.in_ok-lines.lines (sym (ap length c.items.ensures) ∙ (let h : length c.items.result.now ≡ 0 = search rules in h))))
+    none_within c.args.position.now c.args.winner c.args.plies c.requires.least (none_at_all c.args.most c.in_ok-lines.lines (mate_lines c.args.plies c.args.position.now c.args.winner) c.in_ok-lines.ensures.lines c.requires.some (nil_from_length c.in_ok-lines.lines (sym (ap length c.items.ensures) ∙ (let h : length c.items.result.now ≡ 0 = search rules in h))))

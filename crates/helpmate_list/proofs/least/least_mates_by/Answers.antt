@@ -1,6 +1,7 @@
 use Rattle.std.proofs.Common.{◌≡◌, [], length, sym, ◌∙◌, ap, arith, rules}
+use Rattle.std.proofs.lemmas.List.{nil_from_length}
 use Rattle.cha_moves.specs.MateLines.{mate_lines}
-use Rattle.helpmate_list.proofs.Mating.{none_below_zero, none_at_all, no_length}
+use Rattle.helpmate_list.proofs.Mating.{none_below_zero, none_at_all}
 use Rattle.helpmate_list.proofs.Deepening.{none_on_turn, mover_next, none_yet, longer_first, longer_next, longer_found, longer_none}
 use Rattle.helpmate_list.proofs.least.least_mates_by.Goals as goal
 use Rattle.helpmate_list.proofs.least.least_mates_by.Goals.{then-not-is+in_ok-lines+else-not-is_empty, else-not-is}
@@ -23,7 +24,7 @@ loop-plies-preserved g c =
     let before = c.loop-plies.invariant in
     let none : mate_lines n q c.args.winner ≡ [] =
     elim c.if-not-is.branch [
-      | then-not-is+in_ok-lines+else-not-is_empty w ↦ none_at_all 201 w.in_ok-lines.lines (mate_lines n q c.args.winner) w.in_ok-lines.ensures (omega arith) (no_length w.in_ok-lines.lines (sym (ap length w.items.ensures) ∙ (let h : length w.items.result.now ≡ 0 = search rules in h)))
+      | then-not-is+in_ok-lines+else-not-is_empty w ↦ none_at_all 201 w.in_ok-lines.lines (mate_lines n q c.args.winner) w.in_ok-lines.ensures (omega arith) (nil_from_length w.in_ok-lines.lines (sym (ap length w.items.ensures) ∙ (let h : length w.items.result.now ≡ 0 = search rules in h)))
       | else-not-is w ↦ none_on_turn q c.args.winner c.loop-plies.mover n before.mover (search rules)
     ]
     in record {

@@ -1,4 +1,5 @@
-use Rattle.mate_hunt.proofs.Cuts.{leads_nowhere, leads_more, ends_there, next_legal, next_mates, begins_so, of_some}
+use Rattle.cha_list.proofs.WhenTold.{when_some}
+use Rattle.mate_hunt.proofs.Cuts.{leads_nowhere, leads_more, ends_there, next_legal, next_mates, begins_so}
 use Rattle.mate_hunt.proofs.cutting.cut.Goals as goal
 
 pub loop-m-init : goal.loop-m-init
@@ -10,7 +11,7 @@ loop-m-init c = record {
 pub returns-in-Some : goal.returns-in-Some
 returns-in-Some c =
     ends_there c.args.position.now c.loop-m.now c.args.winner c.loop-m.begun c.push.new.self c.push-in-Some.new.self c.in-Some.two.first c.in-Some.two.last c.loop-m.invariant.leads
-    (of_some c.in_ok-two.field-0 c.in-Some.two _ c.in-Some.is c.in_ok-two.ensures) c.in_ok-push.ensures.ok c.in_ok-push-2.ensures.ok
+    (when_some c.in_ok-two.field-0 _ c.in-Some.two c.in-Some.is c.in_ok-two.ensures) c.in_ok-push.ensures.ok c.in_ok-push-2.ensures.ok
 
 pub loop-m-preserved : goal.loop-m-preserved
 loop-m-preserved c =

@@ -1,5 +1,6 @@
 use Rattle.std.proofs.Common.{inl, inr, refl, sym, ◌∙◌}
-use Rattle.mate_hunt.proofs.Hunting.{kept, keeps_same, root_of, of_none, begun_next, none_left, turns_over}
+use Rattle.cha_list.proofs.WhenTold.{when_none}
+use Rattle.mate_hunt.proofs.Hunting.{kept, keeps_same, root_of, begun_next, none_left, turns_over}
 use Rattle.mate_hunt.proofs.hunts.search.Goals as goal
 
 pub loop-turn-init : goal.loop-turn-init
@@ -21,7 +22,7 @@ loop-turn-preserved c =
     let here = kept _ _ 0 c.args.position.now (keeps_same _ _ c.pop.ensures.nodes) c.loop-turn.invariant.root in
     record {
       root = kept _ _ 0 c.args.position.now c.expand.ensures.kept here;
-      begun = inr (begun_next c.loop-turn.turn c.in-Some.name c.loop-turn.store.waiting c.pop.new.self.nodes c.args.position.now c.args.winner c.loop-turn.invariant.begun (sym c.pop.ensures.name ∙ c.in-Some.is) here (of_none c.in_ok-last.field-0 _ c.in_default-2.is c.in_ok-last.ensures.none));
+      begun = inr (begun_next c.loop-turn.turn c.in-Some.name c.loop-turn.store.waiting c.pop.new.self.nodes c.args.position.now c.args.winner c.loop-turn.invariant.begun (sym c.pop.ensures.name ∙ c.in-Some.is) here (when_none c.in_ok-last.field-0 _ c.in_default-2.is c.in_ok-last.ensures.none));
     }
 
 pub returns-clause-next : goal.returns-clause-next

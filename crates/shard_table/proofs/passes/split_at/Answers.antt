@@ -1,7 +1,8 @@
 use Rattle.std.proofs.Common.{◌∙◌, ◌<◌, sym, ap, subst, arith}
+use Rattle.std.proofs.lemmas.Option.{same_Some}
 use Rattle.turn_cell.specs.Passes.{SplitOff, IsOf, known}
 use Rattle.shard_table.specs.Tables.{IsOfTable}
-use Rattle.shard_table.proofs.PassAt.{get_index, one_some, pass_index, pass_else, both_at, of_all}
+use Rattle.shard_table.proofs.PassAt.{get_index, pass_index, pass_else, both_at, of_all}
 use Rattle.shard_table.proofs.passes.split_at.Goals as goal
 
 pub split-requires-clause-of : goal.split-requires-clause-of
@@ -35,7 +36,7 @@ pub returns-clause-new : goal.returns-clause-new
 returns-clause-new c =
     let few = c.requires.shard in
     let a = c.args.table.now.eight in
-    λ cell e. subst (λ x. IsOf x c.split.result) (one_some _ cell (sym (get_index c.args.table.now.cells c.args.shard c.index-table-shard.result (omega (arith, few, a))) ∙ e)) c.split.ensures.of.1
+    λ cell e. subst (λ x. IsOf x c.split.result) (same_Some _ cell (sym (get_index c.args.table.now.cells c.args.shard c.index-table-shard.result (omega (arith, few, a))) ∙ e)) c.split.ensures.of.1
 
 pub returns-clause-split : goal.returns-clause-split
 returns-clause-split c =

@@ -1,4 +1,5 @@
 use Rattle.std.proofs.Common.{◌≡◌, ◌∙◌, ◌%◌, ◌^◌, sym, ap, refl, arith, inl, inr, get_or, subst, is_some, true}
+use Rattle.std.proofs.lemmas.Option.{same_Some}
 use mathlib.Core.Logic.{dite}
 use native.Mathlib.Decide.{ℕ_discrete}
 use Rattle.atomic_table.specs.Table.{keeps, takes, step as step_of}
@@ -6,7 +7,7 @@ use mathlib.Core.Option.{none}
 use Rattle.turn_cell.specs.Histories.{IsLegalHistory}
 use Rattle.turn_cell.specs.Rule.{lives}
 use Rattle.turn_cell.specs.Views.{with_turn}
-use Rattle.turn_cell.proofs.Looking.{looked_kept, turned_kept, at_home, found_home, tells, some_is}
+use Rattle.turn_cell.proofs.Looking.{looked_kept, turned_kept, at_home, found_home, tells}
 use Rattle.turn_cell.proofs.taking.look.Goals as goal
 
 pub load-requires : goal.load-requires
@@ -27,7 +28,7 @@ load-requires g c =
             turned_kept step _ s k id v at t has c.requires.waits hit live,
             inl (k.history, home.0, home.1, (k.each id v at).before, (k.each id v at).own live, home.3, (λ o e. subst (λ z. IsLegalHistory step z k.history home.1) (sym ((k.each id v at).origin o e)) home.4), refl, (t, has, hit)),
           ))
-          (λ miss. (v, keeps, tt, looked_kept step _ s k id v at, inr (refl, λ u is e. miss (e ∙ ap (λ n. n % 2 ^ 64) (some_is (sym is ∙ has)))))),
+          (λ miss. (v, keeps, tt, looked_kept step _ s k id v at, inr (refl, λ u is e. miss (e ∙ ap (λ n. n % 2 ^ 64) (same_Some _ _ (sym is ∙ has)))))),
     )
 
 pub returns-clause-turn : goal.returns-clause-turn

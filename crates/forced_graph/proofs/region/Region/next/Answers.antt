@@ -1,5 +1,6 @@
 use Rattle.forced_graph.specs.Regions.{IsOpen}
-use Rattle.forced_graph.proofs.Popping.{opened, when_none}
+use Rattle.cha_list.proofs.WhenTold.{when_none}
+use Rattle.forced_graph.proofs.Popping.{opened}
 use Rattle.forced_graph.proofs.region.Region.next.Goals as goal
 
 pub returns-in-None-clause-taken : goal.returns-in-None-clause-taken

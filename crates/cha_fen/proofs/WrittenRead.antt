@@ -1,7 +1,7 @@
 -- What is written is read again: the fields and the whole.
 use Rattle.std.proofs.Common.{◌≡◌, ℕ, zero, suc, ◌+◌, ◌/◌, ◌%◌, ◌<◌, ◌≤◌, ◌==◌, Bool, true, false, not, ◌&&◌, ◌||◌, if◌then◌else◌, nat_lt, List, [], ◌∷◌, ◌++◌, Option, Some, None, Ok, length, drop, refl, sym, ap, ◌∙◌, arith, append_assoc, append-nil, length-append, take_at, drop_at}
 use Rattle.std.specs.List.{prefix_len, list_all}
-use Rattle.std.proofs.lemmas.Bool.{and_parts, and_from}
+use Rattle.std.proofs.lemmas.Bool.{and_parts, and_from, not-true}
 use Rattle.std.proofs.lemmas.Bool.Decides.{nat_tests}
 use Rattle.std.proofs.lemmas.List.Folds.{list_all-append}
 use Rattle.cha_list.specs.declared.classes.Class.TheVariants.{Blank, NotBlank}
@@ -163,14 +163,10 @@ none_of : {X : Type 0} (w b p k : Bool) (e f g : X) → w ≡ true → b ≡ tru
     → (if not (w && b) then Some e else (if p then Some f else (if k then Some g else None))) ≡ None
 none_of w b p k e f g h i j l = rw (h, i, j, l) refl
 
-negated : (x : Bool) → not x ≡ true → x ≡ false
-negated true e = cc
-negated false e = refl
-
 no_fault : (q : Board) → IsValid q → build_fault q.men q.side ≡ None
 unfolding build_fault
 no_fault q v =
-    none_of (has_one_king q.men White) (has_one_king q.men Black) (has_pawn_at_end q.men) (in_check q.men (other_color q.side)) _ _ _ (v.kings White) (v.kings Black) (negated _ v.pawns) (negated _ v.opponent)
+    none_of (has_one_king q.men White) (has_one_king q.men Black) (has_pawn_at_end q.men) (in_check q.men (other_color q.side)) _ _ _ (v.kings White) (v.kings Black) (not-true _ v.pawns) (not-true _ v.opponent)
 
 kept : (x h : Bool) → (not x || h) ≡ true → (x && h) ≡ x
 kept true true e = refl

@@ -2,6 +2,7 @@
 use Rattle.std.proofs.Common.{◌≡◌, ℕ, ◌+◌, ◌<◌, Bool, true, false, not, ◌&&◌, ◌||◌, ◌==◌, List, [], ◌∷◌, Option, Some, None, refl, sym, ◌∙◌, ap, arith, inl, inr}
 use Rattle.std.specs.List.{Contains, list_all, filter}
 use Rattle.std.proofs.lemmas.Bool.{and_parts, and_right, cases_Bool, cases_eq, eq-eqb, ne_eqb, eqb-true}
+use Rattle.std.proofs.Math.Bool.{not-not}
 use Rattle.cha_board.specs.declared.men.Color.{Color}
 use Rattle.cha_board.specs.declared.men.Color.TheVariants.{White, Black}
 use Rattle.cha_board.specs.declared.men.Kind.{Kind}
@@ -68,17 +69,13 @@ all_alike : (p r : ℕ → Bool) (xs : List ℕ) → ((x : ℕ) → Contains xs 
 all_alike p r [] same = refl
 all_alike p r (x ∷ xs) same = rw (same x (Contains-cons_here x xs x refl), all_alike p r xs (λ y inside. same y (Contains-cons_there x xs y inside))) refl
 
-pub not_not : (b : Bool) → not (not b) ≡ b
-not_not true = refl
-not_not false = refl
-
 -- no occupied square lies between two squares where they see each other
 pub open_is_clear : (men : List (Option Man)) (s t : ℕ) → is_open (occupied_in men) s t ≡ is_clear men s t
 unfolding is_open is_clear between
 open_is_clear men s t =
     all_alike (λ u. not (has_square (occupied_in men) u)) (λ u. is_empty men u) (filter (lies_between s t) squares) (λ u inside.
     let small = Contains-squares_small u (Contains-filter_parts (lies_between s t) squares u inside).0 in
-    ap not (has-set_of (λ v. not (is_empty men v)) u small) ∙ not_not (is_empty men u))
+    ap not (has-set_of (λ v. not (is_empty men v)) u small) ∙ not-not (is_empty men u))
 
 -- where a man aims over the men of a position
 pub aims_seen : (men : List (Option Man)) (c : Color) (k : Kind) (s : ℕ) → aimed c k s (occupied_in men) ≡ set_of (λ t. aims_at c k s t && is_clear men s t)
@@ -165,7 +162,7 @@ captures_passing q s u aims target at =
 
 -- nothing stands on a square that is not among the occupied ones
 pub empty_seen : (men : List (Option Man)) (s : ℕ) → s < 64 → not (has_square (occupied_in men) s) ≡ is_empty men s
-empty_seen men s small = ap not (has-set_of (λ v. not (is_empty men v)) s small) ∙ not_not (is_empty men s)
+empty_seen men s small = ap not (has-set_of (λ v. not (is_empty men v)) s small) ∙ not-not (is_empty men s)
 
 pub stands_at : (men : List (Option Man)) (set : List Bool) (u s : ℕ) (b : Bool) → set ≡ occupied_in men → u ≡ s → s < 64 → b ≡ has_square set u → is_empty men s ≡ not b
 stands_at men set u s b e f small here = sym (ap not here ∙ ap (λ (x : List Bool). not (has_square x u)) e ∙ ap (λ k. not (has_square (occupied_in men) k)) f ∙ empty_seen men s small)

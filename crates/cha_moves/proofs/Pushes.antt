@@ -2,6 +2,7 @@
 use Rattle.std.proofs.Common.{◌≡◌, ℕ, ◌+◌, ◌-◌, ◌<◌, Bool, true, false, not, ◌&&◌, ◌||◌, ◌==◌, List, Some, refl, sym, ◌∙◌, ap, arith, inl, inr}
 use Rattle.std.specs.List.{list_all}
 use Rattle.std.proofs.lemmas.Bool.{and_parts, and_left, and_right, cases_Bool, cases_eq, eq-eqb, ne_eqb, eqb-true, eqb-false, false_from_ne_true, not-true}
+use Rattle.std.proofs.Math.Bool.{not-not}
 use Rattle.cha_board.specs.declared.men.Color.{Color}
 use Rattle.cha_board.specs.declared.men.Color.TheVariants.{White, Black}
 use Rattle.cha_board.specs.declared.men.Kind.{Kind}
@@ -17,7 +18,7 @@ use Rattle.cha_board.proofs.Scans.{all_squares_at}
 use Rattle.cha_moves.specs.Moves.{second_rank, fourth_rank, last_rank, middle, is_step, is_double_step, is_pawn_capture, is_en_passant, is_short_castling, is_long_castling, goes, goes_as, may_enter}
 use Rattle.cha_moves.specs.Ways.{ahead_of, is_way}
 use Rattle.cha_moves.proofs.Kept.{short_tests, long_tests}
-use Rattle.cha_moves.proofs.Goings.{joined_of, not_not, minus_of, occupied_in, aims_seen, at_one}
+use Rattle.cha_moves.proofs.Goings.{joined_of, minus_of, occupied_in, aims_seen, at_one}
 
 same_bool : Bool → Bool → Bool
 same_bool true b = b
@@ -201,7 +202,7 @@ unfolding is_way goes_as
 ways_of_man q s man found own =
     minus_of (goes q man.kind s) (λ t. not (may_enter q.side (man_at q.men t)))
     ∙ same_set (λ t. goes q man.kind s t && not (not (may_enter q.side (man_at q.men t)))) (λ t. goes_as q s t (man_at q.men s) && may_enter q.side (man_at q.men t)) (λ t small.
-    rw (found, own, not_not (may_enter q.side (man_at q.men t))) refl)
+    rw (found, own, not-not (may_enter q.side (man_at q.men t))) refl)
 
 grouped : (a b c d : Bool) → ((a || b) || (c || d)) ≡ (a || b || c || d)
 grouped true b c d = refl

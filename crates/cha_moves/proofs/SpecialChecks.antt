@@ -1,6 +1,6 @@
 -- Squares on which a man may give check, as sets.
 use Rattle.std.proofs.Common.{◌≡◌, ℕ, ◌+◌, ◌-◌, ◌==◌, Bool, true, false, ◌||◌, List, Option, Some, None, refl, sym, ◌∙◌, ap}
-use Rattle.std.proofs.Math.Bool.{or_comm}
+use Rattle.std.proofs.Math.Bool.{or_comm, or-true}
 use Rattle.cha_board.specs.declared.men.Color.{Color}
 use Rattle.cha_board.specs.declared.men.Kind.{Kind}
 use Rattle.cha_board.specs.declared.men.Kind.TheVariants.{Pawn, Knight, Bishop, Rook, Queen, King}
@@ -20,11 +20,7 @@ or-false true = refl
 or-false false = refl
 
 turned_or : (s u : ℕ) (b : Bool) → ((s == u) || b) ≡ (b || (u == s))
-turned_or s u true = or-true' (s == u)
-  where
-    or-true' : (x : Bool) → (x || true) ≡ true
-    or-true' true = refl
-    or-true' false = refl
+turned_or s u true = or-true (s == u)
 turned_or s u false = sym (or-false (s == u)) ∙ same_eqb s u
 
 -- the squares on which a pawn, a king and other men give check in their special ways

@@ -1,10 +1,11 @@
 -- Numbers of the command words.
-use Rattle.std.proofs.Common.{◌≡◌, ℕ, ◌<◌, ◌≤◌, ◌^◌, Bool, true, false, ◌&&◌, nat_le, if◌then◌else◌, List, [], ◌∷◌, length, get_or, Some, None, Result, Ok, Err, refl, sym, ap, ◌∙◌, arith}
+use Rattle.std.proofs.Common.{◌≡◌, ℕ, ◌<◌, ◌≤◌, ◌^◌, Bool, true, false, nat_le, if◌then◌else◌, List, [], ◌∷◌, length, get_or, Some, None, Result, Ok, Err, refl, sym, ap, ◌∙◌, arith}
 use Rattle.std.specs.Str.{all_ascii_digits}
 use Rattle.std.specs.Str.Parse.{digits_value, ParsesUnsigned}
 use Rattle.std.specs.Result.{OkIff}
 use Rattle.std.specs.Bool.{Decides}
 use Rattle.std.proofs.lemmas.Str.Parse.{IsNumeralModel, numerals_by_value, tells_all_ascii_digits, parse_plain}
+use Rattle.std.proofs.lemmas.Bool.{and_parts}
 use Rattle.std.proofs.lemmas.Bool.Decides.{nat_tests}
 use Rattle.cha_words.specs.Language.{is_number, number}
 
@@ -16,20 +17,16 @@ pub record IsNumber (least most : ℕ) (word : List ℕ) : Type 0 where
   pub low : least ≤ digits_value 10 word
   pub high : digits_value 10 word ≤ most
 
-both : (a b : Bool) → (a && b) ≡ true → (a ≡ true) × (b ≡ true)
-both true b e = (refl, e)
-both false b e = cc
-
 pub own : IsNumeralModel (λ ds. all_ascii_digits ds ≡ true) (digits_value 10)
 own = numerals_by_value (λ ds. all_ascii_digits ds ≡ true) tells_all_ascii_digits
 
 pub is_number_says : (least most : ℕ) (word : List ℕ) → is_number least most word ≡ true → IsNumber least most word
 unfolding is_number
 is_number_says least most word e =
-    let h4 = both _ (nat_le (digits_value 10 word) most) e in
-    let h3 = both _ (nat_le least (digits_value 10 word)) h4.0 in
-    let h2 = both _ (all_ascii_digits word) h3.0 in
-    let h1 = both (nat_le 1 (length word)) (nat_le (length word) 20) h2.0 in
+    let h4 = and_parts _ (nat_le (digits_value 10 word) most) e in
+    let h3 = and_parts _ (nat_le least (digits_value 10 word)) h4.0 in
+    let h2 = and_parts _ (all_ascii_digits word) h3.0 in
+    let h1 = and_parts (nat_le 1 (length word)) (nat_le (length word) 20) h2.0 in
     let a = h1.0 in
     let b = h1.1 in
     let c = h3.1 in

@@ -1,6 +1,6 @@
 -- To which squares men go, as sets.
 use Rattle.std.proofs.Common.{◌≡◌, ℕ, ◌<◌, Bool, true, false, not, ◌&&◌, ◌||◌, ◌==◌, if◌then◌else◌, List, length, refl, sym, ap, ◌∙◌}
-use Rattle.std.proofs.Math.Bool.{and_comm}
+use Rattle.std.proofs.Math.Bool.{and_comm, not-not}
 use Rattle.cha_board.specs.declared.men.Color.{Color}
 use Rattle.cha_board.specs.declared.men.Color.TheVariants.{White, Black}
 use Rattle.cha_board.specs.declared.men.Kind.{Kind}
@@ -16,13 +16,12 @@ use Rattle.mob_check.specs.SingleSteps.{is_stepped_to, spread_of, stays}
 use Rattle.cha_board.specs.Shifts.{is_ahead}
 use Rattle.mob_check.specs.Grounds.{side_in}
 use Rattle.mob_check.specs.Rules.{is_barred, piece_goes, pawn_steps, is_capturable, pawn_captures, pawn_goes, goes_on, is_entered, entered_from}
-use Rattle.cha_moves.proofs.Goings.{not_not}
 use Rattle.cha_board.proofs.Pulls.{Pulls, here, up, down, pull_here, pull_up, pull_down, pull_joined, pull_kept, pull_is, pulled, pulls_of, agree, pairs, from_pairs}
 
 -- where a pawn does not stay one, and that others stay
 pub pawn_changes : (c : Color) (k : Kind) (set : List Bool) → same_kind k Pawn ≡ true → ((t : ℕ) → t < 64 → has_square set t ≡ (rank_of t == last_rank c)) → (t : ℕ) → t < 64 → has_square set t ≡ not (stays c k t)
 unfolding stays
-pawn_changes c k set pawn last t small = last t small ∙ sym (not_not (rank_of t == last_rank c)) ∙ sym (ap (λ b. not (not (b && (rank_of t == last_rank c)))) pawn)
+pawn_changes c k set pawn last t small = last t small ∙ sym (not-not (rank_of t == last_rank c)) ∙ sym (ap (λ b. not (not (b && (rank_of t == last_rank c)))) pawn)
 
 pub piece_stays_on : (c : Color) (k : Kind) (set : List Bool) → same_kind k Pawn ≡ false → ((t : ℕ) → has_square set t ≡ false) → (t : ℕ) → t < 64 → has_square set t ≡ not (stays c k t)
 unfolding stays
@@ -34,7 +33,7 @@ kept_by set mask test same = same_set (λ s. has_square set s && has_square mask
 
 pub out_by : (set mask : List Bool) (test : ℕ → Bool) → ((t : ℕ) → t < 64 → has_square mask t ≡ not (test t)) → set_of (λ s. has_square set s && not (has_square mask s)) ≡ set_of (λ t. has_square set t && test t)
 out_by set mask test same =
-    same_set (λ s. has_square set s && not (has_square mask s)) (λ t. has_square set t && test t) (λ t small. ap (λ b. has_square set t && not b) (same t small) ∙ ap (λ b. has_square set t && b) (not_not (test t)))
+    same_set (λ s. has_square set s && not (has_square mask s)) (λ t. has_square set t && test t) (λ t small. ap (λ b. has_square set t && not b) (same t small) ∙ ap (λ b. has_square set t && b) (not-not (test t)))
 
 -- a king is barred where the other side guards, and others are not
 pub barred_king : (g : Ground) (c : Color) (k : Kind) (set : List Bool) → same_kind k King ≡ true → set ≡ (side_in g (other_color c)).guards → (t : ℕ) → has_square set t ≡ is_barred g c k t

@@ -2,6 +2,7 @@
 use Rattle.std.proofs.Common.{◌≡◌, ◌≢◌, ℕ, ◌<◌, Bool, true, false, not, ◌&&◌, ◌||◌, ◌==◌, List, length, get_or, set, refl, ap, sym, ◌∙◌, arith, inl, inr}
 use Rattle.std.specs.List.{list_any, insert}
 use Rattle.std.proofs.lemmas.Bool.{cases_lt, or_right, both_ways, false_from_ne_true, not-true}
+use Rattle.std.proofs.Math.Bool.{or-false}
 use Rattle.std.proofs.lemmas.List.{get_or_past, get_or_default, length-set}
 use Rattle.std.proofs.lemmas.List.Elements.{All-set}
 use Rattle.cha_board.specs.declared.men.Kind.{Kind}
@@ -108,9 +109,5 @@ no_row = record { origin = 0; kind = Pawn; squares = empty_set }
 pub joined_one : (s : Sets) (o : ℕ) (k : Kind) (u : ℕ) → u < 64 → sets_joined s o k (set_with empty_set u) ≡ sets_with s o k u
 joined_one s o k u small =
     let each = λ (p : ℕ) (j : Kind) (v : ℕ).
-    ap (λ b. ((o == p) && same_kind k j && b) || s.has p j v) (has-set_with empty_set u v (length-set_of (λ _. false)) small ∙ ap (λ b. (v == u) || b) (in_empty v) ∙ alone (v == u)) in
+    ap (λ b. ((o == p) && same_kind k j && b) || s.has p j v) (has-set_with empty_set u v (length-set_of (λ _. false)) small ∙ ap (λ b. (v == u) || b) (in_empty v) ∙ or-false (v == u)) in
     λ i. record { has = λ p j v. each p j v i; loose = s.loose }
-  where
-    alone : (a : Bool) → (a || false) ≡ a
-    alone true = refl
-    alone false = refl

@@ -8,6 +8,7 @@ use Rattle.std.proofs.lemmas.List.Elements.{filter_map-append}
 use Rattle.std.proofs.lemmas.List.Folds.{list_any-append}
 use Rattle.std.proofs.lemmas.List.Sums.{fold_push}
 use Rattle.std.proofs.lemmas.Bool.Decides.{nat_tests}
+use Rattle.std.proofs.Math.Bool.{or-false}
 use Rattle.pgn_lex.specs.declared.kinds.Placed.{Placed}
 use Rattle.pgn_games.specs.declared.marks.ResultMark.{ResultMark}
 use Rattle.pgn_games.specs.Cutting.{mark_of, depth_after}
@@ -105,11 +106,7 @@ unfolding first_bad
 bad_more told t = first_out bad_offset told t
 
 some_or : (test : Placed → Bool) (told : List Placed) (t : Placed) → list_any test (told ++ t ∷ []) ≡ (list_any test told || test t)
-some_or test told t = list_any-append test told (t ∷ []) ∙ ap (λ b. list_any test told || b) (or_none (test t))
-  where
-    or_none : (b : Bool) → (b || false) ≡ b
-    or_none true = refl
-    or_none false = refl
+some_or test told t = list_any-append test told (t ∷ []) ∙ ap (λ b. list_any test told || b) (or-false (test t))
 
 not_empty : (told : List Placed) (t : Placed) → false ≡ (length (told ++ t ∷ []) == 0)
 not_empty told t = let n = length-append told (t ∷ []) in grind (arith, nat_tests)

@@ -9,7 +9,7 @@ use Rattle.cha_board.specs.Men.{other_color}
 use Rattle.cha_board.specs.Board.{Board}
 use Rattle.cha_moves.proofs.Contained.{Contains-cons_here}
 use Rattle.cha_fact.specs.Keys.{key_of}
-use Rattle.cha_fact.specs.Entries.{Entry, probe_entry, HasProbe}
+use Rattle.cha_fact.specs.Entries.{Entry, probe_entry, HasProbe, MadeSome}
 use Rattle.helpmate.specs.declared.answers.RoundDone.{RoundDone}
 use Rattle.helpmate.specs.Rounds.{RoundCalls}
 use Rattle.root_workers.specs.RoundAnswers.{RoundsCalls}
@@ -18,7 +18,7 @@ use Rattle.cha_limits.specs.Bounds.{Bounds}
 use Rattle.cha_verdict.specs.declared.verdicts.Verdict.{Verdict}
 use Rattle.cha_verdict.specs.declared.decisions.Decision.{Decision}
 use Rattle.cha_verdict.specs.Sound.{verdict_on}
-use Rattle.cha_decide.specs.Shown.{MadeSome, IsOfSearch, Asked, AskedFor}
+use Rattle.cha_decide.specs.Shown.{IsOfSearch, Asked, AskedFor}
 
 -- a position was asked for among more entries
 probe_left : (xs ys : List Entry) (q : Board) (w : Color) → HasProbe xs q w → HasProbe (xs ++ ys) q w

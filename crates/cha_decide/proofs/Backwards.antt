@@ -3,7 +3,7 @@ use Rattle.std.proofs.Common.{◌≡◌, ℕ, ◌+◌, ◌-◌, ◌<◌, false, 
 use Rattle.cha_board.specs.declared.men.Color.{Color}
 use Rattle.cha_board.specs.declared.men.Color.TheVariants.{White, Black}
 use Rattle.cha_board.specs.Board.{Board}
-use Rattle.cha_fact.specs.Entries.{Entry}
+use Rattle.cha_fact.specs.Entries.{Entry, MadeSome}
 use Rattle.cha_verdict.specs.declared.verdicts.Verdict.{Verdict}
 use Rattle.cha_verdict.specs.declared.verdicts.Verdict.TheVariants.{Winnable, Unwinnable, Undecided, Skipped}
 use Rattle.cha_verdict.specs.declared.decisions.Decision.{Decision}
@@ -17,7 +17,6 @@ use Rattle.cha_verdict.specs.Scans.{IsEarlier, IsOpenEdge, HasEdge}
 use Rattle.cha_decide.specs.declared.scanning.Before.TheVariants.{Dead}
 use Rattle.cha_decide.specs.declared.scanning.DeadPly.{DeadPly}
 use Rattle.cha_decide.specs.declared.scanning.OpenPly.{OpenPly}
-use Rattle.cha_decide.specs.Shown.{MadeSome}
 use Rattle.cha_decide.specs.Scanning.{edge_by, certs_by, IsFoundAt, IsShownAt, IsOpenAt, IsScanFound}
 
 module _ (q : Board) (limits : Bounds) where

@@ -24,10 +24,6 @@ pub record IsFound (q : Board) (winner : Color) (limits : Bounds) (verdict : Ver
   pub printable : IsPrintable verdict
   pub examined : is_skipped verdict ≡ false
 
--- some entries were made
-abbrev pub MadeSome : {S : Type 0} → (S → List Entry → S → Type 0) → S → S → Type 0
-MadeSome made old new = (entries : List Entry) × made old entries new
-
 -- a verdict that comes of a search: moves that mate, or that the budget was spent
 abbrev pub IsOfSearch : Verdict → Type 0
 IsOfSearch (Winnable []) = ⊥

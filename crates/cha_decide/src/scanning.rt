@@ -3,7 +3,7 @@
 ghost use Rattle.std.specs.Prelude.{◌≡◌, ◌+◌, ◌<◌, ◌≤◌, length, IfOk, IfSome, MatchOption};
 ghost use Rattle.cha_verdict.specs.Verdicts.{is_winnable as can_mate};
 ghost use Rattle.cha_verdict.specs.Scans.{HasScan, IsPrintableScan};
-ghost use Rattle.cha_decide.specs.Shown.{MadeSome};
+ghost use Rattle.cha_fact.specs.Entries.{MadeSome};
 ghost use Rattle.cha_decide.specs.Scanning.{IsFoundAt, IsShownAt, IsOpenAt, IsReached, IsScanFound, edge_by, certs_by};
 
 use crate::deciding::decide_by;

@@ -6,7 +6,8 @@ ghost use Rattle.cha_moves.specs.Ends.{IsMatingLine, IsMated, HasNoMateWithin};
 ghost use Rattle.cha_moves.specs.Lines.{HasLines};
 ghost use Rattle.cha_verdict.specs.AtOnce.{IsShownAtOnce};
 ghost use Rattle.cha_verdict.specs.Sound.{IsUndecided};
-ghost use Rattle.cha_decide.specs.Shown.{IsFound, AskedFor, MadeSome};
+ghost use Rattle.cha_fact.specs.Entries.{MadeSome};
+ghost use Rattle.cha_decide.specs.Shown.{IsFound, AskedFor};
 
 use crate::showing::checked;
 use cha_board::{Color, Position};

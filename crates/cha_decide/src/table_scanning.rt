@@ -3,7 +3,7 @@
 ghost use Rattle.std.specs.Prelude.{◌≡◌, ◌<◌, ◌≤◌, true, false, length, IfOk, IfSome, MatchOption};
 ghost use Rattle.cha_verdict.specs.Scans.{HasScan, IsPrintableScan};
 ghost use Rattle.root_workers.specs.Crews.{IsCrew, CrewMakes};
-ghost use Rattle.cha_decide.specs.Shown.{MadeSome};
+ghost use Rattle.cha_fact.specs.Entries.{MadeSome};
 
 use crate::scanning::scan_by;
 use cha_board::Color;

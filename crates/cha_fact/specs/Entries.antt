@@ -27,6 +27,10 @@ probe_entry key reply = record { call = Asked key; reply = Probed reply }
 abbrev pub store_entry : Claim → Stored → Entry
 store_entry row reply = record { call = Store row; reply = StoredAs reply }
 
+-- some calls were made from one state of a place to another
+abbrev pub MadeSome : {S : Type 0} → (S → List Entry → S → Type 0) → S → S → Type 0
+MadeSome made old new = (entries : List Entry) × made old entries new
+
 -- what was found is of the asked key
 abbrev pub IsOfKey : Key → Probe → Type 0
 IsOfKey key (Found row) = key_of row.position row.winner ≡ key

@@ -20,15 +20,12 @@ use Rattle.cha_board.proofs.Striking.{clear_turned, one_of_six}
 use Rattle.cha_moves.specs.Shields.{aims_as, stops, checks, men_less, Unstopped, AreShields}
 use Rattle.cha_moves.proofs.Made.{put, put_other}
 use Rattle.cha_moves.proofs.Contained.{Contains-cons_here, Contains-filter_parts, Contains-filter_from, Contains-squares_from, not_in_nothing}
+use Rattle.cha_moves.proofs.Goings.{occupied_in}
 use Rattle.cha_moves.proofs.Clearing.{clear_at, attack_parts, attack_from}
-
--- the squares that are occupied
-abbrev pub occupied_by : List (Option Man) → List Bool
-occupied_by men = set_of (λ s. not (is_empty men s))
 
 -- the occupied squares between the king and u
 abbrev pub way_from : Board → ℕ → List Bool
-way_from q u = set_common (set_of (lies_between (king_of q.men q.side) u)) (occupied_by q.men)
+way_from q u = set_common (set_of (lies_between (king_of q.men q.side) u)) (occupied_in q.men)
 
 -- What is known once the men on squares that are not left were looked at: what shields from them, and that the men on
 -- squares that are left aim at the king.
@@ -75,7 +72,7 @@ all_faced q left answers screens f none =
 
 -- the way from u to the king is clear where no square between them is occupied
 pub way_is_clear : (q : Board) (u : ℕ) → u < 64 → king_of q.men q.side < 64 → has_no_square (way_from q u) ≡ is_clear q.men u (king_of q.men q.side)
-way_is_clear q u small small' = open_is (occupied_by q.men) (king_of q.men q.side) u ∙ clear_turned q.men u (king_of q.men q.side) small small'
+way_is_clear q u small small' = open_is (occupied_in q.men) (king_of q.men q.side) u ∙ clear_turned q.men u (king_of q.men q.side) small small'
 
 -- a square that is no longer left is u, or was not left before
 out_before : (left : List Bool) (u v : ℕ) → v < 64 → v ≢ u → has_square (set_without left u) v ≡ false → has_square left v ≡ false
@@ -119,7 +116,7 @@ unfolding set_common
 only_there q s u check y small on =
     let e = other_color q.side in
     let k = king_of q.men q.side in
-    let both = and_parts (has_square (set_of (lies_between k u)) y) (has_square (occupied_by q.men) y) (sym (has-set_of (λ t. has_square (set_of (lies_between k u)) t && has_square (occupied_by q.men) t) y small) ∙ on) in
+    let both = and_parts (has_square (set_of (lies_between k u)) y) (has_square (occupied_in q.men) y) (sym (has-set_of (λ t. has_square (set_of (lies_between k u)) t && has_square (occupied_in q.men) t) y small) ∙ on) in
     let lies : lies_between u k y ≡ true = lies_turned k u y ∙ sym (has-set_of (lies_between k u) y small) ∙ both.0 in
     let stands : is_empty q.men y ≡ false = not-true (is_empty q.men y) (sym (has-set_of (λ t. not (is_empty q.men t)) y small) ∙ both.1) in
     elim (cases_eq y s) [

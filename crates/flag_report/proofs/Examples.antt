@@ -7,11 +7,12 @@ use Rattle.cha_cert.specs.declared.nodes.Node.{Node}
 use Rattle.cha_moves.specs.declared.ends.Standing.TheVariants.{Mate, Stalemate, Running}
 use Rattle.pgn_games.specs.declared.marks.ResultMark.{ResultMark}
 use Rattle.pgn_games.specs.declared.marks.ResultMark.TheVariants.{WhiteWins, BlackWins, Draw, Unknown}
+use Rattle.pgn_games.specs.Wins.{win_of}
 use Rattle.cha_verdict.specs.declared.verdicts.Verdict.{Verdict}
 use Rattle.cha_verdict.specs.declared.verdicts.Verdict.TheVariants.{Winnable, Unwinnable, Undecided, Skipped}
 use Rattle.flag_report.specs.declared.rulings.Cause.TheVariants.{Mate511, Stalemate521, Dead522, Flag69, Recorded, RecordedUndecided}
 use Rattle.flag_report.specs.declared.rulings.Judgment.{Judgment}
-use Rattle.flag_report.specs.Rulings.{win_of, judged, winner_ruling_of, running_ruling_of, ruling_of, first_of, is_changed}
+use Rattle.flag_report.specs.Rulings.{judged, winner_ruling_of, running_ruling_of, ruling_of, first_of, is_changed}
 
 -- a mate, whatever was recorded and found
 mated : (winner : Color) (recorded : ResultMark) (forfeit : Bool) (white black : Verdict) (earlier : Bool) → ruling_of (Mate winner) recorded forfeit white black earlier ≡ judged (win_of winner) Mate511

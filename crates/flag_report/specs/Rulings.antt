@@ -6,16 +6,12 @@ use Rattle.cha_moves.specs.declared.ends.Standing.{Standing}
 use Rattle.cha_moves.specs.declared.ends.Standing.TheVariants.{Mate, Stalemate, Running}
 use Rattle.pgn_games.specs.declared.marks.ResultMark.{ResultMark}
 use Rattle.pgn_games.specs.declared.marks.ResultMark.TheVariants.{WhiteWins, BlackWins, Draw, Unknown}
+use Rattle.pgn_games.specs.Wins.{win_of}
 use Rattle.cha_verdict.specs.declared.verdicts.Verdict.{Verdict}
 use Rattle.flag_report.specs.declared.rulings.Cause.{Cause}
 use Rattle.flag_report.specs.declared.rulings.Cause.TheVariants.{Mate511, Stalemate521, Dead522, Flag69, Recorded, RecordedUndecided}
 use Rattle.flag_report.specs.declared.rulings.Judgment.{Judgment}
 use Rattle.cha_verdict.specs.Verdicts.{are_dead, is_unwinnable, is_undecided}
-
--- the result in which a side wins
-abbrev pub win_of : Color → ResultMark
-win_of White = WhiteWins
-win_of Black = BlackWins
 
 -- the result of a game, and why
 abbrev pub judged : ResultMark → Cause → Judgment

@@ -1,7 +1,8 @@
 //! The result that the Laws of Chess give a game.
 
 ghost use Rattle.std.specs.Prelude.{◌≡◌};
-ghost use Rattle.flag_report.specs.Rulings.{win_of, winner_ruling_of, running_ruling_of, ruling_of, first_of, is_changed};
+ghost use Rattle.pgn_games.specs.Wins.{win_of};
+ghost use Rattle.flag_report.specs.Rulings.{winner_ruling_of, running_ruling_of, ruling_of, first_of, is_changed};
 
 use cha_board::Color;
 use cha_moves::Standing;

@@ -1,9 +1,6 @@
 -- The calls of a place that were made from one state of it to a later one.
 use Rattle.std.proofs.Common.{List, ◌++◌}
-use Rattle.cha_fact.specs.Entries.{Entry}
+use Rattle.cha_fact.specs.Entries.{Entry, MadeSome}
 
-abbrev pub HasMade : {S : Type 0} → (S → List Entry → S → Type 0) → S → S → Type 0
-HasMade made old new = (entries : List Entry) × made old entries new
-
-pub more_made : {S : Type 0} (made : S → List Entry → S → Type 0) (old mid new : S) → ((a b c : S) (xs ys : List Entry) → made a xs b → made b ys c → made a (xs ++ ys) c) → HasMade made old mid → HasMade made mid new → HasMade made old new
+pub more_made : {S : Type 0} (made : S → List Entry → S → Type 0) (old mid new : S) → ((a b c : S) (xs ys : List Entry) → made a xs b → made b ys c → made a (xs ++ ys) c) → MadeSome made old mid → MadeSome made mid new → MadeSome made old new
 more_made made old mid new both before here = (before.0 ++ here.0, both old mid new before.0 here.0 before.1 here.1)

@@ -6,10 +6,11 @@ use Rattle.cha_board.specs.Board.{Board}
 use Rattle.cha_moves.specs.Step.{Move}
 use Rattle.cha_moves.specs.Moves.{after}
 use Rattle.cha_moves.specs.Ends.{IsMatingLine}
-use Rattle.node_store.specs.Nodes.{Node, IsAt, IsLine, IsPath}
+use Rattle.cha_moves.specs.Lines.{LeadTo}
+use Rattle.node_store.specs.Nodes.{Node, IsAt, IsPath}
 
-mates_behind : (p q : Board) (w : Color) (ms rest : List Move) → IsLine p ms q → IsMatingLine q w rest → IsMatingLine p w (ms ++ rest)
-unfolding IsLine
+mates_behind : (p q : Board) (w : Color) (ms rest : List Move) → LeadTo p ms q → IsMatingLine q w rest → IsMatingLine p w (ms ++ rest)
+unfolding LeadTo
 mates_behind p q w [] rest line mates = subst (λ (b : Board). IsMatingLine b w rest) (sym line) mates
 mates_behind p q w (m ∷ ms) rest line mates = (line.0, mates_behind (after p m) q w ms rest line.1 mates)
 

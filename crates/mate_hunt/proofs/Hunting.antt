@@ -7,7 +7,8 @@ use Rattle.cha_board.specs.Board.{Board}
 use Rattle.cha_moves.specs.Step.{Move}
 use Rattle.cha_moves.specs.Moves.{after}
 use Rattle.cha_moves.specs.Ends.{IsMated, IsMatingLine, HasNoMateWithin}
-use Rattle.node_store.specs.Nodes.{Node, IsAt, IsLine, IsPath}
+use Rattle.cha_moves.specs.Lines.{LeadTo}
+use Rattle.node_store.specs.Nodes.{Node, IsAt, IsPath}
 use Rattle.node_store.specs.NameLists.{put, first_name}
 use Rattle.node_store.proofs.Pushing.{map_push_keeps, map_within}
 use Rattle.mate_hunt.specs.MatingMoves.{IsMatingMove, HasNoMatingMove, IsMateAfter, HasNoMateAfter, Keeps}
@@ -51,8 +52,8 @@ pub root_of : (ns : List Node) (q : Board) → ns ≡ record { position = q; ori
 root_of ns q e = subst (λ (xs : List Node). IsAt xs 0 q) (sym e) refl
 
 -- a line and a move that mates behind it
-line_mates : (p q : Board) (ms : List Move) (w : Color) (m : Move) → IsLine p ms q → IsMatingMove q w m → IsMatingLine p w (ms ++ m ∷ [])
-unfolding IsLine
+line_mates : (p q : Board) (ms : List Move) (w : Color) (m : Move) → LeadTo p ms q → IsMatingMove q w m → IsMatingLine p w (ms ++ m ∷ [])
+unfolding LeadTo
 line_mates p q [] w m line mates = subst (λ (x : Board). IsMatingLine x w (m ∷ [])) (sym line) mates
 line_mates p q (n ∷ ns) w m line mates = (line.0, line_mates (after p n) q ns w m line.1 mates)
 

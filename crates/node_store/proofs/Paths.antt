@@ -4,21 +4,22 @@ use Rattle.std.proofs.lemmas.List.{reverse-append}
 use Rattle.std.proofs.lemmas.Option.{same_Some}
 use Rattle.cha_board.specs.Board.{Board}
 use Rattle.cha_moves.specs.Step.{Move}
+use Rattle.cha_moves.specs.Lines.{LeadTo}
 use Rattle.node_store.specs.declared.origin.Origin.{Origin}
-use Rattle.node_store.specs.Nodes.{Node, IsAt, IsReached, IsLine, IsPath}
+use Rattle.node_store.specs.Nodes.{Node, IsAt, IsReached, IsPath}
 use Rattle.node_store.specs.Graphs.{HasOrigin}
 
 -- no move leads from a node to itself
 pub path_none : (nodes : List Node) (name : ℕ) (q : Board) → IsAt nodes name q → IsPath nodes name [] name
-unfolding IsLine
+unfolding LeadTo
 path_none nodes name q at = (q, q, at, at, refl)
 
 -- one more move at the front
 path_step : (nodes : List Node) (parent at name : ℕ) (m : Move) (ms : List Move) (q : Board) → IsAt nodes at q → IsReached nodes parent m q → IsPath nodes at ms name → IsPath nodes parent (m ∷ ms) name
-unfolding IsLine
+unfolding LeadTo
 path_step nodes parent at name m ms q here reached path =
     let same : path.0 ≡ q = same_Some path.0 q (sym path.2 ∙ here) in
-    (reached.0, path.1, reached.1, path.3, (reached.2.0, subst (λ (p : Board). IsLine p ms path.1) (same ∙ sym reached.2.1) path.4))
+    (reached.0, path.1, reached.1, path.3, (reached.2.0, subst (λ (p : Board). LeadTo p ms path.1) (same ∙ sym reached.2.1) path.4))
 
 pub path_more : (nodes : List Node) (at name : ℕ) (o : Origin) (back more : List Move) (q : Board) → IsAt nodes at q → HasOrigin nodes at q (Some o) → more ≡ back ++ o.by ∷ [] → IsPath nodes at (reverse back) name → IsPath nodes o.parent (reverse more) name
 unfolding HasOrigin

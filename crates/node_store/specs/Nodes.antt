@@ -3,6 +3,7 @@ use Rattle.std.specs.Prelude.{◌≡◌, ℕ, zero, suc, Bool, true, List, [], �
 use Rattle.cha_board.specs.Board.{Board}
 use Rattle.cha_moves.specs.Step.{Move}
 use Rattle.cha_moves.specs.Moves.{legal, after}
+use Rattle.cha_moves.specs.Lines.{LeadTo}
 use Rattle.node_store.specs.declared.origin.Origin.{Origin}
 
 -- a position, where it came from (nothing for the root), and whether it is a leaf, which is never expanded
@@ -37,14 +38,9 @@ IsStep p m q = Contains (legal p) m × (after p m ≡ q)
 abbrev pub IsReached : List Node → ℕ → Move → Board → Type 0
 IsReached nodes parent m q = (p : Board) × IsAt nodes parent p × IsStep p m q
 
--- legal moves, one after another, lead from one position to another
-unfoldable pub IsLine : Board → List Move → Board → Type 0
-IsLine p [] q = p ≡ q
-IsLine p (m ∷ ms) q = Contains (legal p) m × IsLine (after p m) ms q
-
--- and so from the node of one name to that of another
+-- legal moves, one after another, lead from the node of one name to that of another
 abbrev pub IsPath : List Node → ℕ → List Move → ℕ → Type 0
-IsPath nodes from ms to = (p : Board) × (q : Board) × IsAt nodes from p × IsAt nodes to q × IsLine p ms q
+IsPath nodes from ms to = (p : Board) × (q : Board) × IsAt nodes from p × IsAt nodes to q × LeadTo p ms q
 
 -- the node of a name becomes a leaf
 unfoldable pub mark : List Node → ℕ → List Node

@@ -5,6 +5,7 @@ pub mod Games
 pub mod Reading
 pub mod Settling
 pub mod Keeping
+pub mod Wins
 -- what only loops and lemmas use
 pub mod Holding
 pub mod Summing

@@ -17,9 +17,10 @@ use Rattle.pgn_lex.specs.Tags.{name_at}
 use Rattle.pgn_lex.specs.Tokens.{piece, tokens_after}
 use Rattle.pgn_games.specs.declared.marks.ResultMark.{ResultMark}
 use Rattle.pgn_games.specs.Cutting.{mark_of}
+use Rattle.pgn_games.specs.Wins.{win_of}
 use Rattle.random_games.specs.Games.{MadeGame}
 use Rattle.random_games.specs.Made.{win_text, result_text, termination_text, words_text, tag_line, tags_text, game_text}
-use Rattle.random_games.specs.AsRead.{win_of, result_of}
+use Rattle.random_games.specs.AsRead.{result_of}
 use Rattle.random_games.proofs.Passed.{first_behind, any_first, spaced, new_line, IsSpelled, word_read}
 use Rattle.random_games.proofs.TagLines.{IsTagName, IsTagValue, five_and, tag_read}
 

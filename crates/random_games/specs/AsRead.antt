@@ -1,21 +1,16 @@
 -- What a game that was made says when it is read again.
 use Rattle.std.specs.Prelude.{Bool, true, false, None}
 use Rattle.cha_board.specs.declared.men.Color.{Color}
-use Rattle.cha_board.specs.declared.men.Color.TheVariants.{White, Black}
 use Rattle.cha_board.specs.Men.{other_color}
 use Rattle.cha_moves.specs.Standings.{standing_of}
 use Rattle.cha_moves.specs.declared.ends.Standing.{Standing}
 use Rattle.cha_moves.specs.declared.ends.Standing.TheVariants.{Mate, Stalemate, Running}
 use Rattle.pgn_games.specs.declared.marks.ResultMark.{ResultMark}
-use Rattle.pgn_games.specs.declared.marks.ResultMark.TheVariants.{WhiteWins, BlackWins, Draw}
+use Rattle.pgn_games.specs.declared.marks.ResultMark.TheVariants.{Draw}
 use Rattle.pgn_games.specs.declared.played.Game.{Game}
 use Rattle.pgn_games.specs.Games.{opening}
+use Rattle.pgn_games.specs.Wins.{win_of}
 use Rattle.random_games.specs.Games.{MadeGame}
-
--- the result where a side wins
-abbrev pub win_of : Color → ResultMark
-win_of White = WhiteWins
-win_of Black = BlackWins
 
 -- the result by how the last position stands: where the game would go on, the side to move has lost on time
 abbrev pub result_of : Color → Standing → ResultMark

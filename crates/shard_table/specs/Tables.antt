@@ -5,8 +5,7 @@ use Rattle.turn_cell.specs.declared.object.Entry.{Entry}
 use Rattle.turn_cell.specs.declared.cells.Pass.{Pass}
 use Rattle.turn_cell.specs.Histories.{IsLegalHistory}
 use Rattle.turn_cell.specs.Passes.{Known, known, IsOf, Turned, SplitOff, Joined}
-use Rattle.cha_board.specs.declared.men.Color.{Color}
-use Rattle.cha_board.specs.declared.men.Color.TheVariants.{White, Black}
+use Rattle.cha_board.specs.Packing.{color_code}
 use Rattle.cha_fact.specs.declared.key.Key.{Key}
 use Rattle.cha_fact.specs.declared.calls.Probe.{Probe}
 use Rattle.cha_fact.specs.declared.calls.Probe.TheVariants.{Found, Miss}
@@ -20,14 +19,9 @@ use Rattle.shard_table.specs.Live.{History}
 use Rattle.shard_table.specs.declared.table.Table.{Table}
 use Rattle.shard_table.specs.declared.table.TablePass.{TablePass}
 
--- what a side adds to the number of a shard
-abbrev pub side_number : Color → ℕ
-side_number White = 0
-side_number Black = 1
-
 -- the number of a key's shard: the sum of the remainders of its words by 1,021, and one more for Black, by 8
 abbrev pub shard_number : Key → ℕ
-shard_number key = (sum (map (λ word. word % 1021) key.packed.words) + side_number key.winner) % 8
+shard_number key = (sum (map (λ word. word % 1021) key.packed.words) + color_code key.winner) % 8
 
 -- what contracts see of a pass of one shard
 abbrev pub ShardPass : Type 0

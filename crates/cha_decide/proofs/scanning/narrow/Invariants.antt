@@ -1,5 +1,5 @@
 use Rattle.std.proofs.Common.{◌<◌, ◌-◌, length}
-use Rattle.cha_decide.specs.Shown.{MadeSome}
+use Rattle.cha_fact.specs.Entries.{MadeSome}
 use Rattle.cha_decide.specs.Scanning.{IsShownAt, IsOpenAt}
 use Rattle.cha_decide.proofs.scanning.narrow.Given as goal
 

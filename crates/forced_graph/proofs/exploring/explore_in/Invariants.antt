@@ -1,6 +1,6 @@
 use Rattle.std.proofs.Common.{◌-◌, ◌≤◌}
 use Rattle.forced_graph.specs.Regions.{IsBetween, IsTaskOf}
-use Rattle.forced_graph.proofs.Calling.{HasMade}
+use Rattle.cha_fact.specs.Entries.{MadeSome}
 use Rattle.forced_graph.proofs.exploring.explore_in.Given as goal
 
 abbrev pub invariant-loop-region : goal.invariant-loop-region
@@ -9,7 +9,7 @@ invariant-loop-region g l = record {
   between : IsBetween l.region;
   task : IsTaskOf l.position l.winner l.region;
   few : l.region.count ≤ l.budget;
-  calls : HasMade g.F.Facts.made l.fn.facts l.facts;
+  calls : MadeSome g.F.Facts.made l.fn.facts l.facts;
 }
 
 abbrev pub decreases-loop-region : goal.decreases-loop-region

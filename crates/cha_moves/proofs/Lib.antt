@@ -15,6 +15,7 @@ pub mod Arriving
 pub mod Goings
 pub mod Pushes
 pub mod Examples
+pub mod PlacedMen
 mod MateExamples
 pub mod Clearing
 pub mod Shielding

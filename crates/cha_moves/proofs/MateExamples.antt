@@ -1,28 +1,15 @@
 -- Worked positions: which lists of moves mate.
-use Rattle.std.proofs.Common.{◌≡◌, ℕ, false, List, [], ◌∷◌, replicate, Option, Some, None, slice_set, refl}
+use Rattle.std.proofs.Common.{◌≡◌, false, List, [], ◌∷◌, Option, Some, None, refl}
 use Rattle.cha_board.specs.declared.men.Color.{Color}
 use Rattle.cha_board.specs.declared.men.Color.TheVariants.{White, Black}
 use Rattle.cha_board.specs.declared.men.Kind.{Kind}
 use Rattle.cha_board.specs.declared.men.Kind.TheVariants.{Pawn, Queen, Rook, King}
-use Rattle.cha_board.specs.declared.men.Man.{Man}
 use Rattle.cha_board.specs.Squares.{squares, files_apart, ranks_apart, steps_apart, is_straight, is_diagonal, is_line, is_rank_ahead, aims_at, is_within, lies_between, between}
 use Rattle.cha_board.specs.Board.{Board, is_clear, attacks_as, attacked, king_of, in_check}
 use Rattle.cha_moves.specs.Step.{Move}
 use Rattle.cha_moves.specs.Moves.{is_step, is_double_step, is_pawn_capture, is_en_passant, is_short_castling, is_long_castling, goes, promotes_well, is_pseudo_legal_as, men_after, rights_after, target_after, after, is_legal_in, moves_from, all_moves, legal}
 use Rattle.cha_moves.specs.MateLines.{is_mated, mate_lines}
-
--- a man on a square
-record Placed : Type 0 where
-  square : ℕ
-  man : Man
-
-abbrev at : ℕ → Color → Kind → Placed
-at s c k = record { square = s; man = record { color = c; kind = k } }
-
--- the men of the squares named, and no others
-abbrev men_of : List Placed → List (Option Man)
-men_of [] = replicate 64 None
-men_of (placed ∷ rest) = slice_set (men_of rest) placed.square (Some placed.man)
+use Rattle.cha_moves.proofs.PlacedMen.{Placed, at, men_of}
 
 abbrev position_of : List Placed → Color → Board
 position_of men side = record {

@@ -1,5 +1,5 @@
 -- Mates with small material, one for each two kinds with which there is one.
-use Rattle.std.proofs.Common.{◌≡◌, ◌≢◌, ℕ, ◌<◌, ◌==◌, Bool, true, false, not, ◌&&◌, ◌||◌, ◌⊎◌, List, [], ◌∷◌, length, replicate, Option, Some, None, slice_set, refl, inl, inr}
+use Rattle.std.proofs.Common.{◌≡◌, ◌≢◌, ℕ, ◌<◌, ◌==◌, Bool, true, false, not, ◌&&◌, ◌||◌, ◌⊎◌, List, [], ◌∷◌, length, Option, Some, None, refl, inl, inr}
 use Rattle.std.specs.List.{list_all}
 use Rattle.std.proofs.lemmas.Bool.{and_parts, both_ways, eqb-true, not-true, false_from_ne_true}
 use Rattle.cha_board.specs.declared.men.Color.{Color}
@@ -15,22 +15,10 @@ use Rattle.cha_board.proofs.Scans.{all_squares_at}
 use Rattle.cha_moves.specs.Moves.{is_step, is_double_step, is_pawn_capture, is_en_passant, is_short_castling, is_long_castling, goes, promotes_well, is_pseudo_legal_as, men_after, is_legal_in, moves_from, all_moves, legal}
 use Rattle.cha_moves.specs.MateLines.{is_mated}
 use Rattle.cha_moves.proofs.Mated.{mated_is}
+use Rattle.cha_moves.proofs.PlacedMen.{Placed, at, men_of}
 use Rattle.mob_small.specs.Small.{HasOnlyKing, HasOneBeside, HasBeside, no_rights, IsSmallMate}
 use Rattle.mob_small.specs.MateFreeKinds.{is_free}
 use Rattle.mob_small.proofs.Scene.{non_king_inside}
-
--- a man on a square
-pub record Placed : Type 0 where
-  pub square : ℕ
-  pub man : Man
-
-abbrev pub at : ℕ → Color → Kind → Placed
-at s c k = record { square = s; man = record { color = c; kind = k } }
-
--- the men of the squares named, and no others
-abbrev pub men_of : List Placed → List (Option Man)
-men_of [] = replicate 64 None
-men_of (placed ∷ rest) = slice_set (men_of rest) placed.square (Some placed.man)
 
 -- the loser is to move
 unfoldable pub position_of : List Placed → Color → Board

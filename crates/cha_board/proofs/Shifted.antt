@@ -1,4 +1,4 @@
--- Ranks, colours of squares, and sets moved by one square, as what is done to their bits.
+-- Ranks, colours of squares, homes of kings and rooks, and sets moved by one square, as what is done to their bits.
 use Rattle.std.proofs.Common.{◌≡◌, ℕ, ◌+◌, ◌-◌, ◌*◌, ◌/◌, ◌%◌, ◌^◌, ◌<◌, ◌≤◌, Bool, true, false, not, ◌&&◌, ◌==◌, List, refl, sym, ap, ◌∙◌, arith, zero-add, inl, inr}
 use Rattle.std.specs.List.{list_all, range_with_len}
 use Rattle.std.proofs.lemmas.List.Sums.{AllPass-from_list_all}
@@ -11,6 +11,7 @@ use Rattle.std.proofs.lemmas.Nat.Bits.{bit_at-zero, bit_at_above, bit_at_cat_low
 use Rattle.cha_board.specs.declared.men.Color.TheVariants.{White, Black}
 use Rattle.cha_board.specs.Men.{same_color}
 use Rattle.cha_board.specs.Squares.{squares, file_of, rank_of, color_of_square}
+use Rattle.cha_board.specs.Board.{is_home}
 use Rattle.cha_board.specs.SquareSets.{set_of, has_square, set_of_bits}
 use Rattle.cha_board.proofs.SetLaws.{same_set}
 use Rattle.cha_board.proofs.Scans.{all_squares_at}
@@ -138,3 +139,8 @@ rank_shown r small =
 pub colors_shown : (set_of_bits 6172840429334713770 ≡ set_of (λ t. same_color (color_of_square t) White)) × (set_of_bits 12273903644374837845 ≡ set_of (λ t. same_color (color_of_square t) Black))
 unfolding color_of_square squares
 colors_shown = (refl, refl)
+
+-- the homes of kings and rooks, as a number
+pub homes_shown : set_of_bits 10448351135499550865 ≡ set_of is_home
+unfolding squares
+homes_shown = refl

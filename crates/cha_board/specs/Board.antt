@@ -7,7 +7,7 @@ use Rattle.cha_board.specs.declared.men.Kind.TheVariants.{Pawn, Rook, King}
 use Rattle.cha_board.specs.declared.men.Man.{Man}
 use Rattle.cha_board.specs.declared.position.Rights.{Rights}
 use Rattle.cha_board.specs.Men.{other_color, same_color, is_vacant, is_man, is_pawn}
-use Rattle.cha_board.specs.Squares.{squares, rank_of, aims_at, between}
+use Rattle.cha_board.specs.Squares.{squares, rank_of, ahead_of, aims_at, between}
 
 -- A position: what stands on each of the 64 squares, the side to move, the castlings that are left, and the square that
 -- a pawn has just passed over in a double step, if any (PGN standard, 16.1.3).
@@ -63,6 +63,20 @@ abbrev pub home_of : Color → ℕ
 home_of White = 4
 home_of Black = 60
 
+-- the home squares of c's rooks: h1 or h8 for castling on the king's side, a1 or a8 on the queen's
+abbrev pub short_home_of : Color → ℕ
+short_home_of c = home_of c + 3
+
+abbrev pub long_home_of : Color → ℕ
+long_home_of c = home_of c - 4
+
+-- a home of c's king or one of its rooks, and of either side's
+abbrev pub is_home_of : Color → ℕ → Bool
+is_home_of c s = (s == home_of c) || (s == short_home_of c) || (s == long_home_of c)
+
+abbrev pub is_home : ℕ → Bool
+is_home s = is_home_of White s || is_home_of Black s
+
 -- c may still castle on the king's side, as far as king and rook have not moved
 abbrev pub has_short_right : Rights → Color → Bool
 has_short_right r White = r.white_king
@@ -80,13 +94,19 @@ are_at_home men c s = is_man c King (man_at men (home_of c)) && is_man c Rook (m
 -- where c has a right, its king and that rook are at home
 unfoldable pub rights_fit : List (Option Man) → Rights → Color → Bool
 rights_fit men r c =
-    (not (has_short_right r c) || are_at_home men c (home_of c + 3)) && (not (has_long_right r c) || are_at_home men c (home_of c - 4))
+    (not (has_short_right r c) || are_at_home men c (short_home_of c)) && (not (has_long_right r c) || are_at_home men c (long_home_of c))
+
+-- the rank of the squares over which a pawn of the other side may just have passed, with c to move
+abbrev pub target_rank : Color → ℕ
+target_rank White = 5
+target_rank Black = 2
 
 -- with c to move, a pawn of the other side may just have passed over s: s and the square that it left are empty, and it
 -- stands in front of s
 unfoldable pub target_fits : List (Option Man) → Color → ℕ → Bool
-target_fits men White s = (rank_of s == 5) && is_empty men s && is_empty men (s + 8) && is_man Black Pawn (man_at men (s - 8))
-target_fits men Black s = (rank_of s == 2) && is_empty men s && is_empty men (s - 8) && is_man White Pawn (man_at men (s + 8))
+target_fits men c s =
+    (rank_of s == target_rank c) && is_empty men s && is_empty men (ahead_of c s)
+    && is_man (other_color c) Pawn (man_at men (ahead_of (other_color c) s))
 
 abbrev pub target_is_good : List (Option Man) → Color → Option ℕ → Bool
 target_is_good men c None = true

@@ -1,5 +1,5 @@
 -- Squares, their distances and lines, and what a man aims at (Laws of Chess, Articles 2.2 to 2.4 and 3.1 to 3.8).
-use Rattle.std.specs.Prelude.{ℕ, ◌+◌, ◌*◌, ◌/◌, ◌%◌, ◌==◌, max, Bool, not, ◌&&◌, ◌||◌, List, if◌then◌else◌, filter}
+use Rattle.std.specs.Prelude.{ℕ, ◌+◌, ◌-◌, ◌*◌, ◌/◌, ◌%◌, ◌==◌, max, Bool, not, ◌&&◌, ◌||◌, List, if◌then◌else◌, filter}
 use Rattle.std.specs.List.{range_with_len}
 use Rattle.std.specs.Int.{abs_diff}
 use Rattle.cha_board.specs.declared.men.Color.{Color}
@@ -45,6 +45,16 @@ is_diagonal s t = not (s == t) && (files_apart s t == ranks_apart s t)
 -- two different squares of one line
 unfoldable pub is_line : ℕ → ℕ → Bool
 is_line s t = is_straight s t || is_diagonal s t
+
+-- the last rank, as c sees it, on which its pawns are promoted
+abbrev pub last_rank : Color → ℕ
+last_rank White = 7
+last_rank Black = 0
+
+-- the square one rank ahead of s, as c sees it
+abbrev pub ahead_of : Color → ℕ → ℕ
+ahead_of White s = s + 8
+ahead_of Black s = s - 8
 
 -- t is one rank ahead of s, as c sees it
 unfoldable pub is_rank_ahead : Color → ℕ → ℕ → Bool

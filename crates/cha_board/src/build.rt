@@ -1,11 +1,14 @@
 //! How a position is made from its parts.
 
-ghost use Rattle.std.specs.Prelude.{◌≡◌, IfOk};
+ghost use Rattle.std.specs.Prelude.{◌≡◌, ◌≢◌, IfOk};
 ghost use Rattle.std.specs.Result.{result_err};
+ghost use Rattle.cha_board.specs.Men.{other_color};
+ghost use Rattle.cha_board.specs.Squares.{last_rank};
 ghost use Rattle.cha_board.specs.Board.{has_pawn_at_end, are_at_home, target_fits};
+ghost use Rattle.cha_board.specs.Board.{target_rank as target_rank_of};
 ghost use Rattle.cha_board.specs.Build.{build_fault, kept_rights, kept_target, built};
 
-use crate::castling::home;
+use crate::castling::{home, long_home, short_home};
 use crate::men::{Color, Kind, Man, is_man_of};
 use crate::placement::Men;
 use crate::position::{Position, Rights};
@@ -88,10 +91,22 @@ fn rights_kept(men: &Men, rights: Rights) -> Rights
     ensures { result ≡ kept_rights men.now rights }
 {
     Rights {
-        white_king: rights.white_king && at_home(men, Color::White, Square::at(7)),
-        white_queen: rights.white_queen && at_home(men, Color::White, Square::at(0)),
-        black_king: rights.black_king && at_home(men, Color::Black, Square::at(63)),
-        black_queen: rights.black_queen && at_home(men, Color::Black, Square::at(56)),
+        white_king: rights.white_king && at_home(men, Color::White, short_home(Color::White)),
+        white_queen: rights.white_queen && at_home(men, Color::White, long_home(Color::White)),
+        black_king: rights.black_king && at_home(men, Color::Black, short_home(Color::Black)),
+        black_queen: rights.black_queen && at_home(men, Color::Black, long_home(Color::Black)),
+    }
+}
+
+/// The rank of the squares over which a pawn can just have passed, with this side to move.
+fn target_rank(side: Color) -> u8
+    ensures value { result ≡ target_rank_of side }
+    ensures ahead { result ≢ last_rank side }
+    ensures behind { result ≢ last_rank (other_color side) }
+{
+    match side {
+        Color::White => 5,
+        Color::Black => 2,
     }
 }
 
@@ -100,21 +115,11 @@ fn rights_kept(men: &Men, rights: Rights) -> Rights
 fn passed_over(men: &Men, side: Color, at: Square) -> bool
     ensures { result ≡ target_fits men.now side at }
 {
-    let index = at.index();
-    match side {
-        Color::White => {
-            at.rank() == 5
-                && men.man(at).is_none()
-                && men.man(Square::at(index + 8)).is_none()
-                && is_man_of(men.man(Square::at(index - 8)), Color::Black, Kind::Pawn)
-        }
-        Color::Black => {
-            at.rank() == 2
-                && men.man(at).is_none()
-                && men.man(Square::at(index - 8)).is_none()
-                && is_man_of(men.man(Square::at(index + 8)), Color::White, Kind::Pawn)
-        }
-    }
+    let enemy = side.other();
+    at.rank() == target_rank(side)
+        && men.man(at).is_none()
+        && men.man(at.ahead(side)).is_none()
+        && is_man_of(men.man(at.ahead(enemy)), enemy, Kind::Pawn)
 }
 
 /// The target, where a pawn can just have passed over it.

@@ -1,10 +1,14 @@
-//! What a side needs for castling: its king's home, and the rights that it has left (Laws of Chess, Article 3.8.2).
+//! What a side needs for castling: the homes of its king and its rooks, and the rights that it has left (Laws of Chess,
+//! Article 3.8.2).
 
 ghost use Rattle.std.specs.Prelude.{◌≡◌, ◌≤◌};
-ghost use Rattle.cha_board.specs.Board.{home_of, has_short_right, has_long_right};
+ghost use Rattle.cha_board.specs.Board.{home_of, short_home_of, long_home_of, is_home, has_short_right, has_long_right};
+ghost use Rattle.cha_board.specs.SquareSets.{set_of};
 
 use crate::men::Color;
 use crate::position::Position;
+use crate::sets::SquareSet;
+use crate::squares::Square;
 
 /// The number of the square that the king of a side has as its home.
 pub fn home(side: Color) -> u8
@@ -16,6 +20,28 @@ pub fn home(side: Color) -> u8
         Color::White => 4,
         Color::Black => 60,
     }
+}
+
+/// The home of the rook with which a side castles on the king's side: h1 or h8.
+pub fn short_home(side: Color) -> Square
+    ensures { result ≡ short_home_of side }
+{
+    Square::at(home(side) + 3)
+}
+
+/// The home of the rook with which a side castles on the queen's side: a1 or a8.
+pub fn long_home(side: Color) -> Square
+    ensures { result ≡ long_home_of side }
+{
+    Square::at(home(side) - 4)
+}
+
+/// The homes of both sides' kings and rooks: a1, e1, h1, a8, e8 and h8.
+#[tactic(auto, using(crate::proofs::Shifted::homes_shown))]
+pub fn homes() -> SquareSet
+    ensures { result ≡ set_of is_home }
+{
+    SquareSet::from_bits(0x9100_0000_0000_0091)
 }
 
 /// Whether a side may still castle on the king's side, as far as king and rook have not moved.

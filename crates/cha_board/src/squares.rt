@@ -1,8 +1,9 @@
 //! The squares of the board (Laws of Chess, Article 2.4).
 
-ghost use Rattle.std.specs.Prelude.{◌≡◌, ◌<◌, ◌↔◌, IsSome, IfSome};
-ghost use Rattle.cha_board.specs.Squares.{file_of, rank_of};
+ghost use Rattle.std.specs.Prelude.{◌≡◌, ◌≢◌, ◌<◌, ◌↔◌, IsSome, IfSome};
+ghost use Rattle.cha_board.specs.Squares.{file_of, rank_of, last_rank, ahead_of};
 
+use crate::men::Color;
 use std::marker::Model;
 
 /// A square, seen by contracts as its number: from 0 for a1 and 1 for b1 to 63 for h8, its file plus eight times its rank.
@@ -73,5 +74,16 @@ impl Square {
         ensures bound { result < 8 }
     {
         self.index / 8
+    }
+
+    /// The square one rank ahead, as a side sees it. There is none ahead of its last rank.
+    pub fn ahead(self, side: Color) -> Square
+        requires { rank_of self ≢ last_rank side }
+        ensures { result ≡ ahead_of side self }
+    {
+        match side {
+            Color::White => Square::at(self.index + 8),
+            Color::Black => Square::at(self.index - 8),
+        }
     }
 }

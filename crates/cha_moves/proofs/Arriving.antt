@@ -8,12 +8,12 @@ use Rattle.cha_board.specs.declared.men.Kind.{Kind}
 use Rattle.cha_board.specs.declared.men.Kind.TheVariants.{Pawn, Knight, Bishop, Rook, Queen, King}
 use Rattle.cha_board.specs.declared.men.Man.{Man}
 use Rattle.cha_board.specs.Men.{same_color, same_kind, is_man}
-use Rattle.cha_board.specs.Squares.{rank_of}
-use Rattle.cha_board.specs.Board.{Board, IsValid, man_at, in_check}
+use Rattle.cha_board.specs.Squares.{rank_of, last_rank}
+use Rattle.cha_board.specs.Board.{Board, IsValid, man_at, in_check, target_rank}
 use Rattle.cha_board.specs.SquareSets.{set_of, has_square}
 use Rattle.cha_board.proofs.SetLaws.{has-set_of}
 use Rattle.cha_moves.specs.Step.{Move}
-use Rattle.cha_moves.specs.Moves.{last_rank, goes, goes_as, is_promotion, promotes_well, may_enter, is_pseudo_legal, is_pseudo_legal_as, is_en_passant, captures_en_passant, men_after, is_legal_in}
+use Rattle.cha_moves.specs.Moves.{goes, goes_as, is_promotion, promotes_well, may_enter, is_pseudo_legal, is_pseudo_legal_as, is_en_passant, captures_en_passant, men_after, is_legal_in}
 use Rattle.cha_moves.specs.Ways.{is_way, is_promoted, legal_between}
 use Rattle.cha_board.proofs.Identity.{same_kind_equal, two_kinds}
 use Rattle.cha_moves.proofs.Kept.{target_of}
@@ -83,7 +83,7 @@ filter_four : {X : Type 0} (p : X → Bool) (w x y z : X) (b : Bool) → p w ≡
 filter_four p w x y z true e f g h = rw (e, f, g, h) refl
 filter_four p w x y z false e f g h = rw (e, f, g, h) refl
 
-not_last_target : (c : Color) (r : ℕ) → r ≡ last_rank c → r ≡ (elim c [ White ↦ 5 | Black ↦ 2 ]) → ⊥
+not_last_target : (c : Color) (r : ℕ) → r ≡ last_rank c → r ≡ target_rank c → ⊥
 not_last_target White r e f = cc
 not_last_target Black r e f = cc
 

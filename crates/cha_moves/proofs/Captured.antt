@@ -5,8 +5,7 @@ use Rattle.cha_board.specs.declared.men.Color.{Color}
 use Rattle.cha_board.specs.declared.men.Color.TheVariants.{White, Black}
 use Rattle.cha_board.specs.declared.men.Kind.TheVariants.{Pawn}
 use Rattle.cha_board.specs.Men.{other_color}
-use Rattle.cha_board.specs.Squares.{rank_of, aims_at, is_rank_ahead}
-use Rattle.cha_moves.specs.Moves.{last_rank}
+use Rattle.cha_board.specs.Squares.{rank_of, last_rank, aims_at, is_rank_ahead}
 
 pub captures_ahead : (c : Color) (s t : ℕ) → s < 64 → aims_at c Pawn s t ≡ true → rank_of t ≢ last_rank (other_color c)
 unfolding aims_at is_rank_ahead

@@ -8,7 +8,7 @@ use Rattle.cha_board.specs.declared.men.Kind.{Kind}
 use Rattle.cha_board.specs.declared.men.Kind.TheVariants.{Pawn, Knight, Bishop, Rook, Queen, King}
 use Rattle.cha_board.specs.declared.men.Man.{Man}
 use Rattle.cha_board.specs.Men.{other_color, same_color, same_kind, is_man, is_vacant}
-use Rattle.cha_board.specs.Squares.{squares, rank_of, aims_at, lies_between, between}
+use Rattle.cha_board.specs.Squares.{squares, rank_of, last_rank, aims_at, lies_between, between}
 use Rattle.cha_board.specs.Aims.{is_open, aims_over}
 use Rattle.cha_board.specs.Board.{Board, IsValid, man_at, is_empty, is_clear, attacks_as, attacked, in_check, king_of, home_of}
 use Rattle.cha_board.specs.SquareSets.{set_of, squares_in, has_square, set_common, set_without}
@@ -19,7 +19,7 @@ use Rattle.cha_board.proofs.Scans.{no_square}
 use Rattle.cha_board.proofs.Identity.{one_color, man_of, on_board, other_other, same_kind_equal}
 use Rattle.cha_board.proofs.Sightings.{attacked_from, attacked_by_none}
 use Rattle.cha_moves.specs.Step.{Move}
-use Rattle.cha_moves.specs.Moves.{last_rank, is_target, arriving, is_en_passant, is_short_castling, is_long_castling, men_after, after}
+use Rattle.cha_moves.specs.Moves.{is_target, arriving, is_en_passant, is_short_castling, is_long_castling, men_after, after}
 use Rattle.cha_moves.specs.Shields.{aims_as}
 use Rattle.cha_moves.specs.Ways.{is_way}
 use Rattle.cha_moves.specs.Checks.{IsAlone, HaveScreens, others, may_check, is_special_check}

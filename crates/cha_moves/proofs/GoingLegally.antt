@@ -9,13 +9,13 @@ use Rattle.cha_board.specs.declared.men.Kind.{Kind}
 use Rattle.cha_board.specs.declared.men.Kind.TheVariants.{Pawn, Rook, Bishop, Knight, Queen, King}
 use Rattle.cha_board.specs.declared.men.Man.{Man}
 use Rattle.cha_board.specs.Men.{other_color, same_color, same_kind, is_vacant, is_man}
-use Rattle.cha_board.specs.Squares.{squares, rank_of, aims_at, files_apart, ranks_apart, steps_apart, is_straight, is_diagonal, is_line, is_rank_ahead, is_within, lies_between}
+use Rattle.cha_board.specs.Squares.{squares, rank_of, last_rank, aims_at, files_apart, ranks_apart, steps_apart, is_straight, is_diagonal, is_line, is_rank_ahead, is_within, lies_between}
 use Rattle.cha_board.specs.Board.{Board, IsValid, man_at, attacks_as, attacked, in_check, king_of, home_of}
 use Rattle.cha_board.specs.SquareSets.{set_of, has_square, squares_in, set_of_bits, set_common, set_without, set_placed}
 use Rattle.cha_board.proofs.SetLaws.{has-set_of, same_set, same_squares, length-set_of}
 use Rattle.cha_board.proofs.Sightings.{attacked_from, attacked_by_none}
 use Rattle.cha_moves.specs.Step.{Move}
-use Rattle.cha_moves.specs.Moves.{last_rank, is_legal_in, is_en_passant, is_short_castling, is_long_castling, moves_between, moves_from, men_after}
+use Rattle.cha_moves.specs.Moves.{is_legal_in, is_en_passant, is_short_castling, is_long_castling, moves_between, moves_from, men_after}
 use Rattle.cha_moves.specs.Ways.{is_way, is_promoted, legal_between}
 use Rattle.cha_moves.specs.Shields.{aims_as, men_less, AreShields, IsFree, some_move, goes_legally}
 use Rattle.cha_board.proofs.Identity.{some_inj, two_kinds}

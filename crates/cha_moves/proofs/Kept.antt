@@ -10,11 +10,11 @@ use Rattle.cha_board.specs.declared.men.Kind.{Kind}
 use Rattle.cha_board.specs.declared.men.Kind.TheVariants.{Pawn, Knight, Bishop, Rook, Queen, King}
 use Rattle.cha_board.specs.declared.men.Man.{Man}
 use Rattle.cha_board.specs.Men.{other_color, same_color, same_kind, is_man}
-use Rattle.cha_board.specs.Squares.{rank_of}
-use Rattle.cha_board.specs.Board.{Board, IsValid, man_at, is_empty, home_of, king_of, has_one_king, has_short_right, has_long_right, rights_fit, are_at_home, target_fits, target_is_good}
+use Rattle.cha_board.specs.Squares.{rank_of, last_rank}
+use Rattle.cha_board.specs.Board.{Board, IsValid, man_at, is_empty, home_of, king_of, has_one_king, has_short_right, has_long_right, rights_fit, are_at_home, target_rank, target_fits, target_is_good}
 use Rattle.cha_board.proofs.Kings.{king_is}
 use Rattle.cha_moves.specs.Step.{Move}
-use Rattle.cha_moves.specs.Moves.{last_rank, is_promotion, promotes_well, may_enter, arriving, is_target, is_en_passant, victim_of, is_short_castling, is_long_castling, moved, castles_short, castles_long, captures_en_passant, rook_of, men_after}
+use Rattle.cha_moves.specs.Moves.{is_promotion, promotes_well, may_enter, arriving, is_target, is_en_passant, victim_of, is_short_castling, is_long_castling, moved, castles_short, castles_long, captures_en_passant, rook_of, men_after}
 use Rattle.cha_board.proofs.Identity.{same_color_equal, same_kind_equal, side_other, two_kinds, one_kind, empty_no_man, empty_is_none, none_some, some_inj, on_board, man_of, five_of_eight, six_of_nine, all_four, if_at}
 use Rattle.cha_moves.proofs.Made.{Mover, Step, put_other, length-moved, moved_other, men_moved, Plainly, Passing, Shortly, Longly, makes}
 
@@ -147,7 +147,7 @@ kings_one_move q m man step c =
 
 -- the target of a position: it is empty, and a pawn of the other side stands in front of it
 pub record Target (men : List (Option Man)) (c : Color) (t : ℕ) : Type 0 where
-  pub rank : rank_of t ≡ (elim c [ White ↦ 5 | Black ↦ 2 ])
+  pub rank : rank_of t ≡ target_rank c
   pub free : is_empty men t ≡ true
   pub pawn : is_man (other_color c) Pawn (man_at men (victim_of c t)) ≡ true
 

@@ -8,12 +8,12 @@ use Rattle.cha_board.specs.declared.men.Color.TheVariants.{White, Black}
 use Rattle.cha_board.specs.declared.men.Kind.{Kind}
 use Rattle.cha_board.specs.declared.men.Kind.TheVariants.{Pawn, Knight, Bishop, Rook, Queen, King}
 use Rattle.cha_board.specs.Men.{other_color, same_color, is_of}
-use Rattle.cha_board.specs.Squares.{squares, rank_of}
+use Rattle.cha_board.specs.Squares.{squares, rank_of, last_rank}
 use Rattle.cha_board.specs.Board.{Board, man_at, in_check}
 use Rattle.cha_board.specs.SquareSets.{set_of, squares_in, has_square}
 use Rattle.cha_board.proofs.SetLaws.{has-set_of}
 use Rattle.cha_moves.specs.Step.{Move}
-use Rattle.cha_moves.specs.Moves.{last_rank, is_promotion, is_pseudo_legal, men_after, is_legal_in, legal, after}
+use Rattle.cha_moves.specs.Moves.{is_promotion, is_pseudo_legal, men_after, is_legal_in, legal, after}
 use Rattle.cha_moves.specs.Ways.{is_way}
 use Rattle.cha_moves.specs.Ends.{IsMatingLine}
 use Rattle.cha_moves.proofs.Made.{Mover, may_gives}

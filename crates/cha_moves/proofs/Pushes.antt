@@ -9,14 +9,14 @@ use Rattle.cha_board.specs.declared.men.Kind.{Kind}
 use Rattle.cha_board.specs.declared.men.Kind.TheVariants.{Pawn, Knight, Bishop, Rook, Queen, King}
 use Rattle.cha_board.specs.declared.men.Man.{Man}
 use Rattle.cha_board.specs.Men.{same_color, same_kind}
-use Rattle.cha_board.specs.Squares.{squares, rank_of, files_apart, is_rank_ahead, aims_at}
+use Rattle.cha_board.specs.Squares.{squares, rank_of, last_rank, ahead_of, files_apart, is_rank_ahead, aims_at}
 use Rattle.cha_board.specs.Board.{Board, man_at, is_empty, home_of}
 use Rattle.cha_board.specs.SquareSets.{set_of, set_joined, set_minus}
 use Rattle.cha_board.proofs.SetLaws.{same_set}
 use Rattle.cha_board.specs.Aims.{aimed}
 use Rattle.cha_board.proofs.Scans.{all_squares_at}
-use Rattle.cha_moves.specs.Moves.{second_rank, fourth_rank, last_rank, middle, is_step, is_double_step, is_pawn_capture, is_en_passant, is_short_castling, is_long_castling, goes, goes_as, may_enter}
-use Rattle.cha_moves.specs.Ways.{ahead_of, is_way}
+use Rattle.cha_moves.specs.Moves.{second_rank, fourth_rank, middle, is_step, is_double_step, is_pawn_capture, is_en_passant, is_short_castling, is_long_castling, goes, goes_as, may_enter}
+use Rattle.cha_moves.specs.Ways.{is_way}
 use Rattle.cha_moves.proofs.Kept.{short_tests, long_tests}
 use Rattle.cha_moves.proofs.Goings.{joined_of, minus_of, occupied_in, aims_seen, at_one}
 

@@ -5,12 +5,12 @@ use Rattle.cha_board.specs.declared.men.Color.{Color}
 use Rattle.cha_board.specs.declared.men.Kind.{Kind}
 use Rattle.cha_board.specs.declared.men.Kind.TheVariants.{Pawn, Knight, Bishop, Rook, Queen, King}
 use Rattle.cha_board.specs.Men.{other_color}
-use Rattle.cha_board.specs.Squares.{rank_of}
+use Rattle.cha_board.specs.Squares.{rank_of, last_rank}
 use Rattle.cha_board.specs.Aims.{aims_over, aimed}
 use Rattle.cha_board.specs.Board.{Board, king_of, home_of}
 use Rattle.cha_board.specs.SquareSets.{set_of, has_square, set_joined, set_with, empty_set}
 use Rattle.cha_board.proofs.SetLaws.{has-set_of, same_set}
-use Rattle.cha_moves.specs.Moves.{last_rank, is_target}
+use Rattle.cha_moves.specs.Moves.{is_target}
 use Rattle.cha_moves.specs.Checks.{others, may_check, is_special_check}
 use Rattle.cha_moves.proofs.Goings.{same_eqb}
 use Rattle.cha_moves.proofs.Checking.{enemy_king}

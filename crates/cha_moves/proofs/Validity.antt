@@ -8,11 +8,11 @@ use Rattle.cha_board.specs.declared.men.Kind.TheVariants.{Pawn, Rook, King}
 use Rattle.cha_board.specs.declared.men.Man.{Man}
 use Rattle.cha_board.specs.declared.position.Rights.{Rights}
 use Rattle.cha_board.specs.Men.{other_color, same_color, same_kind, is_vacant, is_man, is_pawn}
-use Rattle.cha_board.specs.Squares.{rank_of, files_apart, is_rank_ahead, aims_at}
+use Rattle.cha_board.specs.Squares.{rank_of, last_rank, files_apart, is_rank_ahead, aims_at}
 use Rattle.cha_board.specs.Board.{Board, IsValid, man_at, is_empty, home_of, in_check, is_pawn_at_end, has_pawn_at_end, has_short_right, has_long_right, rights_fit, are_at_home, target_fits, target_is_good}
 use Rattle.cha_board.proofs.Builds.{pawn_at, pawn_nowhere}
 use Rattle.cha_moves.specs.Step.{Move}
-use Rattle.cha_moves.specs.Moves.{second_rank, fourth_rank, last_rank, middle, is_step, is_double_step, is_pawn_capture, is_en_passant, is_short_castling, is_long_castling, goes, is_promotion, is_target, arriving, victim_of, moved, rook_of, men_after, touches, rights_after, target_after, after, is_pseudo_legal, is_legal_in}
+use Rattle.cha_moves.specs.Moves.{second_rank, fourth_rank, middle, is_step, is_double_step, is_pawn_capture, is_en_passant, is_short_castling, is_long_castling, goes, is_promotion, is_target, arriving, victim_of, moved, rook_of, men_after, touches, rights_after, target_after, after, is_pseudo_legal, is_legal_in}
 use Rattle.cha_board.proofs.Identity.{all_five, same_color_equal, same_kind_equal, other_other, one_kind, none_some, some_inj, man_of, is_man_from, pawn_of, if_from}
 use Rattle.cha_moves.proofs.Made.{may_gives, Step, put, put_other, length-moved, moved_to, moved_from, moved_other, men_moved, Plainly, Passing, Shortly, Longly, makes}
 use Rattle.cha_moves.proofs.Kept.{from_to, promoted, arrived_is, Victim, victim_of_move, short_homes, long_homes, Castling, short_castling, long_castling, length_after, kings_kept}

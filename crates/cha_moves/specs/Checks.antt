@@ -4,11 +4,11 @@ use Rattle.cha_board.specs.declared.men.Kind.{Kind}
 use Rattle.cha_board.specs.declared.men.Kind.TheVariants.{Pawn, King}
 use Rattle.cha_board.specs.declared.men.Man.{Man}
 use Rattle.cha_board.specs.Men.{other_color}
-use Rattle.cha_board.specs.Squares.{rank_of, lies_between}
+use Rattle.cha_board.specs.Squares.{rank_of, last_rank, lies_between}
 use Rattle.cha_board.specs.SquareSets.{set_of, has_square, set_without}
 use Rattle.cha_board.specs.Aims.{aims_over}
 use Rattle.cha_board.specs.Board.{Board, man_at, is_empty, king_of, home_of}
-use Rattle.cha_moves.specs.Moves.{last_rank, is_target}
+use Rattle.cha_moves.specs.Moves.{is_target}
 use Rattle.cha_moves.specs.Shields.{aims_as}
 
 -- a pawn becomes another man on t or captures in passing onto t, or a king castles to t

@@ -8,11 +8,11 @@ use Rattle.cha_board.specs.declared.men.Kind.TheVariants.{Pawn, Knight, Bishop, 
 use Rattle.cha_board.specs.declared.men.Man.{Man}
 use Rattle.cha_board.specs.declared.position.Rights.{Rights}
 use Rattle.cha_board.specs.Men.{other_color, same_color, same_kind, is_man}
-use Rattle.cha_board.specs.Squares.{squares, rank_of, files_apart, is_rank_ahead, aims_at}
-use Rattle.cha_board.specs.Board.{Board, man_at, is_empty, is_clear, attacked, in_check, home_of, has_short_right, has_long_right}
+use Rattle.cha_board.specs.Squares.{squares, rank_of, last_rank, ahead_of, files_apart, is_rank_ahead, aims_at}
+use Rattle.cha_board.specs.Board.{Board, man_at, is_empty, is_clear, attacked, in_check, home_of, short_home_of, long_home_of, has_short_right, has_long_right}
 use Rattle.cha_moves.specs.Step.{Move}
 
--- the rank on which c's pawns begin, the rank that a double step reaches, and the rank on which they are promoted
+-- the rank on which c's pawns begin, and the rank that a double step reaches
 abbrev pub second_rank : Color → ℕ
 second_rank White = 1
 second_rank Black = 6
@@ -20,10 +20,6 @@ second_rank Black = 6
 abbrev pub fourth_rank : Color → ℕ
 fourth_rank White = 3
 fourth_rank Black = 4
-
-abbrev pub last_rank : Color → ℕ
-last_rank White = 7
-last_rank Black = 0
 
 -- the square that a double step passes over
 abbrev pub middle : ℕ → ℕ → ℕ
@@ -117,10 +113,9 @@ arriving man None = man
 arriving None (Some k) = None
 arriving (Some man) (Some k) = Some (record { color = man.color; kind = k })
 
--- the square of the pawn that a capture en passant onto t by c removes
+-- the square of the pawn that a capture en passant onto t by c removes: the one ahead of t, as that pawn's side sees it
 abbrev pub victim_of : Color → ℕ → ℕ
-victim_of White t = t - 8
-victim_of Black t = t + 8
+victim_of c t = ahead_of (other_color c) t
 
 -- the men once the man on s has gone to t, where it shows as man
 abbrev pub moved : List (Option Man) → ℕ → ℕ → Option Man → List (Option Man)
@@ -147,8 +142,8 @@ men_after q m =
     let men = moved q.men m.from m.to (arriving man m.promotion) in
     let h = home_of q.side in
     if captures_en_passant q man m.from m.to then slice_set men (victim_of q.side m.to) None
-    else (if castles_short q man m.from m.to then moved men (h + 3) (h + 1) (rook_of q.side)
-    else (if castles_long q man m.from m.to then moved men (h - 4) (h - 1) (rook_of q.side)
+    else (if castles_short q man m.from m.to then moved men (short_home_of q.side) (h + 1) (rook_of q.side)
+    else (if castles_long q man m.from m.to then moved men (long_home_of q.side) (h - 1) (rook_of q.side)
     else men))
 
 -- a move leaves or enters a square
@@ -158,10 +153,10 @@ touches m s = (m.from == s) || (m.to == s)
 -- a right stays until its king moves, or a move leaves or enters its rook's home (Article 3.8.2.1)
 unfoldable pub rights_after : Rights → Move → Rights
 rights_after r m = record {
-  white_king = r.white_king && not (touches m 4) && not (touches m 7);
-  white_queen = r.white_queen && not (touches m 4) && not (touches m 0);
-  black_king = r.black_king && not (touches m 60) && not (touches m 63);
-  black_queen = r.black_queen && not (touches m 60) && not (touches m 56);
+  white_king = r.white_king && not (touches m (home_of White)) && not (touches m (short_home_of White));
+  white_queen = r.white_queen && not (touches m (home_of White)) && not (touches m (long_home_of White));
+  black_king = r.black_king && not (touches m (home_of Black)) && not (touches m (short_home_of Black));
+  black_queen = r.black_queen && not (touches m (home_of Black)) && not (touches m (long_home_of Black));
 }
 
 -- a double step sets the target to the square passed over, and every other move clears it

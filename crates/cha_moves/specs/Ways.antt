@@ -1,19 +1,13 @@
 -- Where a man may go as far as its way is concerned, and what it may become there.
-use Rattle.std.specs.Prelude.{ℕ, ◌+◌, ◌-◌, ◌==◌, Bool, ◌&&◌, List, filter}
+use Rattle.std.specs.Prelude.{ℕ, ◌==◌, Bool, ◌&&◌, List, filter}
 use Rattle.cha_board.specs.declared.men.Color.{Color}
-use Rattle.cha_board.specs.declared.men.Color.TheVariants.{White, Black}
 use Rattle.cha_board.specs.declared.men.Kind.{Kind}
 use Rattle.cha_board.specs.declared.men.Kind.TheVariants.{Pawn}
 use Rattle.cha_board.specs.Men.{same_kind}
-use Rattle.cha_board.specs.Squares.{rank_of}
+use Rattle.cha_board.specs.Squares.{rank_of, last_rank}
 use Rattle.cha_board.specs.Board.{Board, man_at}
 use Rattle.cha_moves.specs.Step.{Move}
-use Rattle.cha_moves.specs.Moves.{last_rank, goes_as, may_enter, is_legal_in, moves_between}
-
--- the square one rank ahead of s, as c sees it
-abbrev pub ahead_of : Color → ℕ → ℕ
-ahead_of White s = s + 8
-ahead_of Black s = s - 8
+use Rattle.cha_moves.specs.Moves.{goes_as, may_enter, is_legal_in, moves_between}
 
 -- what stands on s is of the side to move and may go to t, whatever it becomes there (Laws of Chess, Articles 3.1 to 3.8)
 unfoldable pub is_way : Board → ℕ → ℕ → Bool

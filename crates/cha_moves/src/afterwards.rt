@@ -9,7 +9,7 @@ use crate::goes::goes_en_passant;
 use crate::makes::{men_made, rights_made, target_made};
 use crate::passing::{captured_on, passed_over};
 use crate::step::Move;
-use cha_board::{Kind, Man, Position, Square, files_between, home};
+use cha_board::{Kind, Man, Position, Square, files_between, home, long_home, short_home};
 
 /// The position after a legal move.
 pub fn after(position: &Position, m: Move) -> Position
@@ -113,11 +113,12 @@ fn after_king(position: &Position, m: Move) -> Position
     if files_between(m.from, m.to) <= 1 {
         return after_one(position, m, Kind::King, None);
     }
-    let h = home(position.side());
+    let side = position.side();
+    let h = home(side);
     if m.from.index() < m.to.index() {
-        after_castling(position, m, Square::at(h + 3), Square::at(h + 1))
+        after_castling(position, m, short_home(side), Square::at(h + 1))
     } else {
-        after_castling(position, m, Square::at(h - 4), Square::at(h - 1))
+        after_castling(position, m, long_home(side), Square::at(h - 1))
     }
 }
 

@@ -1,15 +1,18 @@
 //! What a move changes: the men, the rights to castle, and the square that a pawn has passed over.
 
-ghost use Rattle.std.specs.Prelude.{◌≡◌, ◌<◌, not, ◌&&◌};
+ghost use Rattle.std.specs.Prelude.{◌≡◌, not, ◌&&◌};
 ghost use Rattle.cha_board.specs.Men.{is_man};
-ghost use Rattle.cha_board.specs.Board.{man_at};
+ghost use Rattle.cha_board.specs.Board.{man_at, home_of};
 ghost use Rattle.cha_board.specs.SquareSets.{set_of, has_square};
 ghost use Rattle.cha_moves.specs.Moves.{arriving, moved, touches, men_after, rights_after, target_after};
 
 use crate::goes::{castles_long, castles_short, double_steps, goes_en_passant};
 use crate::passing::{captured_on, passed_over};
 use crate::step::Move;
-use cha_board::{Color, Kind, Man, Men, Position, Rights, Square, SquareSet, home, is_man_of};
+use cha_board::{
+    Color, Kind, Man, Men, Position, Rights, Square, SquareSet, home, homes, is_man_of, long_home,
+    short_home,
+};
 
 /// What arrives where this man goes and becomes that.
 fn arrives(man: Option<Man>, promotion: Option<Kind>) -> Option<Man>
@@ -59,11 +62,11 @@ pub fn men_made(position: &Position, m: Move) -> Men
     });
     if is_man_of(man, side, Kind::King) && castles_short(position, m.from, m.to) {
         let king_gone = shift(men, m.from, m.to, arrived);
-        return shift(&king_gone, Square::at(h + 3), Square::at(h + 1), rook);
+        return shift(&king_gone, short_home(side), Square::at(h + 1), rook);
     }
     if is_man_of(man, side, Kind::King) && castles_long(position, m.from, m.to) {
         let king_gone = shift(men, m.from, m.to, arrived);
-        return shift(&king_gone, Square::at(h - 4), Square::at(h - 1), rook);
+        return shift(&king_gone, long_home(side), Square::at(h - 1), rook);
     }
     shift(men, m.from, m.to, arrived)
 }
@@ -76,23 +79,19 @@ fn touched(m: Move) -> SquareSet
     SquareSet::single(m.from).with(m.to)
 }
 
-/// Whether neither of two squares is in a set.
-fn lacks(touched: SquareSet, king: u8, rook: u8) -> bool
-    requires king { king < 64 }
-    requires rook { rook < 64 }
-    ensures { result ≡ (not (has_square touched king) && not (has_square touched rook)) }
+/// Whether neither the home of a side's king nor that of its rook is in a set.
+fn lacks(touched: SquareSet, side: Color, rook: Square) -> bool
+    ensures { result ≡ (not (has_square touched (home_of side)) && not (has_square touched rook)) }
 {
-    !touched.has(Square::at(king)) && !touched.has(Square::at(rook))
+    !touched.has(Square::at(home(side))) && !touched.has(rook)
 }
 
 /// The rights to castle after a move.
 pub fn rights_made(rights: Rights, m: Move) -> Rights
     ensures { result ≡ rights_after rights m }
 {
-    // The homes a1, e1, h1, a8, e8 and h8.
-    let homes = SquareSet::from_bits(0x9100_0000_0000_0091);
     let touched = touched(m);
-    if touched.common(homes).is_empty() {
+    if touched.common(homes()).is_empty() {
         rights
     } else {
         rights_left(rights, touched)
@@ -106,10 +105,10 @@ fn rights_left(rights: Rights, touched: SquareSet) -> Rights
     ensures { (m : Move) → touched ≡ set_of (touches m) → result ≡ rights_after rights m }
 {
     Rights {
-        white_king: rights.white_king & lacks(touched, 4, 7),
-        white_queen: rights.white_queen & lacks(touched, 4, 0),
-        black_king: rights.black_king & lacks(touched, 60, 63),
-        black_queen: rights.black_queen & lacks(touched, 60, 56),
+        white_king: rights.white_king & lacks(touched, Color::White, short_home(Color::White)),
+        white_queen: rights.white_queen & lacks(touched, Color::White, long_home(Color::White)),
+        black_king: rights.black_king & lacks(touched, Color::Black, short_home(Color::Black)),
+        black_queen: rights.black_queen & lacks(touched, Color::Black, long_home(Color::Black)),
     }
 }
 

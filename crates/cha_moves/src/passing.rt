@@ -3,8 +3,8 @@
 
 ghost use Rattle.std.specs.Prelude.{◌≡◌, ◌≢◌};
 ghost use Rattle.cha_board.specs.Men.{other_color};
-ghost use Rattle.cha_board.specs.Squares.{rank_of};
-ghost use Rattle.cha_moves.specs.Moves.{last_rank, victim_of, middle};
+ghost use Rattle.cha_board.specs.Squares.{rank_of, last_rank};
+ghost use Rattle.cha_moves.specs.Moves.{victim_of, middle};
 
 use cha_board::{Color, Square};
 
@@ -15,16 +15,11 @@ pub fn passed_over(from: Square, to: Square) -> Square
     Square::at((from.index() + to.index()) / 2)
 }
 
-/// The square of the pawn that a side captures en passant onto a square: the one behind it. No pawn of the side goes to
-/// its own first rank.
+/// The square of the pawn that a side captures en passant onto a square: the one ahead of it, as the other side sees
+/// it. No pawn of the side goes to its own first rank.
 pub fn captured_on(side: Color, onto: Square) -> Square
     requires { rank_of onto ≢ last_rank (other_color side) }
     ensures { result ≡ victim_of side onto }
 {
-    // The rank bounds the number of the square.
-    let _rank = onto.rank();
-    match side {
-        Color::White => Square::at(onto.index() - 8),
-        Color::Black => Square::at(onto.index() + 8),
-    }
+    onto.ahead(side.other())
 }

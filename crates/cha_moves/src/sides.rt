@@ -1,7 +1,8 @@
 //! The ranks of a side's pawns (Laws of Chess, Article 3.7).
 
 ghost use Rattle.std.specs.Prelude.{◌≡◌};
-ghost use Rattle.cha_moves.specs.Moves.{second_rank, fourth_rank, last_rank};
+ghost use Rattle.cha_board.specs.Squares.{last_rank};
+ghost use Rattle.cha_moves.specs.Moves.{second_rank, fourth_rank};
 
 use cha_board::Color;
 

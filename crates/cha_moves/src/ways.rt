@@ -1,17 +1,16 @@
 //! Where men may go, as sets of squares (Laws of Chess, Articles 3.1 to 3.8).
 
-ghost use Rattle.std.specs.Prelude.{◌≡◌, ◌≢◌, ◌==◌, not, ◌&&◌, ◌||◌, Some};
-ghost use Rattle.cha_board.specs.Squares.{rank_of};
+ghost use Rattle.std.specs.Prelude.{◌≡◌, ◌==◌, not, ◌&&◌, ◌||◌, Some};
 ghost use Rattle.cha_board.specs.Board.{man_at};
 ghost use Rattle.cha_board.specs.SquareSets.{set_of, has_square};
-ghost use Rattle.cha_moves.specs.Moves.{last_rank, is_step, is_double_step, is_pawn_capture, is_en_passant, goes, may_enter};
+ghost use Rattle.cha_moves.specs.Moves.{is_step, is_double_step, is_pawn_capture, is_en_passant, goes, may_enter};
 ghost use Rattle.cha_moves.specs.Moves.{is_pseudo_legal as is_pseudo_legal_in};
-ghost use Rattle.cha_moves.specs.Ways.{ahead_of, is_way};
+ghost use Rattle.cha_moves.specs.Ways.{is_way};
 
 use crate::goes::{castles_long, castles_short, promotes_well};
 use crate::sides::{first_pawn_rank, promotion_rank};
 use crate::step::Move;
-use cha_board::{Color, Kind, Man, Position, Square, SquareSet, aims, home};
+use cha_board::{Kind, Man, Position, Square, SquareSet, aims, home};
 
 /// The squares that the side to move may not enter: those of its own men and that of the other king.
 fn barred(position: &Position) -> SquareSet
@@ -30,18 +29,6 @@ fn with_where(set: SquareSet, at: Square, so: bool) -> SquareSet
     if so { set.with(at) } else { set }
 }
 
-/// The square ahead of a pawn, which is not on the last rank.
-fn ahead(side: Color, s: Square) -> Square
-    requires { rank_of s ≢ last_rank side }
-    ensures { result ≡ ahead_of side s }
-{
-    let _rank = s.rank();
-    match side {
-        Color::White => Square::at(s.index() + 8),
-        Color::Black => Square::at(s.index() - 8),
-    }
-}
-
 /// The squares to which a pawn of the side to move steps.
 fn pawn_steps(position: &Position, s: Square) -> SquareSet
     ensures { result ≡ set_of (λ t. is_step position.now s t || is_double_step position.now s t) }
@@ -51,7 +38,7 @@ fn pawn_steps(position: &Position, s: Square) -> SquareSet
         return SquareSet::empty();
     }
     let occupied = position.occupied();
-    let one = ahead(side, s);
+    let one = s.ahead(side);
     if occupied.has(one) {
         return SquareSet::empty();
     }
@@ -59,7 +46,7 @@ fn pawn_steps(position: &Position, s: Square) -> SquareSet
     if s.rank() != first_pawn_rank(side) {
         return steps;
     }
-    let two = ahead(side, one);
+    let two = one.ahead(side);
     if occupied.has(two) {
         return steps;
     }

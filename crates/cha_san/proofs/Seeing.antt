@@ -4,10 +4,10 @@ use Rattle.std.specs.List.{Contains, filter, flat_map}
 use Rattle.std.proofs.lemmas.Bool.{and_from, and_left, and_right, both_ways, false_from_ne_true}
 use Rattle.std.proofs.lemmas.List.Elements.{filter-append}
 use Rattle.cha_board.specs.declared.men.Kind.TheVariants.{Queen, Rook, Bishop, Knight}
-use Rattle.cha_board.specs.Squares.{rank_of}
+use Rattle.cha_board.specs.Squares.{rank_of, last_rank}
 use Rattle.cha_board.specs.Board.{Board}
 use Rattle.cha_moves.specs.Step.{Move}
-use Rattle.cha_moves.specs.Moves.{last_rank, is_legal_in, moves_between, moves_from, legal}
+use Rattle.cha_moves.specs.Moves.{is_legal_in, moves_between, moves_from, legal}
 use Rattle.cha_moves.proofs.Listed.{is_listed, listed}
 use Rattle.cha_san.specs.declared.forms.Form.{Form}
 use Rattle.cha_san.specs.declared.found.Found.{Found}

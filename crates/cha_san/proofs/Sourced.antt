@@ -8,13 +8,13 @@ use Rattle.cha_board.specs.declared.men.Kind.{Kind}
 use Rattle.cha_board.specs.declared.men.Kind.TheVariants.{Pawn, Knight, Bishop, Rook, Queen, King}
 use Rattle.cha_board.specs.declared.men.Man.{Man}
 use Rattle.cha_board.specs.Men.{other_color, same_kind, is_man}
-use Rattle.cha_board.specs.Squares.{squares, file_of, rank_of, files_apart, ranks_apart, steps_apart, is_straight, is_rank_ahead, aims_at}
+use Rattle.cha_board.specs.Squares.{squares, file_of, rank_of, files_apart, ranks_apart, steps_apart, is_straight, is_rank_ahead, aims_at, last_rank}
 use Rattle.cha_board.specs.Board.{Board, man_at, is_empty, is_clear, in_check, home_of}
 use Rattle.cha_board.specs.SquareSets.{set_of, squares_in, set_minus, set_joined, set_common}
 use Rattle.cha_board.proofs.SetLaws.{same_set}
 use Rattle.cha_board.proofs.Tables.{aims_from_there}
 use Rattle.cha_moves.specs.Step.{Move}
-use Rattle.cha_moves.specs.Moves.{second_rank, fourth_rank, last_rank, middle, is_step, is_double_step, is_pawn_capture, is_en_passant, is_target, is_short_castling, is_long_castling, goes, promotes_well, is_pseudo_legal, men_after, is_legal_in, moves_between, moves_from, all_moves, legal}
+use Rattle.cha_moves.specs.Moves.{second_rank, fourth_rank, middle, is_step, is_double_step, is_pawn_capture, is_en_passant, is_target, is_short_castling, is_long_castling, goes, promotes_well, is_pseudo_legal, men_after, is_legal_in, moves_between, moves_from, all_moves, legal}
 use Rattle.cha_moves.proofs.Made.{Mover, may_gives}
 use Rattle.cha_moves.proofs.Kept.{short_tests, long_tests}
 use Rattle.cha_moves.proofs.WayLaws.{filter_in_set}

@@ -6,10 +6,9 @@ use Rattle.cha_board.specs.declared.men.Color.TheVariants.{White, Black}
 use Rattle.cha_board.specs.declared.men.Kind.{Kind}
 use Rattle.cha_board.specs.declared.men.Kind.TheVariants.{Pawn, King}
 use Rattle.cha_board.specs.Men.{other_color, same_kind}
-use Rattle.cha_board.specs.Squares.{squares, rank_of, files_apart, is_rank_ahead}
+use Rattle.cha_board.specs.Squares.{squares, rank_of, last_rank, files_apart, is_rank_ahead}
 use Rattle.cha_board.specs.SquareSets.{set_of, has_square, set_joined}
 use Rattle.cha_board.proofs.SetLaws.{has-set_of, same_set}
-use Rattle.cha_moves.specs.Moves.{last_rank}
 use Rattle.mob_law.specs.Reach.{steps_to}
 use Rattle.mob_check.specs.declared.ground.Ground.{Ground}
 use Rattle.mob_check.specs.SingleSteps.{is_stepped_to, spread_of, stays}

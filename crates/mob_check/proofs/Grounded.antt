@@ -8,11 +8,11 @@ use Rattle.cha_board.specs.declared.men.Kind.{Kind}
 use Rattle.cha_board.specs.declared.men.Kind.TheVariants.{Pawn, Knight, Bishop, Rook, Queen, King}
 use Rattle.cha_board.specs.declared.men.Man.{Man}
 use Rattle.cha_board.specs.Men.{other_color, same_color, same_kind, is_non_king}
-use Rattle.cha_board.specs.Squares.{squares, rank_of, files_apart, is_rank_ahead, aims_at, steps_apart}
+use Rattle.cha_board.specs.Squares.{squares, rank_of, last_rank, files_apart, is_rank_ahead, aims_at, steps_apart}
 use Rattle.cha_board.specs.SquareSets.{set_of, has_square}
 use Rattle.cha_board.specs.Shifts.{is_ahead}
 use Rattle.cha_board.specs.Board.{Board, man_at}
-use Rattle.cha_moves.specs.Moves.{last_rank, is_target, is_promotion, victim_of}
+use Rattle.cha_moves.specs.Moves.{is_target, is_promotion, victim_of}
 use Rattle.cha_board.proofs.Identity.{same_color_equal, same_kind_equal}
 use Rattle.mob_law.specs.Reach.{is_fixed, is_open, is_leaper, steps_to, is_guarded}
 use Rattle.mob_sets.specs.Mobility.{Sets, IsWithin}

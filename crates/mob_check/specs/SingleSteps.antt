@@ -5,9 +5,8 @@ use Rattle.cha_board.specs.declared.men.Color.{Color}
 use Rattle.cha_board.specs.declared.men.Kind.{Kind}
 use Rattle.cha_board.specs.declared.men.Kind.TheVariants.{Pawn}
 use Rattle.cha_board.specs.Men.{same_kind}
-use Rattle.cha_board.specs.Squares.{squares, rank_of}
+use Rattle.cha_board.specs.Squares.{squares, rank_of, last_rank}
 use Rattle.cha_board.specs.SquareSets.{set_of, has_square}
-use Rattle.cha_moves.specs.Moves.{last_rank}
 use Rattle.mob_law.specs.Reach.{steps_to}
 
 -- from some square of a set a k of c aims at t by one step or a jump

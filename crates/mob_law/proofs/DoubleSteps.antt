@@ -4,9 +4,9 @@ use Rattle.std.specs.List.{list_all}
 use Rattle.std.proofs.lemmas.Bool.{and_parts, and_from, eq-eqb, eqb-true, eqb-false, not-true}
 use Rattle.cha_board.specs.declared.men.Color.{Color}
 use Rattle.cha_board.specs.declared.men.Color.TheVariants.{White, Black}
-use Rattle.cha_board.specs.Squares.{squares, rank_of, files_apart, is_rank_ahead}
+use Rattle.cha_board.specs.Squares.{squares, rank_of, last_rank, files_apart, is_rank_ahead}
 use Rattle.cha_board.specs.Board.{Board}
-use Rattle.cha_moves.specs.Moves.{second_rank, fourth_rank, last_rank, middle}
+use Rattle.cha_moves.specs.Moves.{second_rank, fourth_rank, middle}
 use Rattle.mob_sets.specs.Mobility.{Sets}
 use Rattle.mob_law.specs.Closed.{PawnsStep, PawnsDoubleStep}
 use Rattle.mob_law.proofs.Geometry.{pair_at}

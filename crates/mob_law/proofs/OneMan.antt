@@ -6,10 +6,10 @@ use Rattle.cha_board.specs.declared.men.Kind.{Kind}
 use Rattle.cha_board.specs.declared.men.Kind.TheVariants.{Pawn}
 use Rattle.cha_board.specs.declared.men.Man.{Man}
 use Rattle.cha_board.specs.Men.{other_color, is_man}
-use Rattle.cha_board.specs.Squares.{rank_of}
+use Rattle.cha_board.specs.Squares.{rank_of, last_rank}
 use Rattle.cha_board.specs.Board.{Board, man_at, home_of}
 use Rattle.cha_moves.specs.Step.{Move}
-use Rattle.cha_moves.specs.Moves.{second_rank, last_rank, middle, is_target, is_double_step, arriving, victim_of, castles_short, castles_long, captures_en_passant, men_after, target_after, after}
+use Rattle.cha_moves.specs.Moves.{second_rank, middle, is_target, is_double_step, arriving, victim_of, castles_short, castles_long, captures_en_passant, men_after, target_after, after}
 use Rattle.cha_board.proofs.Identity.{other_other, none_some, man_of, is_man_from}
 use Rattle.cha_moves.proofs.Made.{Step, put, put_other, length-moved, moved_other, men_moved, makes, Plainly, Passing, Shortly, Longly}
 use Rattle.cha_moves.proofs.Kept.{arrived_is, victim_of_move}

@@ -7,10 +7,10 @@ use Rattle.cha_board.specs.declared.men.Kind.{Kind}
 use Rattle.cha_board.specs.declared.men.Kind.TheVariants.{Pawn, King}
 use Rattle.cha_board.specs.declared.men.Man.{Man}
 use Rattle.cha_board.specs.Men.{other_color, same_color, same_kind, is_man, is_non_king}
-use Rattle.cha_board.specs.Squares.{rank_of, files_apart, is_rank_ahead, aims_at}
+use Rattle.cha_board.specs.Squares.{rank_of, last_rank, files_apart, is_rank_ahead, aims_at}
 use Rattle.cha_board.specs.Board.{Board, man_at, is_empty}
 use Rattle.cha_moves.specs.Step.{Move}
-use Rattle.cha_moves.specs.Moves.{second_rank, fourth_rank, last_rank, middle, is_step, is_double_step, is_pawn_capture, is_target, is_en_passant, goes, promotes_well, arriving, victim_of}
+use Rattle.cha_moves.specs.Moves.{second_rank, fourth_rank, middle, is_step, is_double_step, is_pawn_capture, is_target, is_en_passant, goes, promotes_well, arriving, victim_of}
 use Rattle.cha_board.proofs.Identity.{same_color_self, same_color_equal, some_inj, man_of}
 use Rattle.cha_moves.proofs.Made.{Step}
 use Rattle.cha_moves.proofs.Kept.{Target, target_of, promoted}

@@ -6,9 +6,9 @@ use Rattle.cha_board.specs.declared.men.Kind.{Kind}
 use Rattle.cha_board.specs.declared.men.Kind.TheVariants.{Pawn, Knight, Bishop, Rook, Queen, King}
 use Rattle.cha_board.specs.declared.men.Man.{Man}
 use Rattle.cha_board.specs.Men.{same_color, same_kind, is_man}
-use Rattle.cha_board.specs.Squares.{rank_of, steps_apart, aims_at, between}
+use Rattle.cha_board.specs.Squares.{rank_of, last_rank, steps_apart, aims_at, between}
 use Rattle.cha_board.specs.Board.{Board, is_empty, is_clear}
-use Rattle.cha_moves.specs.Moves.{last_rank, goes, is_step, is_double_step, is_pawn_capture, is_en_passant, promotes_well, arriving}
+use Rattle.cha_moves.specs.Moves.{goes, is_step, is_double_step, is_pawn_capture, is_en_passant, promotes_well, arriving}
 use Rattle.mob_law.specs.Reach.{is_leaper, steps_to}
 use Rattle.mob_law.proofs.Geometry.{leap_clear}
 

@@ -5,9 +5,9 @@ use Rattle.cha_board.specs.declared.men.Kind.{Kind}
 use Rattle.cha_board.specs.declared.men.Kind.TheVariants.{Pawn, Rook, King}
 use Rattle.cha_board.specs.declared.men.Man.{Man}
 use Rattle.cha_board.specs.Men.{other_color, is_non_king}
-use Rattle.cha_board.specs.Squares.{rank_of, files_apart, is_rank_ahead, aims_at}
+use Rattle.cha_board.specs.Squares.{rank_of, last_rank, files_apart, is_rank_ahead, aims_at}
 use Rattle.cha_board.specs.Board.{Board, man_at, home_of, has_short_right, has_long_right}
-use Rattle.cha_moves.specs.Moves.{second_rank, fourth_rank, last_rank, middle, is_target, is_promotion, victim_of}
+use Rattle.cha_moves.specs.Moves.{second_rank, fourth_rank, middle, is_target, is_promotion, victim_of}
 use Rattle.mob_law.specs.Reach.{is_fixed, is_open, is_guarded}
 use Rattle.mob_sets.specs.Mobility.{Sets}
 

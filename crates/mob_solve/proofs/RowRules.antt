@@ -6,10 +6,10 @@ use Rattle.cha_board.specs.declared.men.Kind.{Kind}
 use Rattle.cha_board.specs.declared.men.Kind.TheVariants.{Pawn}
 use Rattle.cha_board.specs.declared.men.Man.{Man}
 use Rattle.cha_board.specs.Men.{same_kind}
-use Rattle.cha_board.specs.Squares.{rank_of}
+use Rattle.cha_board.specs.Squares.{rank_of, last_rank}
 use Rattle.cha_board.specs.SquareSets.{has_square}
 use Rattle.cha_board.proofs.Contents.{some_square}
-use Rattle.cha_moves.specs.Moves.{last_rank, is_promotion}
+use Rattle.cha_moves.specs.Moves.{is_promotion}
 use Rattle.mob_sets.specs.Mobility.{Sets}
 use Rattle.mob_check.specs.declared.ground.Ground.{Ground}
 use Rattle.mob_check.specs.SingleSteps.{stays}

@@ -10,12 +10,12 @@ use Rattle.cha_board.specs.declared.men.Kind.{Kind}
 use Rattle.cha_board.specs.declared.men.Kind.TheVariants.{Pawn, Knight, Bishop, Rook, Queen, King}
 use Rattle.cha_board.specs.declared.men.Man.{Man}
 use Rattle.cha_board.specs.Men.{same_color, same_kind, is_man}
-use Rattle.cha_board.specs.Squares.{file_of, rank_of, files_apart, aims_at}
+use Rattle.cha_board.specs.Squares.{file_of, rank_of, files_apart, aims_at, last_rank}
 use Rattle.cha_board.specs.Board.{Board, man_at, home_of}
 use Rattle.cha_board.specs.Letters.{kind_of}
 use Rattle.cha_board.proofs.Identity.{same_kind_equal, same_kind_self}
 use Rattle.cha_moves.specs.Step.{Move}
-use Rattle.cha_moves.specs.Moves.{last_rank, goes, promotes_well, is_short_castling, is_long_castling, is_promotion, legal}
+use Rattle.cha_moves.specs.Moves.{goes, promotes_well, is_short_castling, is_long_castling, is_promotion, legal}
 use Rattle.cha_moves.proofs.Contained.{not_in_nothing, Contains-cons_here, Contains-cons_there, Contains-filter_from, Contains-filter_parts}
 use Rattle.cha_moves.proofs.Made.{Mover}
 use Rattle.cha_moves.proofs.Kept.{promoted, short_tests, long_tests}

@@ -1,9 +1,8 @@
 use Rattle.std.proofs.Common.{◌≡◌, ◌==◌, refl, sym, ap, ◌∙◌}
 use Rattle.cha_board.specs.declared.men.Kind.TheVariants.{Pawn, King}
-use Rattle.cha_board.specs.Squares.{rank_of}
+use Rattle.cha_board.specs.Squares.{rank_of, last_rank}
 use Rattle.cha_board.specs.Board.{home_of}
 use Rattle.cha_board.specs.SquareSets.{set_of}
-use Rattle.cha_moves.specs.Moves.{last_rank}
 use Rattle.cha_moves.proofs.SpecialChecks.{special_last, special_target, special_castling, special_none, of_kind}
 use Rattle.cha_moves.proofs.checks.special_checks.Goals as goal
 

@@ -3,9 +3,9 @@ use Rattle.std.proofs.lemmas.Bool.{and_parts}
 use Rattle.cha_board.specs.declared.men.Color.{Color}
 use Rattle.cha_board.specs.declared.men.Kind.TheVariants.{Pawn}
 use Rattle.cha_board.specs.Men.{other_color}
-use Rattle.cha_board.specs.Squares.{rank_of, aims_at}
+use Rattle.cha_board.specs.Squares.{rank_of, last_rank, aims_at}
 use Rattle.cha_moves.specs.Step.{Move}
-use Rattle.cha_moves.specs.Moves.{last_rank, is_target, is_en_passant}
+use Rattle.cha_moves.specs.Moves.{is_target, is_en_passant}
 use Rattle.cha_moves.proofs.Captured.{captures_ahead}
 use Rattle.cha_moves.proofs.makes.men_made.Goals as goal
 

@@ -7,6 +7,6 @@ use Rattle.cha_moves.proofs.makes.rights_made.Goals as goal
 pub returns-then-is_empty : goal.returns-then-is_empty
 returns-then-is_empty c =
     rights_stay c.args.rights c.args.m
-    (ap (λ set. has_no_square (set_common (set_of (touches c.args.m)) set)) (sym c.from_bits-homes.ensures)
-    ∙ ap (λ set. has_no_square (set_common set c.from_bits-homes.result)) (sym c.touched-touched.ensures)
+    (ap (λ set. has_no_square (set_common (set_of (touches c.args.m)) set)) (sym c.homes.ensures)
+    ∙ ap (λ set. has_no_square (set_common set c.homes.result)) (sym c.touched-touched.ensures)
     ∙ ap has_no_square (sym c.common.ensures) ∙ sym c.is_empty.ensures ∙ c.if-is_empty.true)

@@ -1,5 +1,5 @@
 use Rattle.std.proofs.Common.{None, refl, sym, ap, ◌∙◌}
-use Rattle.cha_moves.specs.Moves.{last_rank}
+use Rattle.cha_board.specs.Squares.{last_rank}
 use Rattle.cha_moves.proofs.MateMoves.{Mates, not_by, none_between, where_none}
 use Rattle.cha_moves.proofs.mating.mating_between.Goals as goal
 

@@ -1,10 +1,9 @@
 use Rattle.std.proofs.Common.{◌≡◌, ◌<◌, ◌==◌, false, ◌||◌, not, sym, ap, ◌∙◌, arith}
 use Rattle.std.proofs.lemmas.Bool.{eq-eqb, ne_eqb, and_left, and_right}
-use Rattle.cha_board.specs.Squares.{rank_of}
+use Rattle.cha_board.specs.Squares.{rank_of, last_rank, ahead_of}
 use Rattle.cha_board.specs.Board.{is_empty}
 use Rattle.cha_board.specs.SquareSets.{set_of}
-use Rattle.cha_moves.specs.Moves.{last_rank, second_rank}
-use Rattle.cha_moves.specs.Ways.{ahead_of}
+use Rattle.cha_moves.specs.Moves.{second_rank}
 use Rattle.cha_moves.proofs.Goings.{stands_at, with_of}
 use Rattle.cha_moves.proofs.Pushes.{pushes_at_end, pushes_blocked, pushes_one, pushes_two, ahead_small, two_small}
 use Rattle.cha_moves.proofs.ways.pawn_steps.Goals as goal

@@ -1,8 +1,7 @@
 -- cha_san/proofs/resolving/with_moves/Answers.antt
 use Rattle.std.proofs.Common.{◌≡◌, ◌==◌, false, sym, ap, ◌∙◌}
 use Rattle.std.proofs.lemmas.Bool.{ne_eqb}
-use Rattle.cha_board.specs.Squares.{rank_of}
-use Rattle.cha_moves.specs.Moves.{last_rank}
+use Rattle.cha_board.specs.Squares.{rank_of, last_rank}
 use Rattle.cha_san.proofs.Seeing.{seen_plain, seen_all}
 use Rattle.cha_san.proofs.resolving.with_moves.Goals as goal
 

@@ -16,7 +16,7 @@ use Rattle.cha_board.specs.declared.men.Kind.TheVariants.{Pawn, Knight, Bishop, 
 use Rattle.cha_board.specs.Board.{Board, IsValid}
 use Rattle.cha_board.specs.SquareSets.{has_square, set_of_bits, bits_of_set}
 use Rattle.cha_board.proofs.SetLaws.{one_if, length-set_of, has-set_of, same_squares, bit_at-bits_of_set}
-use Rattle.cha_board.specs.Letters.{kind_of, square_of}
+use Rattle.cha_board.specs.Letters.{kind_of, square_text, square_of}
 use Rattle.cha_fen.specs.Fen.{fen}
 use Rattle.cha_board.specs.Letters.{kind_letter}
 use Rattle.cha_fen.proofs.WrittenRead.{written_is_read}
@@ -157,7 +157,7 @@ square_again s small =
     rw (tests, back) refl
 
 pub row_again : (rows : List Row) (row : Row) → follows rows row ≡ true → row.origin < 64 → length row.squares ≡ 64 → row_of rows (row_line row) ≡ Some row
-unfolding row_of row_line
+unfolding row_of row_line square_text
 row_again rows row behind small width =
     let size : length (row_line row) ≡ 27 = (let h = hex_size 16 (bits_of_set row.squares) in omega (arith, h)) in
     let fits : (length (row_line row) == 27) ≡ true = eq-eqb (length (row_line row)) 27 size in

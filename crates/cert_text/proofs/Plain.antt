@@ -129,7 +129,7 @@ plain_append [] b p q = q
 plain_append (line ∷ lines) b p q = (p.0, plain_append lines b p.1 q)
 
 row_line_plain : (row : Row) → list_all plain (row_line row) ≡ true
-unfolding row_line
+unfolding row_line square_text
 row_line_plain row =
     let hex = set_text row.squares in
     let after_kind = one_plain 32 hex (omega arith) (hex_plain 16 (bits_of_set row.squares)) in

@@ -1,12 +1,11 @@
 -- The text of a certificate, version 1 (this project).
-use Rattle.std.specs.Prelude.{⊤, ℕ, ◌+◌, Bool, List, [], ◌∷◌, ◌++◌, map, length, codes, decimal}
+use Rattle.std.specs.Prelude.{⊤, ℕ, Bool, List, [], ◌∷◌, ◌++◌, map, length, codes, decimal}
 use Rattle.std.specs.List.{All, flat_map}
 use Rattle.cha_board.specs.declared.men.Color.{Color}
 use Rattle.cha_board.specs.declared.men.Color.TheVariants.{White, Black}
-use Rattle.cha_board.specs.Squares.{file_of, rank_of}
 use Rattle.cha_board.specs.Board.{Board}
 use Rattle.cha_board.specs.SquareSets.{bits_of_set}
-use Rattle.cha_board.specs.Letters.{kind_letter}
+use Rattle.cha_board.specs.Letters.{kind_letter, square_text}
 use Rattle.cha_fen.specs.Written.{fen_text}
 use Rattle.mob_sets.specs.Rows.{Row}
 use Rattle.cha_cert.specs.declared.nodes.Node.{Node}
@@ -34,7 +33,7 @@ loose_line set = codes "loose " ++ set_text set
 -- reach e1 K ffffffffffffffff
 unfoldable pub row_line : Row → List ℕ
 row_line row =
-    codes "reach " ++ ((file_of row.origin + 97) ∷ (rank_of row.origin + 49) ∷ 32 ∷ kind_letter row.kind ∷ 32 ∷ set_text row.squares)
+    codes "reach " ++ square_text row.origin ++ (32 ∷ kind_letter row.kind ∷ 32 ∷ set_text row.squares)
 
 -- inner 8/1k6/8/8/8/8/8/4K3 w - -
 unfoldable pub inner_line : Board → List ℕ

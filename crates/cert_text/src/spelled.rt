@@ -8,7 +8,7 @@ ghost use Rattle.cert_text.specs.Texts.{cert_of};
 ghost use Rattle.cert_text.specs.Writable.{IsWritable};
 
 use crate::digits::put_hex;
-use cha_board::{Color, Position, SquareSet};
+use cha_board::{Color, Position, SquareSet, put_square};
 use cha_cert::{Cert, Node, Part};
 use cha_list::{NoMemory, Text};
 use mob_sets::{SetRow, Sets};
@@ -41,8 +41,7 @@ pub fn put_row(row: SetRow, text: &mut Text) -> Result<(), NoMemory>
     // The number of a square tells that it is below 64.
     let _number = row.origin.index();
     text.append(b"reach ")?;
-    text.push(row.origin.file_letter())?;
-    text.push(row.origin.rank_digit())?;
+    put_square(row.origin, text)?;
     text.push(b' ')?;
     text.push(row.kind.letter())?;
     text.push(b' ')?;

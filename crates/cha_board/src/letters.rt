@@ -1,11 +1,12 @@
 //! Letters of men, and texts of squares (PGN standard, 8.2.3 and 16.1.3).
 
-ghost use Rattle.std.specs.Prelude.{◌≡◌, ◌+◌};
+ghost use Rattle.std.specs.Prelude.{◌≡◌, ◌+◌, ◌++◌, OnOk};
 ghost use Rattle.cha_board.specs.Squares.{file_of, rank_of};
-ghost use Rattle.cha_board.specs.Letters.{kind_letter, kind_of, letter_of, man_of, square_of};
+ghost use Rattle.cha_board.specs.Letters.{kind_letter, kind_of, letter_of, man_of, square_text, square_of};
 
 use crate::men::{Color, Kind, Man};
 use crate::squares::Square;
+use cha_list::{NoMemory, Text};
 
 impl Kind {
     /// The capital letter of a kind: P, N, B, R, Q or K (PGN standard, 8.2.3.2; a pawn's: 16.1.3.1).
@@ -91,4 +92,14 @@ impl Square {
             None
         }
     }
+}
+
+/// Appends the text of a square: the letter of its file and the digit of its rank, as `e4` (PGN standard, 8.2.3.1).
+#[tactic(auto, unfolding(crate::specs::Letters::square_text))]
+pub fn put_square(at: Square, text: &mut Text) -> Result<(), NoMemory>
+    ensures { OnOk result (text.new ≡ text.old ++ square_text at) }
+{
+    text.push(at.file_letter())?;
+    text.push(at.rank_digit())?;
+    Ok(())
 }

@@ -33,6 +33,7 @@ pub use aim::{
 pub use build::BuildFault;
 pub use castling::{home, homes, long_home, long_right, short_home, short_right};
 pub use kept::Kept;
+pub use letters::put_square;
 pub use men::{Color, Kind, Man, is_man_of, is_of_kind, is_of_side};
 pub use opening::OPENING_MEN;
 pub use over::{aims, aims_alone, squares_between};

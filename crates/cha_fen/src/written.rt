@@ -5,7 +5,7 @@ ghost use Rattle.cha_board.specs.Board.{Board, IsValid};
 ghost use Rattle.cha_fen.specs.Fen.{fen};
 ghost use Rattle.cha_fen.specs.Written.{run_text, row_text_after, ranks_text, side_text, letter_if, rights_text, target_text, fen_text};
 
-use cha_board::{Color, Man, Position, Rights, Square};
+use cha_board::{Color, Man, Position, Rights, Square, put_square};
 use cha_list::{NoMemory, Text};
 use std::alloc::Global;
 
@@ -92,16 +92,13 @@ fn put_rights(rights: Rights, text: &mut Text) -> Result<(), NoMemory>
 }
 
 /// Writes the target.
-#[tactic(auto, unfolding(crate::specs::Written::target_text, cha_board::specs::Letters::square_text))]
+#[tactic(auto, unfolding(crate::specs::Written::target_text))]
 fn put_target(target: Option<Square>, text: &mut Text) -> Result<(), NoMemory>
     ensures { OnOk result (text.new ≡ text.old ++ target_text target) }
 {
     match target {
         None => text.push(b'-')?,
-        Some(at) => {
-            text.push(at.file_letter())?;
-            text.push(at.rank_digit())?;
-        }
+        Some(at) => put_square(at, text)?,
     }
     Ok(())
 }

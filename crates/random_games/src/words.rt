@@ -1,10 +1,9 @@
 //! A move as a word that tells both of its squares (PGN standard, 8.2.3).
 
 ghost use Rattle.std.specs.Prelude.{◌≡◌, ◌++◌, OnOk};
-ghost use Rattle.cha_board.specs.Letters.{square_text};
 ghost use Rattle.random_games.specs.Words.{man_text, promotion_text, castling_text, plain_text, move_word};
 
-use cha_board::{Kind, Man, Position, Square};
+use cha_board::{Kind, Man, Position, Square, put_square};
 use cha_list::{NoMemory, Text};
 use cha_moves::Move;
 use cha_san::castles;
@@ -23,16 +22,6 @@ fn put_man(found: Option<Man>, text: &mut Text) -> Result<(), NoMemory>
             }
         },
     }
-}
-
-/// Appends the letter of a square's file and the digit of its rank.
-#[tactic(auto, unfolding(cha_board::specs::Letters::square_text))]
-fn put_square(at: Square, text: &mut Text) -> Result<(), NoMemory>
-    ensures { OnOk result (text.new ≡ text.old ++ square_text at) }
-{
-    text.push(at.file_letter())?;
-    text.push(at.rank_digit())?;
-    Ok(())
 }
 
 /// Appends what a pawn becomes, behind an equals sign.

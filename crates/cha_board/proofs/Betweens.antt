@@ -9,7 +9,7 @@ use Rattle.cha_board.specs.SquareSets.{set_of, has_square, set_of_bits, bits_of_
 use Rattle.cha_board.proofs.SetLaws.{has-set_of, set_of_bits-bits_of_set}
 use Rattle.cha_board.specs.Aims.{is_open}
 use Rattle.cha_board.specs.Rays.{rays_between}
-use Rattle.cha_board.proofs.Scans.{all_squares_at, any_alike}
+use Rattle.cha_board.proofs.Scans.{pair_at, any_alike}
 
 -- the number whose bits are the squares between two squares
 unfoldable pub between_bits : ℕ → ℕ → ℕ
@@ -101,4 +101,4 @@ rays_table = refl
 pub rays_shown : (s t : ℕ) → s < 64 → t < 64 → set_of_bits (rays_between s t) ≡ set_of (lies_between s t)
 unfolding rays_test
 rays_shown s t small small' =
-    ap set_of_bits (eqb-true _ _ (all_squares_at (rays_test s) t (all_squares_at (λ s. list_all (rays_test s) squares) s rays_table small) small')) ∙ between_shown s t
+    ap set_of_bits (eqb-true _ _ (pair_at rays_test rays_table s t small small')) ∙ between_shown s t

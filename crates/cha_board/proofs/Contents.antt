@@ -6,6 +6,7 @@ use Rattle.std.proofs.lemmas.List.{get_or_past}
 use Rattle.std.proofs.lemmas.List.Folds.{Any-from_list_any}
 use Rattle.cha_board.specs.Squares.{squares}
 use Rattle.cha_board.specs.SquareSets.{set_of, empty_set, has_square, set_with, set_joined, is_subset}
+use Rattle.cha_board.proofs.Identity.{if_at, if_from}
 use Rattle.cha_board.proofs.SetLaws.{length-set_of, has-set_of, same_squares}
 use Rattle.cha_board.proofs.Scans.{length_squares, square_at, any_square_at, all_squares_at, each_square}
 
@@ -63,10 +64,6 @@ pub single_has : (at : ℕ) → at < 64 → has_square (set_with empty_set at) a
 unfolding set_with
 single_has at small = has-set_of (λ s. (s == at) || has_square empty_set s) at small ∙ or_left (at == at) (has_square empty_set at) (eq-eqb at at refl)
 
-implied : (a b : Bool) → (not a || b) ≡ true → a ≡ true → b ≡ true
-implied true b h e = h
-implied false b h e = cc
-
 implied_from : (a b : Bool) → (a && not b) ≡ false → (not a || b) ≡ true
 implied_from true true h = refl
 implied_from true false h = cc
@@ -74,15 +71,11 @@ implied_from false b h = refl
 
 pub subset_at : (a b : List Bool) → is_subset a b ≡ true → (u : ℕ) → u < 64 → has_square a u ≡ true → has_square b u ≡ true
 unfolding is_subset
-subset_at a b h u small = implied (has_square a u) (has_square b u) (all_squares_at (λ s. not (has_square a s) || has_square b s) u h small)
+subset_at a b h u small = if_at (has_square a u) (has_square b u) (all_squares_at (λ s. not (has_square a s) || has_square b s) u h small)
 
 pub subset_from : (a b : List Bool) → ((u : ℕ) → u < 64 → has_square a u ≡ true → has_square b u ≡ true) → is_subset a b ≡ true
 unfolding is_subset
-subset_from a b each = each_square (λ s. not (has_square a s) || has_square b s) (λ s small. from_implied (has_square a s) (has_square b s) (each s small))
-  where
-    from_implied : (x y : Bool) → (x ≡ true → y ≡ true) → (not x || y) ≡ true
-    from_implied true y h = h refl
-    from_implied false y h = refl
+subset_from a b each = each_square (λ s. not (has_square a s) || has_square b s) (λ s small. if_from (has_square a s) (has_square b s) (each s small))
 
 -- a list of 64 truth values is the set of its squares
 pub set_is : (a : List Bool) → length a ≡ 64 → a ≡ set_of (has_square a)

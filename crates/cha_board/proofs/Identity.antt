@@ -99,7 +99,7 @@ empty_is_none (Some man) h = cc
 pub none_some : (o : Option Man) (man : Man) → o ≡ None → o ≡ Some man → ⊥
 none_some o man e f = cc
 
-pub some_inj : (a b : Man) → Some a ≡ Some b → a ≡ b
+pub some_inj : {A : Type 0} (a b : A) → Some a ≡ Some b → a ≡ b
 some_inj a b e = cc
 
 -- a man stands on the board

@@ -7,7 +7,7 @@ use Rattle.cha_board.specs.Squares.{squares, file_of, rank_of, files_apart, rank
 use Rattle.cha_board.specs.SquareSets.{set_of, has_square, set_of_bits, set_joined}
 use Rattle.cha_board.specs.Shifts.{is_above, is_below, is_right_of, is_left_of, is_king_step}
 use Rattle.cha_board.proofs.SetLaws.{length-set_of, has-set_of, same_squares}
-use Rattle.cha_board.proofs.Scans.{any_square_at, no_square, all_squares_at}
+use Rattle.cha_board.proofs.Scans.{any_square_at, no_square, pair_at}
 use Rattle.cha_board.proofs.Contents.{some_square, same_test}
 
 -- a square of the board is in the set where a square of the first set leads to it
@@ -167,7 +167,7 @@ pairs f g = list_all (λ u. list_all (λ t. agree (f u t) (g u t)) squares) squa
 pub from_pairs : (f g : ℕ → ℕ → Bool) → pairs f g ≡ true → (u t : ℕ) → u < 64 → t < 64 → f u t ≡ g u t
 unfolding pairs
 from_pairs f g table u t small small' =
-    agreed (f u t) (g u t) (all_squares_at (λ t. agree (f u t) (g u t)) t (all_squares_at (λ u. list_all (λ t. agree (f u t) (g u t)) squares) u table small) small')
+    agreed (f u t) (g u t) (pair_at (λ u t. agree (f u t) (g u t)) table u t small small')
 
 abbrev pub sides : ℕ → ℕ → Bool
 sides = either (right here) (left here)

@@ -35,6 +35,10 @@ all_squares_at p s h small =
     let n = length_squares in
     rw (square_at s 0 small) at (AllPass-from_list_all p squares h s 0 (omega arith))
 
+-- a test that holds of all pairs of squares
+pub pair_at : (f : ℕ → ℕ → Bool) → list_all (λ s. list_all (f s) squares) squares ≡ true → (s t : ℕ) → s < 64 → t < 64 → f s t ≡ true
+pair_at f table s t small small' = all_squares_at (f s) t (all_squares_at (λ s. list_all (f s) squares) s table small) small'
+
 -- where each square passes, all do
 pub each_square : (p : ℕ → Bool) → ((s : ℕ) → s < 64 → p s ≡ true) → list_all p squares ≡ true
 each_square p passes =

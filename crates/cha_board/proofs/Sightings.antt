@@ -11,7 +11,7 @@ use Rattle.cha_board.specs.declared.men.Man.{Man}
 use Rattle.cha_board.specs.Squares.{squares, files_apart, ranks_apart, steps_apart, is_straight, is_diagonal, is_line, is_within, lies_between, between}
 use Rattle.cha_board.specs.Men.{is_vacant}
 use Rattle.cha_board.specs.Board.{man_at, is_empty, is_clear, attacks_as, attacked}
-use Rattle.cha_board.proofs.Scans.{all_squares_at, any_square_at, no_square}
+use Rattle.cha_board.proofs.Scans.{pair_at, any_square_at, no_square}
 
 -- the k-th square of the walk from the lower of two squares of a line to the higher one
 abbrev pub step_on : ℕ → ℕ → ℕ → ℕ
@@ -47,7 +47,7 @@ way_table = refl
 pub between_is_way : (s t : ℕ) → s < 64 → t < 64 → between s t ≡ way s t
 unfolding way_test
 between_is_way s t small small' =
-    from_same_list (between s t) (way s t) (all_squares_at (way_test s) t (all_squares_at (λ s. list_all (way_test s) squares) s way_table small) small')
+    from_same_list (between s t) (way s t) (pair_at way_test way_table s t small small')
 
 -- the first step of the walk that is not empty hides what is beyond it
 pub hidden_by : (men : List (Option Man)) (s t k : ℕ) → s < 64 → t < 64 → is_line s t ≡ true → 1 ≤ k → k < steps_apart s t → is_empty men (step_on s t k) ≡ false

@@ -13,7 +13,7 @@ use Rattle.cha_board.specs.Squares.{squares, files_apart, ranks_apart, steps_apa
 use Rattle.cha_board.specs.SquareSets.{set_of, has_square, set_of_bits, bits_of_set, set_joined}
 use Rattle.cha_board.proofs.SetLaws.{set_of_bits-bits_of_set, same_set, has-set_of}
 use Rattle.cha_board.specs.Men.{other_color}
-use Rattle.cha_board.proofs.Scans.{all_squares_at}
+use Rattle.cha_board.proofs.Scans.{all_squares_at, pair_at}
 use Rattle.cha_board.proofs.SetBits.{shown_at}
 use Rattle.cha_board.proofs.Betweens.{between_bits}
 
@@ -148,12 +148,12 @@ or_first false b h e = cc
 pub before_on_ray : (ray : List ℕ) → GoesUp ray → (s t : ℕ) → s < 64 → t < 64 → (bit_at (slice_index ray s) t == 1) ≡ true → between_bits s t ≡ bit_and (slice_index ray s) (2 ^ t - 1)
 unfolding up_test
 before_on_ray ray right s t small small' on =
-    eqb-true _ _ (or_first _ _ (all_squares_at (up_test ray s) t (all_squares_at (λ s. list_all (up_test ray s) squares) s right small) small') on)
+    eqb-true _ _ (or_first _ _ (pair_at (up_test ray) right s t small small') on)
 
 pub behind_on_ray : (ray : List ℕ) → GoesDown ray → (s t : ℕ) → s < 64 → t < 64 → (bit_at (slice_index ray s) t == 1) ≡ true → between_bits s t ≡ bit_and (slice_index ray s) (2 ^ 64 - 2 ^ (t + 1))
 unfolding down_test
 behind_on_ray ray right s t small small' on =
-    eqb-true _ _ (or_first _ _ (all_squares_at (down_test ray s) t (all_squares_at (λ s. list_all (down_test ray s) squares) s right small) small') on)
+    eqb-true _ _ (or_first _ _ (pair_at (down_test ray) right s t small small') on)
 
 pub queen_shown : (c : Color) (s : ℕ) → set_joined (set_of (aims_at c Rook s)) (set_of (aims_at c Bishop s)) ≡ set_of (aims_at c Queen s)
 unfolding set_joined aims_at is_line
@@ -171,7 +171,7 @@ leaps c k = list_all (λ s. list_all (λ t. leap_test c k s t) squares) squares
 leap_of : (c : Color) (k : Kind) → leaps c k ≡ true → (s t : ℕ) → s < 64 → t < 64 → aims_at c k s t ≡ true → between_bits s t ≡ 0
 unfolding leaps leap_test
 leap_of c k right s t small small' on =
-    eqb-true _ _ (or_first _ _ (all_squares_at (leap_test c k s) t (all_squares_at (λ s. list_all (leap_test c k s) squares) s right small) small') on)
+    eqb-true _ _ (or_first _ _ (pair_at (leap_test c k) right s t small small') on)
 
 white_pawn_leaps : leaps White Pawn ≡ true
 unfolding leaps leap_test aims_at between_bits bits_of_set lies_between is_within is_straight is_diagonal is_rank_ahead files_apart ranks_apart squares
@@ -211,7 +211,7 @@ mirrored a b = list_all (λ s. list_all (λ t. mirror_test a b s t) squares) squ
 mirror_of : (a b : List ℕ) → mirrored a b ≡ true → (s t : ℕ) → s < 64 → t < 64 → has_square (set_of_bits (slice_index a s)) t ≡ has_square (set_of_bits (slice_index b t)) s
 unfolding mirrored mirror_test
 mirror_of a b right s t small small' =
-    shown_at (slice_index a s) t small' ∙ ap (λ x. x == 1) (eqb-true _ _ (all_squares_at (mirror_test a b s) t (all_squares_at (λ s. list_all (mirror_test a b s) squares) s right small) small'))
+    shown_at (slice_index a s) t small' ∙ ap (λ x. x == 1) (eqb-true _ _ (pair_at (mirror_test a b) right s t small small'))
     ∙ sym (shown_at (slice_index b t) s small)
 
 pawn_mirror : mirrored WHITE_PAWN BLACK_PAWN ≡ true

@@ -14,7 +14,7 @@ use Rattle.cha_board.specs.Board.{Board, man_at, is_empty, home_of}
 use Rattle.cha_board.specs.SquareSets.{set_of, set_joined, set_minus}
 use Rattle.cha_board.proofs.SetLaws.{same_set}
 use Rattle.cha_board.specs.Aims.{aimed}
-use Rattle.cha_board.proofs.Scans.{all_squares_at}
+use Rattle.cha_board.proofs.Scans.{pair_at}
 use Rattle.cha_moves.specs.Moves.{second_rank, fourth_rank, middle, is_step, is_double_step, is_pawn_capture, is_en_passant, is_short_castling, is_long_castling, goes, goes_as, may_enter}
 use Rattle.cha_moves.specs.Ways.{is_way}
 use Rattle.cha_moves.proofs.Kept.{short_tests, long_tests}
@@ -52,7 +52,7 @@ pawn_table Black = refl
 pawn_tests : (c : Color) (s t : ℕ) → s < 64 → t < 64 → (step_test c s t ≡ true) × (end_test c s t ≡ true) × (double_test c s t ≡ true)
 unfolding pawn_test
 pawn_tests c s t small small' =
-    let all = all_squares_at (pawn_test c s) t (all_squares_at (λ u. list_all (pawn_test c u) squares) s (pawn_table c) small) small' in
+    let all = pair_at (pawn_test c) (pawn_table c) s t small small' in
     let x = and_parts (step_test c s t && end_test c s t) (double_test c s t) all in
     let y = and_parts (step_test c s t) (end_test c s t) x.0 in
     (y.0, y.1, x.1)

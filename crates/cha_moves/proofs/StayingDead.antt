@@ -2,6 +2,7 @@
 use Rattle.std.proofs.Common.{◌≡◌, ℕ, zero, suc, ◌+◌, ◌-◌, ◌≤◌, List, [], ◌∷◌, Some, slice_get, refl, sym, subst, ◌∙◌, arith, Contains}
 use Rattle.cha_board.specs.declared.men.Color.{Color}
 use Rattle.cha_board.specs.Board.{Board}
+use Rattle.cha_board.proofs.Identity.{some_inj}
 use Rattle.cha_moves.specs.Step.{Move}
 use Rattle.cha_moves.specs.Moves.{after, legal}
 use Rattle.cha_moves.specs.Ends.{IsUnwinnable}
@@ -17,9 +18,6 @@ before [] j q e = cc
 before (p ∷ qs) zero q e = (p, refl)
 before (p ∷ qs) (suc j) q e = before qs j q e
 
-one_some : (p q : Board) → Some p ≡ Some q → p ≡ q
-one_some p q e = cc
-
 module _ (qs : List Board) (w : Color) (played : ArePlayed qs) (i : ℕ) (p : Board) (there : slice_get qs i ≡ Some p) (none : IsUnwinnable p w) where
   -- so it goes on, position by position
   pub stays_behind : (n : ℕ) (q : Board) → slice_get qs (i + n) ≡ Some q → IsUnwinnable q w
@@ -27,7 +25,7 @@ module _ (qs : List Board) (w : Color) (played : ArePlayed qs) (i : ℕ) (p : Bo
   stays_behind zero q e =
       let same : i + 0 ≡ i = omega arith in
       let at : slice_get qs i ≡ Some q = subst (λ k. slice_get qs k ≡ Some q) same e in
-      subst (λ x. IsUnwinnable x w) (one_some p q (sym there ∙ at)) none
+      subst (λ x. IsUnwinnable x w) (some_inj p q (sym there ∙ at)) none
   stays_behind (suc n) q e =
       let same : i + suc n ≡ suc (i + n) = omega arith in
       let at : slice_get qs (suc (i + n)) ≡ Some q = subst (λ k. slice_get qs k ≡ Some q) same e in

@@ -10,9 +10,8 @@ use Rattle.cha_board.specs.declared.men.Kind.TheVariants.{Bishop, Rook, Queen}
 use Rattle.cha_board.specs.Squares.{squares, files_apart, ranks_apart, steps_apart, is_straight, is_diagonal, is_line, aims_at, is_within, lies_between, between}
 use Rattle.cha_board.specs.Board.{Board}
 use Rattle.cha_board.proofs.Identity.{if_at, if_from}
-use Rattle.cha_board.proofs.Scans.{all_squares_at, each_square}
+use Rattle.cha_board.proofs.Scans.{all_squares_at, pair_at, each_square}
 use Rattle.mob_law.specs.Reach.{is_fixed, is_open}
-use Rattle.mob_law.proofs.Geometry.{pair_at}
 use Rattle.mob_sets.specs.Mobility.{Sets}
 
 -- the square next to t, as one comes from u

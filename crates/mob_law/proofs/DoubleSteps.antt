@@ -6,10 +6,10 @@ use Rattle.cha_board.specs.declared.men.Color.{Color}
 use Rattle.cha_board.specs.declared.men.Color.TheVariants.{White, Black}
 use Rattle.cha_board.specs.Squares.{squares, rank_of, last_rank, files_apart, is_rank_ahead}
 use Rattle.cha_board.specs.Board.{Board}
+use Rattle.cha_board.proofs.Scans.{pair_at}
 use Rattle.cha_moves.specs.Moves.{second_rank, fourth_rank, middle}
 use Rattle.mob_sets.specs.Mobility.{Sets}
 use Rattle.mob_law.specs.Closed.{PawnsStep, PawnsDoubleStep}
-use Rattle.mob_law.proofs.Geometry.{pair_at}
 
 -- a pawn of c steps twice from u to t, and once, not onto its last rank
 twice : Color → ℕ → ℕ → Bool

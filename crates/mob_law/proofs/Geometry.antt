@@ -9,13 +9,9 @@ use Rattle.cha_board.specs.declared.men.Kind.TheVariants.{Pawn, Knight, Bishop, 
 use Rattle.cha_board.specs.Board.{home_of}
 use Rattle.cha_board.specs.Squares.{squares, files_apart, ranks_apart, steps_apart, is_straight, is_diagonal, is_line, is_rank_ahead, aims_at, is_within, lies_between, between}
 use Rattle.cha_board.proofs.Identity.{if_at}
-use Rattle.cha_board.proofs.Scans.{all_squares_at}
+use Rattle.cha_board.proofs.Scans.{all_squares_at, pair_at}
 use Rattle.cha_moves.proofs.Near.{king_aims}
 use Rattle.mob_law.specs.Reach.{is_leaper}
-
--- a test that holds of all pairs of squares
-pub pair_at : (f : ℕ → ℕ → Bool) → list_all (λ s. list_all (f s) squares) squares ≡ true → (s t : ℕ) → s < 64 → t < 64 → f s t ≡ true
-pair_at f table s t small small' = all_squares_at (f s) t (all_squares_at (λ s. list_all (f s) squares) s table small) small'
 
 is_none_of : List ℕ → Bool
 is_none_of [] = true

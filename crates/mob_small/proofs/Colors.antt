@@ -7,8 +7,7 @@ use Rattle.cha_board.specs.declared.men.Kind.TheVariants.{Knight, Bishop, Queen}
 use Rattle.cha_board.specs.Men.{same_color}
 use Rattle.cha_board.specs.Squares.{squares, files_apart, ranks_apart, steps_apart, is_straight, is_diagonal, is_line, aims_at, is_within, lies_between, between, color_of_square}
 use Rattle.cha_board.proofs.Identity.{if_at}
-use Rattle.cha_board.proofs.Scans.{all_squares_at}
-use Rattle.mob_law.proofs.Geometry.{pair_at}
+use Rattle.cha_board.proofs.Scans.{all_squares_at, pair_at}
 use Rattle.mob_small.proofs.BesideKing.{in_rank, in_file, along_rank, along_file, across}
 
 -- two squares of one colour

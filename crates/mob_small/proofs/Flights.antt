@@ -6,7 +6,7 @@ use Rattle.cha_board.specs.declared.men.Color.TheVariants.{White}
 use Rattle.cha_board.specs.declared.men.Kind.{Kind}
 use Rattle.cha_board.specs.Squares.{squares, steps_apart, aims_at, lies_between, between}
 use Rattle.cha_board.proofs.Identity.{if_at, all_four}
-use Rattle.mob_law.proofs.Geometry.{pair_at}
+use Rattle.cha_board.proofs.Scans.{pair_at}
 use Rattle.mob_small.proofs.BesideKing.{flight_test, far_test, far_table, in_rank, in_file, is_hole, reply_test, is_right, is_above, along_rank, along_file}
 
 -- a square next to the king that the man on s does not attack

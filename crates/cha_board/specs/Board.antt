@@ -70,6 +70,13 @@ short_home_of c = home_of c + 3
 abbrev pub long_home_of : Color → ℕ
 long_home_of c = home_of c - 4
 
+-- where c's king arrives by castling: g1 or g8 on the king's side, c1 or c8 on the queen's
+abbrev pub short_goal_of : Color → ℕ
+short_goal_of c = home_of c + 2
+
+abbrev pub long_goal_of : Color → ℕ
+long_goal_of c = home_of c - 2
+
 -- a home of c's king or one of its rooks, and of either side's
 abbrev pub is_home_of : Color → ℕ → Bool
 is_home_of c s = (s == home_of c) || (s == short_home_of c) || (s == long_home_of c)

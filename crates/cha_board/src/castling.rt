@@ -1,8 +1,9 @@
-//! What a side needs for castling: the homes of its king and its rooks, and the rights that it has left (Laws of Chess,
-//! Article 3.8.2).
+//! What a side needs for castling: the homes of its king and its rooks, where its king arrives, and the rights that it has
+//! left (Laws of Chess, Article 3.8.2).
 
 ghost use Rattle.std.specs.Prelude.{◌≡◌, ◌≤◌};
-ghost use Rattle.cha_board.specs.Board.{home_of, short_home_of, long_home_of, is_home, has_short_right, has_long_right};
+ghost use Rattle.cha_board.specs.Board.{home_of, short_home_of, long_home_of, short_goal_of, long_goal_of, is_home};
+ghost use Rattle.cha_board.specs.Board.{has_short_right, has_long_right};
 ghost use Rattle.cha_board.specs.SquareSets.{set_of};
 
 use crate::men::Color;
@@ -34,6 +35,20 @@ pub fn long_home(side: Color) -> Square
     ensures { result ≡ long_home_of side }
 {
     Square::at(home(side) - 4)
+}
+
+/// Where the king of a side arrives when it castles on the king's side: g1 or g8.
+pub fn short_goal(side: Color) -> Square
+    ensures { result ≡ short_goal_of side }
+{
+    Square::at(home(side) + 2)
+}
+
+/// Where the king of a side arrives when it castles on the queen's side: c1 or c8.
+pub fn long_goal(side: Color) -> Square
+    ensures { result ≡ long_goal_of side }
+{
+    Square::at(home(side) - 2)
 }
 
 /// The homes of both sides' kings and rooks: a1, e1, h1, a8, e8 and h8.

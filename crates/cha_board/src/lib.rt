@@ -31,7 +31,9 @@ pub use aim::{
     aims_at, diagonal, files_between, in_line, rank_ahead, ranks_between, steps_between, straight,
 };
 pub use build::BuildFault;
-pub use castling::{home, homes, long_home, long_right, short_home, short_right};
+pub use castling::{
+    home, homes, long_goal, long_home, long_right, short_goal, short_home, short_right,
+};
 pub use kept::Kept;
 pub use letters::put_square;
 pub use men::{Color, Kind, Man, is_man_of, is_of_kind, is_of_side};

@@ -1,5 +1,5 @@
 -- Where a man may give check (this project).
-use Rattle.std.specs.Prelude.{◌≡◌, ℕ, ◌+◌, ◌-◌, ◌<◌, ◌==◌, Bool, true, false, not, ◌||◌, List, Option}
+use Rattle.std.specs.Prelude.{◌≡◌, ℕ, ◌<◌, ◌==◌, Bool, true, false, not, ◌||◌, List, Option}
 use Rattle.cha_board.specs.declared.men.Kind.{Kind}
 use Rattle.cha_board.specs.declared.men.Kind.TheVariants.{Pawn, King}
 use Rattle.cha_board.specs.declared.men.Man.{Man}
@@ -7,14 +7,14 @@ use Rattle.cha_board.specs.Men.{other_color}
 use Rattle.cha_board.specs.Squares.{rank_of, last_rank, lies_between}
 use Rattle.cha_board.specs.SquareSets.{set_of, has_square, set_without}
 use Rattle.cha_board.specs.Aims.{aims_over}
-use Rattle.cha_board.specs.Board.{Board, man_at, is_empty, king_of, home_of}
+use Rattle.cha_board.specs.Board.{Board, man_at, is_empty, king_of, short_goal_of, long_goal_of}
 use Rattle.cha_moves.specs.Moves.{is_target}
 use Rattle.cha_moves.specs.Shields.{aims_as}
 
 -- a pawn becomes another man on t or captures in passing onto t, or a king castles to t
 unfoldable pub is_special_check : Board → Kind → ℕ → Bool
 is_special_check q Pawn t = (rank_of t == last_rank q.side) || is_target q.target t
-is_special_check q King t = (t == home_of q.side - 2) || (t == home_of q.side + 2)
+is_special_check q King t = (t == long_goal_of q.side) || (t == short_goal_of q.side)
 is_special_check q k t = false
 
 -- of the men between u and k, one on s is the only one

@@ -10,7 +10,7 @@ ghost use Rattle.cha_moves.specs.Ways.{is_way};
 use crate::goes::{castles_long, castles_short, promotes_well};
 use crate::sides::{first_pawn_rank, promotion_rank};
 use crate::step::Move;
-use cha_board::{Kind, Man, Position, Square, SquareSet, aims, home};
+use cha_board::{Kind, Man, Position, Square, SquareSet, aims, long_goal, short_goal};
 
 /// The squares that the side to move may not enter: those of its own men and that of the other king.
 fn barred(position: &Position) -> SquareSet
@@ -77,8 +77,8 @@ fn king_ways(position: &Position, s: Square) -> SquareSet
 {
     let _from = s.index();
     let side = position.side();
-    let short = Square::at(home(side) + 2);
-    let long = Square::at(home(side) - 2);
+    let short = short_goal(side);
+    let long = long_goal(side);
     let near = aims(side, Kind::King, s, position.occupied());
     let shortly = with_where(near, short, castles_short(position, s, short));
     with_where(shortly, long, castles_long(position, s, long))

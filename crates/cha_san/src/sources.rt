@@ -5,16 +5,16 @@ ghost use Rattle.cha_board.specs.SquareSets.{set_of};
 ghost use Rattle.cha_san.specs.Sources.{target_of, comes_along, may_come, is_source};
 
 use crate::forms::{Form, Parts};
-use cha_board::{Color, Kind, Position, Square, SquareSet, aims_alone, home};
+use cha_board::{Color, Kind, Position, Square, SquareSet, aims_alone, long_goal, short_goal};
 
 /// The square that the move of a word enters.
 pub fn target(position: &Position, form: &Form) -> Square
     ensures { result ≡ target_of position.now form.now }
 {
-    let h = home(position.side());
+    let side = position.side();
     match form {
-        Form::Short => Square::at(h + 2),
-        Form::Long => Square::at(h - 2),
+        Form::Short => short_goal(side),
+        Form::Long => long_goal(side),
         Form::Plain(parts) => parts.to,
     }
 }

@@ -1,43 +1,48 @@
 -- One more node of a shared certificate, with sets of its own.
-use Rattle.std.proofs.Common.{◌≡◌, ◌+◌, ◌≤◌, List, [], ◌∷◌, ◌++◌, length, Result, Ok, Err, sym, ap, ◌∙◌, arith}
-use Rattle.std.specs.Result.{OnErr}
+use Rattle.std.proofs.Common.{◌≡◌, ◌+◌, ◌≤◌, List, [], ◌∷◌, ◌++◌, length, None, ap, ◌∙◌, arith}
 use Rattle.std.proofs.lemmas.List.{length-append, map-append}
+use Rattle.std.proofs.Math.Seq.{get_or-append_seam}
+use Rattle.cha_board.specs.Board.{Board}
 use Rattle.mob_sets.specs.Rows.{SetRows}
-use Rattle.cha_cert.specs.declared.nodes.Node.{Node}
 use Rattle.cha_cert.specs.declared.nodes.Part.{Part}
+use Rattle.cha_cert.specs.declared.nodes.Part.TheVariants.{Leaf}
 use Rattle.cha_cert.specs.declared.shared.SharedNode.{SharedNode}
 use Rattle.cha_cert.specs.declared.shared.SharedPart.{SharedPart}
-use Rattle.cha_cert.specs.Shared.{Shared, AreNamed, node_of, part_of, expansion, IsNamedAs}
+use Rattle.cha_cert.specs.declared.shared.SharedPart.TheVariants.{Leaf as SharedLeaf}
+use Rattle.cha_cert.specs.Shared.{Shared, AreNamed, no_sets, node_of, part_of, expansion, leaf_added}
 use Rattle.cha_cert.proofs.OnceWritten.{expansion_grown}
 
--- what is spread once more sets and one more node are there
-spread_grown : (c : Shared) (more : List SetRows) (node : SharedNode) → AreNamed c
-    → expansion (record { sets = c.sets ++ more; nodes = c.nodes ++ node ∷ [] }) ≡ expansion c ++ node_of (c.sets ++ more) node ∷ []
-spread_grown c more node named =
-    map-append (node_of (c.sets ++ more)) c.nodes (node ∷ []) ∙ ap (λ ns. ns ++ node_of (c.sets ++ more) node ∷ []) (expansion_grown c.sets more c.nodes named)
+-- a node that is no leaf
+pub bare_spread : (c d : Shared) (q : Board) (part : SharedPart) (own : Part) → part_of c.sets part ≡ own
+    → d ≡ record { sets = c.sets; nodes = c.nodes ++ (record { position = q; part = part }) ∷ [] }
+    → expansion d ≡ expansion c ++ (record { position = q; part = own }) ∷ []
+bare_spread c d q part own same added =
+    ap expansion added ∙ map-append (node_of c.sets) c.nodes ((record { position = q; part = part }) ∷ [])
+    ∙ ap (λ p. expansion c ++ (record { position = q; part = p }) ∷ []) same
 
--- a node of own sets, whose part was named
-pub spread_more : (c d e : Shared) (node : Node) (named : SharedNode) → IsNamedAs c d node.part named.part → named.position ≡ node.position
-    → e ≡ record { sets = d.sets; nodes = d.nodes ++ named ∷ [] } → expansion e ≡ expansion c ++ node ∷ []
-spread_more c d e node named grown here pushed =
-    let whole : e ≡ record { sets = c.sets ++ grown.more; nodes = c.nodes ++ named ∷ [] } = pushed ∙ (λ i. record { sets = grown.sets i; nodes = grown.nodes i ++ named ∷ [] }) in
-    let own : node_of (c.sets ++ grown.more) named ≡ node = λ i. record { position = here i; part = (ap (λ s. part_of s named.part) (sym grown.sets) ∙ grown.same) i } in
-    ap expansion whole ∙ spread_grown c grown.more named grown.all ∙ ap (λ n. expansion c ++ n ∷ []) own
+pub bare_nodes : (c d : Shared) (node : SharedNode) → d ≡ record { sets = c.sets; nodes = c.nodes ++ node ∷ [] } → length d.nodes ≡ length c.nodes + 1
+bare_nodes c d node added = ap (λ (x : Shared). length x.nodes) added ∙ length-append c.nodes (node ∷ [])
 
--- there is one node more, and at most one list of sets
-pub nodes_more : (c d e : Shared) (part : Part) (named : SharedNode) → IsNamedAs c d part named.part → e ≡ record { sets = d.sets; nodes = d.nodes ++ named ∷ [] } → length e.nodes ≡ length c.nodes + 1
-nodes_more c d e part named grown pushed =
-    ap (λ (x : Shared). length x.nodes) pushed ∙ length-append d.nodes (named ∷ []) ∙ ap (λ ns. length ns + 1) grown.nodes
+pub bare_sets : (c d : Shared) (node : SharedNode) → d ≡ record { sets = c.sets; nodes = c.nodes ++ node ∷ [] } → length d.sets ≤ length c.sets + 1
+bare_sets c d node added = (let same = ap (λ (x : Shared). length x.sets) added in omega (arith, same))
 
-pub sets_more : (c d e : Shared) (part : Part) (named : SharedNode) → IsNamedAs c d part named.part → e ≡ record { sets = d.sets; nodes = d.nodes ++ named ∷ [] } → length e.sets ≤ length c.sets + 1
-sets_more c d e part named grown pushed =
-    let same : length e.sets ≡ length (c.sets ++ grown.more) = ap (λ (x : Shared). length x.sets) pushed ∙ ap length grown.sets in
-    let few = grown.one in
-    omega (arith, same, length-append c.sets grown.more, few)
+-- a leaf, whose sets come last
+pub leaf_spread : (c d : Shared) (q : Board) (s : SetRows) → AreNamed c → d ≡ leaf_added c q s None
+    → expansion d ≡ expansion c ++ (record { position = q; part = Leaf s }) ∷ []
+leaf_spread c d q s named added =
+    let sets = c.sets ++ s ∷ [] in
+    let node : SharedNode = record { position = q; part = SharedLeaf (length c.sets) } in
+    ap expansion added ∙ map-append (node_of sets) c.nodes (node ∷ [])
+    ∙ ap (λ ns. ns ++ node_of sets node ∷ []) (expansion_grown c.sets (s ∷ []) c.nodes named)
+    ∙ ap (λ t. expansion c ++ (record { position = q; part = Leaf t }) ∷ []) (get_or-append_seam c.sets s [] no_sets)
 
--- where the node is refused, nodes and expansion are as they were
-pub spread_same : {T E : Type 0} (r : Result T E) (c d e : Shared) (part : Part) (named : SharedPart) → IsNamedAs c d part named → e ≡ d → OnErr r (expansion e ≡ expansion c)
-spread_same (Ok x) c d e part named grown back = tt
-spread_same (Err x) c d e part named grown back =
-    let whole : e ≡ record { sets = c.sets ++ grown.more; nodes = c.nodes } = back ∙ (λ i. record { sets = grown.sets i; nodes = grown.nodes i }) in
-    ap expansion whole ∙ expansion_grown c.sets grown.more c.nodes grown.all
+pub leaf_nodes : (c d : Shared) (q : Board) (s : SetRows) → d ≡ leaf_added c q s None → length d.nodes ≡ length c.nodes + 1
+leaf_nodes c d q s added =
+    ap (λ (x : Shared). length x.nodes) added ∙ length-append c.nodes ((record { position = q; part = SharedLeaf (length c.sets) }) ∷ [])
+
+pub leaf_sets : (c d : Shared) (q : Board) (s : SetRows) → d ≡ leaf_added c q s None → length d.sets ≤ length c.sets + 1
+leaf_sets c d q s added = (let same = ap (λ (x : Shared). length x.sets) added in omega (arith, same, length-append c.sets (s ∷ [])))
+
+-- where nothing changed
+pub same_sets_few : (c d : Shared) → d ≡ c → length d.sets ≤ length c.sets + 1
+same_sets_few c d same = (let sets = ap (λ (x : Shared). length x.sets) same in omega (arith, sets))

@@ -51,30 +51,40 @@ no_look before n =
     (subst (λ k. 2 ^ k ≤ 2 * n + 1) none (omega arith), subst (λ k. 2 ^ suc k * (n - 0) ≤ 2 * n + 1) none (omega arith))
 
 -- a search takes at most b looks
-pub cost_search : (n before now : ℕ) → before ≤ now → 2 ^ (now - before) ≤ 2 * n + 1 → CostsAtMost n 1 before now
-cost_search n before now rises cost b large =
+search_bound : (n before now : ℕ) → before ≤ now → 2 ^ (now - before) ≤ 2 * n + 1 → (b : ℕ) → 2 * n + 1 < 2 ^ (b + 1) → now ≤ before + b * 1
+search_bound n before now rises cost b large =
     elim (cases_lt (now - before) (b + 1)) [
       | inl low ↦ omega (arith, low, rises)
       | inr high ↦ (let more : 2 ^ (b + 1) ≤ 2 ^ (now - before) = pow-le-pow_right (omega arith) high in absurd (omega (arith, more, cost, large)))
     ]
 
+pub cost_search : (n before now : ℕ) → before ≤ now → 2 ^ (now - before) ≤ 2 * n + 1 → CostsAtMost n 1 before now
+cost_search n before now rises cost = (rises, search_bound n before now rises cost)
+
 no_more : (a p : ℕ) → a ≤ a + p
 no_more a p = omega arith
 
+still : (a : ℕ) → a ≤ a
+still a = omega arith
+
 pub cost_none : (n m a : ℕ) → CostsAtMost n m a a
-cost_none n m a b large = no_more a (b * m)
+cost_none n m a = (still a, λ b large. no_more a (b * m))
+
+later : (x y z : ℕ) → x ≤ y → y ≤ z → x ≤ z
+later x y z one two = omega (arith, one, two)
 
 sums : (x y z p q r : ℕ) → y ≤ x + p → z ≤ y + q → r ≡ p + q → z ≤ x + r
 sums x y z p q r one two all = omega (arith, one, two, all)
 
 pub cost_sum : (n k m x y z : ℕ) → CostsAtMost n k x y → CostsAtMost n m y z → CostsAtMost n (k + m) x z
-cost_sum n k m x y z one two b large = sums x y z (b * k) (b * m) (b * (k + m)) (one b large) (two b large) (mul-add b k m)
+cost_sum n k m x y z one two =
+    (later x y z one.0 two.0, λ b large. sums x y z (b * k) (b * m) (b * (k + m)) (one.1 b large) (two.1 b large) (mul-add b k m))
 
 within : (x y p q : ℕ) → y ≤ x + p → p ≤ q → y ≤ x + q
 within x y p q one less = omega (arith, one, less)
 
 pub cost_within : (n k m x y : ℕ) → k ≤ m → CostsAtMost n k x y → CostsAtMost n m x y
-cost_within n k m x y less one b large = within x y (b * k) (b * m) (one b large) (mul-le-mul_left b less)
+cost_within n k m x y less one = (one.0, λ b large. within x y (b * k) (b * m) (one.1 b large) (mul-le-mul_left b less))
 
 -- an inner node
 pub inner_cost : (nodes : List Node) (places : List Place) (q : Board) (part : Part) (x y : ℕ) → IsIndexOf nodes places → part ≡ Inner → CostsAtMost (length places) (length (legal q)) x y → CostsAtMost (length nodes) (moves_at q part) x y

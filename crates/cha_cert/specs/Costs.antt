@@ -30,7 +30,7 @@ shared_moves_at q SharedLone = 0
 abbrev pub shared_moves : SharedNode → ℕ
 shared_moves node = shared_moves_at node.position node.part
 
--- From one count to another there are at most b for each of so many moves, whatever b has 2n + 1 < 2 ^ (b + 1): the least
--- such b is the greatest with 2 ^ b ≤ 2n + 1.
+-- A count rises from one number to another by at most b for each of so many moves, whatever b has 2n + 1 < 2 ^ (b + 1): the
+-- least such b is the greatest with 2 ^ b ≤ 2n + 1.
 abbrev pub CostsAtMost : ℕ → ℕ → ℕ → ℕ → Type 0
-CostsAtMost n moves before now = (b : ℕ) → 2 * n + 1 < 2 ^ (b + 1) → now ≤ before + b * moves
+CostsAtMost n moves before now = (before ≤ now) × ((b : ℕ) → 2 * n + 1 < 2 ^ (b + 1) → now ≤ before + b * moves)

@@ -105,13 +105,3 @@ pub record Shares (c : Shared) (nodes : List Node) : Type 0 where
 pub record IsAt {X : Type 0} (xs : List X) (x : X) (i : ℕ) : Type 0 where
   pub inside : i < length xs
   pub same : (d : X) → slice_index_or xs i d ≡ x
-
--- A part with sets of its own is that of a part that names them, once they are appended.
-pub record IsNamedAs (before after : Shared) (part : Part) (named : SharedPart) : Type 0 where
-  pub more : List SetRows
-  pub one : length more ≤ 1
-  pub sets : after.sets ≡ before.sets ++ more
-  pub nodes : after.nodes ≡ before.nodes
-  pub all : AreNamed before
-  pub names : Names (length after.sets) named
-  pub same : part_of after.sets named ≡ part

@@ -1,7 +1,7 @@
 //! A certificate in which equal sets are written once.
 
-ghost use Rattle.std.specs.Prelude.{◌≡◌, ◌<◌, [], ◌∷◌, ◌++◌, length, OnOk, OnErr, IfErr};
-ghost use Rattle.cha_cert.specs.Shared.{Names, AreNamed};
+ghost use Rattle.std.specs.Prelude.{◌≡◌, ◌<◌, [], ◌∷◌, ◌++◌, ◌^◌, length, None, OnOk, OnErr, IfErr};
+ghost use Rattle.cha_cert.specs.Shared.{Names, AreNamed, leaf_added};
 
 use cha_board::Kept;
 use cha_list::{Listed, NoMemory};
@@ -75,6 +75,25 @@ impl SharedCert {
         ensures node_returned { IfErr result (λ refused. refused.0 ≡ node) }
     {
         self.nodes.push(node)
+    }
+
+    /// Appends a leaf, and sets of its own behind all others. On a refusal the sets come back, and the certificate is unchanged.
+    pub fn push_leaf(&mut self, position: Kept, sets: Sets) -> Result<(), (Sets, NoMemory)>
+        requires { length self.old.sets < 2 ^ 32 }
+        ensures ok { OnOk result (self.new ≡ leaf_added self.old position sets None) }
+        ensures err { OnErr result (self.new ≡ self.old) }
+        ensures sets_returned { IfErr result (λ refused. refused.0 ≡ sets) }
+    {
+        let number = self.sets().len() as u32;
+        self.sets.push(sets)?;
+        let part = SharedPart::Leaf(number);
+        match self.nodes.push(SharedNode { position, part }) {
+            Ok(()) => Ok(()),
+            Err((_, refused)) => match self.sets.pop() {
+                Some(sets) => Err((sets, refused)),
+                None => unreachable!(),
+            },
+        }
     }
 
     /// The sets, in order.

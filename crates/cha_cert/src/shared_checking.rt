@@ -115,7 +115,8 @@ pub fn shared_node_holds<L: Ledger>(
 ) -> Result<bool, NoMemory>
     requires inside { at < length shared.now.nodes }
     requires index { IsIndexOf (expansion shared.now) index.now }
-    ensures { IfOk result (λ holds. HoldsAt (λ node. IsTrue holds ↔ NodeHolds winner (expansion shared.now) node) (expansion shared.now) at) }
+    ensures holds { IfOk result (λ holds. HoldsAt (λ node. IsTrue holds ↔ NodeHolds winner (expansion shared.now) node) (expansion shared.now) at) }
+    ensures cost { HoldsAt (λ node. CostsAtMost (length shared.now.nodes) (shared_moves node) steps.old steps.new) shared.now.nodes at }
 {
     let nodes = shared.nodes();
     holds(alloc, shared, index, winner, &nodes[at as usize], steps)

@@ -3,7 +3,7 @@
 ghost use Rattle.std.specs.Prelude.{◌≡◌, ◌<◌, ◌≤◌, ◌^◌, ◌+◌, [], ◌∷◌, ◌++◌, List, None, length, IfOk, IfSome, OnOk, OnErr, Contains};
 ghost use Rattle.cha_cert.specs.declared.nodes.Node.{Node as CertNode};
 ghost use Rattle.cha_cert.specs.declared.nodes.Part.TheVariants.{Inner as CertInner, Leaf as CertLeaf, Small as CertSmall, Lone as CertLone};
-ghost use Rattle.cha_cert.specs.Shared.{Names, AreInOrder, Shares, IsAt, IsNamedAs, expansion, part_of, number_in, part_added, shared_of};
+ghost use Rattle.cha_cert.specs.Shared.{Names, AreInOrder, Shares, IsAt, expansion, part_of, number_in, part_added, shared_of};
 
 use crate::nodes::{Cert, Node, Part};
 use crate::same::same_sets;
@@ -48,6 +48,7 @@ fn add(alloc: Global, shared: &mut SharedCert, node: &Node) -> Result<(), NoMemo
 /// Appends an inner node.
 fn add_inner(shared: &mut SharedCert, position: Kept) -> Result<(), NoMemory>
     ensures exact { OnOk result (shared.new ≡ part_added shared.old position CertInner) }
+    ensures err { OnErr result (shared.new ≡ shared.old) }
     ensures shares { (nodes : List CertNode) → Shares shared.old nodes → OnOk result (Shares shared.new (nodes ++ (record { position = position; part = CertInner }) ∷ [])) }
 {
     shared.push(SharedNode {
@@ -60,6 +61,7 @@ fn add_inner(shared: &mut SharedCert, position: Kept) -> Result<(), NoMemory>
 /// Appends a node of small material.
 fn add_small(shared: &mut SharedCert, position: Kept) -> Result<(), NoMemory>
     ensures exact { OnOk result (shared.new ≡ part_added shared.old position CertSmall) }
+    ensures err { OnErr result (shared.new ≡ shared.old) }
     ensures shares { (nodes : List CertNode) → Shares shared.old nodes → OnOk result (Shares shared.new (nodes ++ (record { position = position; part = CertSmall }) ∷ [])) }
 {
     shared.push(SharedNode {
@@ -72,6 +74,7 @@ fn add_small(shared: &mut SharedCert, position: Kept) -> Result<(), NoMemory>
 /// Appends a node of lone minor men.
 fn add_lone(shared: &mut SharedCert, position: Kept) -> Result<(), NoMemory>
     ensures exact { OnOk result (shared.new ≡ part_added shared.old position CertLone) }
+    ensures err { OnErr result (shared.new ≡ shared.old) }
     ensures shares { (nodes : List CertNode) → Shares shared.old nodes → OnOk result (Shares shared.new (nodes ++ (record { position = position; part = CertLone }) ∷ [])) }
 {
     shared.push(SharedNode {
@@ -113,37 +116,24 @@ fn add_leaf(
 }
 
 /// Appends a node of a certificate. The sets of a leaf are appended too, whether or not equal ones are there. On a refusal
-/// the nodes and the expansion are unchanged, and sets that no leaf names may be left.
+/// the certificate is unchanged.
 pub fn append(shared: &mut SharedCert, node: Node) -> Result<(), NoMemory>
     requires { length shared.old.sets < 2 ^ 32 }
     ensures spread { OnOk result (expansion shared.new ≡ expansion shared.old ++ node ∷ []) }
     ensures nodes { OnOk result (length shared.new.nodes ≡ length shared.old.nodes + 1) }
-    ensures same_nodes { OnErr result (shared.new.nodes ≡ shared.old.nodes) }
-    ensures same { OnErr result (expansion shared.new ≡ expansion shared.old) }
     ensures sets { length shared.new.sets ≤ length shared.old.sets + 1 }
-{
-    let position = Kept::of(&node.position);
-    let part = part_of_own(shared, node.part)?;
-    shared.push(SharedNode { position, part })?;
-    Ok(())
-}
-
-/// A part that names sets, which are appended, in place of one that has them.
-fn part_of_own(shared: &mut SharedCert, part: Part) -> Result<SharedPart, NoMemory>
-    requires { length shared.old.sets < 2 ^ 32 }
-    ensures ok { IfOk result (λ named. IsNamedAs shared.old shared.new part named) }
     ensures err { OnErr result (shared.new ≡ shared.old) }
 {
     let _nodes = shared.nodes();
-    match part {
-        Part::Inner => Ok(SharedPart::Inner),
+    let position = Kept::of(&node.position);
+    match node.part {
         Part::Leaf(sets) => {
-            let number = shared.sets().len() as u32;
-            shared.add_sets(sets)?;
-            Ok(SharedPart::Leaf(number))
+            shared.push_leaf(position, sets)?;
+            Ok(())
         }
-        Part::Small => Ok(SharedPart::Small),
-        Part::Lone => Ok(SharedPart::Lone),
+        Part::Inner => add_inner(shared, position),
+        Part::Small => add_small(shared, position),
+        Part::Lone => add_lone(shared, position),
     }
 }
 

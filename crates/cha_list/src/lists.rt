@@ -1,6 +1,6 @@
 //! A list that grows, seen by contracts as the list of its items.
 
-ghost use Rattle.std.specs.Prelude.{◌≡◌, ◌<◌, ◌^◌, [], ◌∷◌, ◌++◌, length, decimal, OnOk, OnErr, IfOk, IfErr};
+ghost use Rattle.std.specs.Prelude.{◌≡◌, ◌<◌, ◌^◌, [], ◌∷◌, ◌++◌, length, decimal, OnOk, OnErr, IfOk, IfErr, IfSome, IfNone};
 
 use crate::memory::NoMemory;
 use std::alloc::Global;
@@ -43,6 +43,14 @@ impl<T> Listed<T> {
             Ok(()) => Ok(()),
             Err(refused) => Err((refused.value, NoMemory)),
         }
+    }
+
+    /// Takes the last item off. `None` where the list is empty.
+    pub fn pop(&mut self) -> Option<T>
+        ensures some { IfSome result (λ item. self.old ≡ self.new ++ item ∷ []) }
+        ensures none { IfNone result ((self.old ≡ []) × (self.new ≡ [])) }
+    {
+        self.kept.pop()
     }
 
     /// The items, in order.

@@ -3,6 +3,7 @@
 ghost use Rattle.std.specs.Prelude.{◌≡◌, ◌≢◌, ◌<◌, ◌^◌, not, length, Ok, Err, IsTrue, IfOk, IfErr};
 ghost use Rattle.cha_cert.specs.Shared.{expansion};
 ghost use Rattle.cert_text.specs.declared.faults.CertKind.TheVariants.{NoMemory as Wanting};
+ghost use Rattle.cert_text.specs.declared.shared_reader.SharedCertificate.{SharedCertificate as CertificateRead};
 ghost use Rattle.cert_text.specs.SharedSpelled.{shared_text};
 ghost use Rattle.cert_text.specs.Texts.{cert_of};
 ghost use Rattle.cert_text.specs.SharedTexts.{shared_cert_of};
@@ -61,10 +62,11 @@ fn read_once(alloc: Global, bytes: &[u8]) -> Result<SharedCertificate, CertFault
 }
 
 /// The text of version 2 of what a text of either version says: a text of version 2 stays as it is, and of one of version 1
-/// the winner and the expansion stay.
+/// the winner and the expansion stay. A text that is of neither version is refused at the first line that does not fit.
 pub fn migrate(alloc: Global, bytes: &[u8]) -> Result<Text, CertFault>
     ensures first { IfOk result (λ text. IsTrue (is_first_version bytes.now) → IsMigrated bytes.now text) }
     ensures second { IfOk result (λ text. IsTrue (not (is_first_version bytes.now)) → text ≡ bytes.now) }
+    ensures fits { IfOk result (λ text. IsTrue (not (is_first_version bytes.now)) → (read : CertificateRead) × (shared_cert_of bytes.now ≡ Ok read)) }
     ensures first_fault { IfErr result (λ fault. fault.kind ≢ Wanting → IsTrue (is_first_version bytes.now) → cert_of bytes.now ≡ Err fault) }
     ensures second_fault { IfErr result (λ fault. fault.kind ≢ Wanting → IsTrue (not (is_first_version bytes.now)) → shared_cert_of bytes.now ≡ Err fault) }
 {

@@ -1,5 +1,5 @@
 -- What a run of the word check tells of a text.
-use Rattle.std.proofs.Common.{◌≡◌, ◌≢◌, ℕ, List, [], ◌∷◌, ◌++◌, map, codes, string_bytes, Option, Some, IfSome, refl, sym, ap, ◌∙◌, subst, arith, append-nil}
+use Rattle.std.proofs.Common.{◌≡◌, ◌≢◌, ◌⊎◌, inl, inr, ℕ, ◌<◌, ◌≤◌, List, [], ◌∷◌, ◌++◌, length, map, codes, string_bytes, Option, Some, IfSome, refl, sym, ap, ◌∙◌, subst, arith, append-nil}
 use Rattle.std.specs.declared.string.String.{String}
 use Rattle.std.specs.declared.alloc.Global.{Global}
 use Rattle.std.specs.Io.KnownBytes.{Consumes, IsAtEnd}
@@ -7,9 +7,9 @@ use Rattle.cha_outside.specs.Gathering.{Took}
 use Rattle.cha_words.specs.declared.orders.Order.TheVariants.{CheckCert}
 use Rattle.cha_words.specs.Language.{order, order_of, order_by, command_named}
 use Rattle.adjudicate.specs.declared.endings.Status.{Status}
-use Rattle.adjudicate.specs.declared.endings.Status.TheVariants.{Done, Usage, ReadFault, NotAccepted}
+use Rattle.adjudicate.specs.declared.endings.Status.TheVariants.{Done, Usage, ReadFault, WriteFault, TooLong, NoMemory, NotAccepted}
 use Rattle.adjudicate.specs.CertFindings.{IsAccepted}
-use Rattle.adjudicate.specs.Runs.{IsRun, Ended, outside}
+use Rattle.adjudicate.specs.Runs.{IsRun, Ended, outside, most_bytes}
 
 -- the word orders a check
 check_ordered : order_of (codes "check" ∷ []) ≡ Some CheckCert
@@ -49,3 +49,21 @@ module _ (words : List (String Global)) (text source left : List ℕ) (old new :
 
   pub no_read_fault : status ≢ ReadFault
   no_read_fault is = let rose = run.read_fault is in absurd (omega arith)
+
+  -- a text that is read to its end is not too long
+  not_long : IsAtEnd (Some left) → status ≢ TooLong → length text ≤ most_bytes
+  not_long end other =
+      let took = run.not_too_long other in
+      subst (λ t. length t ≤ most_bytes) (taken_whole source left took.0 took.1 end ∙ same) took.2
+
+  ends : (s : Status) → status ≡ s → most_bytes < length text → (s ≡ TooLong) ⊎ ((s ≡ NoMemory) ⊎ (s ≡ WriteFault))
+  ends Done is long = (let few = not_long (ended Done is).2 (λ e. cc) in absurd (omega (arith, few, long)))
+  ends NotAccepted is long = (let few = not_long (ended NotAccepted is).2 (λ e. cc) in absurd (omega (arith, few, long)))
+  ends Usage is long = absurd (no_usage is)
+  ends ReadFault is long = absurd (no_read_fault is)
+  ends TooLong is long = inl refl
+  ends NoMemory is long = inr (inl refl)
+  ends WriteFault is long = inr (inr refl)
+
+  pub ends_long : most_bytes < length text → (status ≡ TooLong) ⊎ ((status ≡ NoMemory) ⊎ (status ≡ WriteFault))
+  ends_long long = ends status refl long

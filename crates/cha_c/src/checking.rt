@@ -1,6 +1,6 @@
 //! The check of a certificate, as a run.
 
-ghost use Rattle.std.specs.Prelude.{◌≡◌, ◌≢◌, ◌<◌, [], ◌∷◌, length, map, codes, string_bytes, IfOk};
+ghost use Rattle.std.specs.Prelude.{◌≡◌, ◌≢◌, ◌<◌, ◌⊎◌, [], ◌∷◌, length, map, codes, string_bytes, IfOk};
 ghost use Rattle.adjudicate.specs.CertFindings.{IsAccepted, IsTextOf, IsUnwinnableAtFirst};
 ghost use Rattle.adjudicate.specs.Runs.{most_bytes};
 ghost use Rattle.cha_words.specs.declared.orders.Order.TheVariants.{CheckCert};
@@ -17,6 +17,7 @@ pub fn check_text(alloc: Global, text: &[u8]) -> Result<Status, NoMemory>
     ensures accepted { IfOk result (λ status. status ≡ Status.Done → IsAccepted CheckCert text.now) }
     ensures refused { IfOk result (λ status. status ≡ Status.NotAccepted → IsAccepted CheckCert text.now → ⊥) }
     ensures too_long { IfOk result (λ status. status ≡ Status.TooLong → most_bytes < length text.now) }
+    ensures long { IfOk result (λ status. most_bytes < length text.now → (status ≡ Status.TooLong) ⊎ ((status ≡ Status.NoMemory) ⊎ (status ≡ Status.WriteFault))) }
     ensures no_other { IfOk result (λ status. (status ≢ Status.Usage) × (status ≢ Status.ReadFault)) }
 {
     let words = check_words(alloc)?;

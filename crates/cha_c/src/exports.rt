@@ -1,6 +1,6 @@
 //! What C calls.
 
-ghost use Rattle.std.specs.Prelude.{◌≡◌, ◌<◌, ◌⊎◌, length};
+ghost use Rattle.std.specs.Prelude.{◌≡◌, ◌<◌, ◌⊎◌, drop, length};
 ghost use Rattle.cha_c.specs.Answers.{Answers, HandsOut, number_in_c};
 ghost use Rattle.adjudicate.specs.CertFindings.{IsAccepted, IsTextOf, IsUnwinnableAtFirst};
 ghost use Rattle.adjudicate.specs.Runs.{most_bytes};
@@ -37,6 +37,8 @@ pub extern "C" fn cha_run(
     used: &mut usize,
 ) -> u8
     ensures room { length out.new ≡ length out.old }
+    ensures behind { drop used.new out.new ≡ drop used.new out.old }
+    ensures no_room { result ≡ 7 → out.new ≡ out.old }
     ensures answers { Answers words.now input.now result used.new out.new }
 {
     *used = 0;
@@ -58,6 +60,7 @@ pub extern "C" fn cha_check(alloc: Global, text: &[u8]) -> u8
     ensures accepted { result ≡ 0 → IsAccepted CheckCert text.now }
     ensures refused { result ≡ 6 → IsAccepted CheckCert text.now → ⊥ }
     ensures too_long { result ≡ 4 → most_bytes < length text.now }
+    ensures long { most_bytes < length text.now → (result ≡ 4) ⊎ (result ≡ 5) }
     ensures no_other { (result ≡ 0) ⊎ ((result ≡ 4) ⊎ ((result ≡ 5) ⊎ (result ≡ 6))) }
 {
     match check_text(alloc, text) {
@@ -79,6 +82,8 @@ fn number_of(status: Status) -> u8
 /// Copies what a run wrote to the front of the room, and answers the number of its status.
 fn hand_out(report: &Report, out: &mut [u8], used: &mut usize) -> u8
     ensures room { length out.new ≡ length out.old }
+    ensures behind { drop used.new out.new ≡ drop used.new out.old }
+    ensures no_room { result ≡ 7 → out.new ≡ out.old }
     ensures handed { HandsOut report.now.status report.now.text.bytes result used.new out.new }
 {
     let text = report.text.bytes();

@@ -10,7 +10,7 @@ use Rattle.cha_board.specs.declared.men.Man.{Man}
 use Rattle.cha_board.specs.Men.{other_color, same_color, is_vacant, is_man}
 use Rattle.cha_board.specs.Squares.{squares, aims_at, lies_between}
 use Rattle.cha_board.specs.Board.{Board, man_at, is_empty, is_clear, king_of}
-use Rattle.cha_board.specs.SquareSets.{set_of, has_square, squares_in, set_of_bits, set_with, set_without, set_joined, set_common, has_no_square}
+use Rattle.cha_board.specs.SquareSets.{set_of, has_square, squares_in, set_of_bits, set_with, set_without, set_common, has_no_square}
 use Rattle.cha_board.proofs.SetLaws.{has-set_of, same_set}
 use Rattle.cha_board.proofs.Scans.{no_square}
 use Rattle.cha_board.proofs.Betweens.{open_is, lies_turned}
@@ -176,10 +176,6 @@ unfolding set_common set_with stops
 answered answers line k u t e small =
     has-set_of (λ t. has_square answers t && has_square (set_of (λ t. (t == u) || has_square line t)) t) t small
     ∙ ap (λ b. has_square answers t && b) (has-set_of (λ t. (t == u) || has_square line t) t small ∙ ap (λ b. (t == u) || b) (ap (λ (x : List Bool). has_square x t) e ∙ has-set_of (lies_between k u) t small))
-
-pub pinned_too : (screens lone : List Bool) (s : ℕ) → s < 64 → has_square (set_joined screens lone) s ≡ (has_square screens s || has_square lone s)
-unfolding set_joined
-pinned_too screens lone s small = has-set_of (λ t. has_square screens t || has_square lone t) s small
 
 -- a set all of whose squares are one has no other
 pub one_alone : (set rest : List Bool) (first s : ℕ) (tail : List ℕ) → squares_in set ≡ first ∷ tail → rest ≡ set_without set first → ((y : ℕ) → y < 64 → has_square set y ≡ true → y ≡ s) → first < 64 → has_no_square rest ≡ true

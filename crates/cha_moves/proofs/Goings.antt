@@ -23,6 +23,10 @@ pub joined_of : (a b : ℕ → Bool) → set_joined (set_of a) (set_of b) ≡ se
 unfolding set_joined
 joined_of a b = same_set (λ s. has_square (set_of a) s || has_square (set_of b) s) (λ s. a s || b s) (λ s small. rw (has-set_of a s small, has-set_of b s small) refl)
 
+pub joined_at : (a b : List Bool) (s : ℕ) → s < 64 → has_square (set_joined a b) s ≡ (has_square a s || has_square b s)
+unfolding set_joined
+joined_at a b s small = has-set_of (λ t. has_square a t || has_square b t) s small
+
 pub common_of : (a b : ℕ → Bool) → set_common (set_of a) (set_of b) ≡ set_of (λ s. a s && b s)
 unfolding set_common
 common_of a b = same_set (λ s. has_square (set_of a) s && has_square (set_of b) s) (λ s. a s && b s) (λ s small. rw (has-set_of a s small, has-set_of b s small) refl)

@@ -14,6 +14,7 @@ use Rattle.cha_board.specs.Board.{Board, man_at, is_empty}
 use Rattle.cha_board.proofs.Scans.{any_square_at, any_alike}
 use Rattle.cha_board.proofs.Contents.{some_square, same_test, in_empty}
 use Rattle.cha_moves.specs.Moves.{is_target}
+use Rattle.cha_moves.proofs.Goings.{joined_at}
 use Rattle.cha_board.proofs.Identity.{same_kind_equal, same_kind_self}
 use Rattle.mob_sets.specs.Mobility.{Sets}
 use Rattle.mob_sets.specs.Rows.{kinds}
@@ -85,10 +86,6 @@ or_six false false false true e f = refl
 or_six false false false false true f = refl
 or_six false false false false false true = refl
 or_six false false false false false false = refl
-
-joined_at : (a b : List Bool) (s : ℕ) → s < 64 → has_square (set_joined a b) s ≡ (has_square a s || has_square b s)
-unfolding set_joined
-joined_at a b s small = has-set_of (λ s. has_square a s || has_square b s) s small
 
 pub six_joined : (a b c d e f : List Bool)
     → set_joined (set_joined (set_joined (set_joined (set_joined a b) c) d) e) f

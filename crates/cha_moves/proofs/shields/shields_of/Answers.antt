@@ -6,7 +6,8 @@ use Rattle.cha_board.specs.SquareSets.{set_of, has_square, has_no_square, set_co
 use Rattle.cha_board.proofs.SetLaws.{squares_from_first, no_first_square}
 use Rattle.cha_moves.specs.Shields.{aims_as}
 use Rattle.cha_moves.proofs.WayLaws.{fewer}
-use Rattle.cha_moves.proofs.Facing.{way_from, none_faced, all_faced, way_is_clear, check_faced, pin_faced, first_in, none_left, answered, pinned_too, lone_there, every_square}
+use Rattle.cha_moves.proofs.Facing.{way_from, none_faced, all_faced, way_is_clear, check_faced, pin_faced, first_in, none_left, answered, lone_there, every_square}
+use Rattle.cha_moves.proofs.Goings.{joined_at}
 use Rattle.cha_moves.proofs.shields.shields_of.Goals as goal
 
 pub loop-by-init : goal.loop-by-init
@@ -55,7 +56,7 @@ loop-by-preserved c =
     let line : c.squares_between-line.result ≡ set_of (lies_between k u) = c.squares_between-line.ensures ∙ ap (λ x. set_of (lies_between x u)) king in
     let way : c.common-way.result ≡ way_from q u = c.common-way.ensures ∙ rw (line, c.occupied-occupied.ensures) refl in
     let barred = ap has_no_square (sym way) ∙ sym c.is_empty.ensures ∙ c.if-is_empty.false in
-    rw c.without-left.ensures (pin_faced q c.loop-by.left c.loop-by.answers c.loop-by.screens c.joined-screens.result c.lone.result u small small' barred (lone_there q u c.common-way.result c.lone.result way barred c.lone.ensures) (λ s small''. ap (λ (x : List Bool). has_square x s) c.joined-screens.ensures ∙ pinned_too c.loop-by.screens c.lone.result s small'') c.loop-by.invariant)
+    rw c.without-left.ensures (pin_faced q c.loop-by.left c.loop-by.answers c.loop-by.screens c.joined-screens.result c.lone.result u small small' barred (lone_there q u c.common-way.result c.lone.result way barred c.lone.ensures) (λ s small''. ap (λ (x : List Bool). has_square x s) c.joined-screens.ensures ∙ joined_at c.loop-by.screens c.lone.result s small'') c.loop-by.invariant)
 
 pub returns : goal.returns
 returns c = all_faced c.args.position.now c.loop-by.left c.loop-by.answers c.loop-by.screens c.loop-by.invariant (none_left c.loop-by.left (no_first_square c.loop-by.left (sym c.first.ensures ∙ c.in_default.is)))

@@ -121,20 +121,20 @@ unfolding is_diagonal
 diagonal_self t = rw (eq-eqb t t refl) refl
 
 -- no man aims at its own square
-none_at_home : (c : Color) (k : Kind) (t : ℕ) → aims_at c k t t ≡ false
+pub aims_at_self : (c : Color) (k : Kind) (t : ℕ) → aims_at c k t t ≡ false
 unfolding aims_at is_rank_ahead is_line steps_apart
-none_at_home White Pawn t = and_left (rank_of t == rank_of t + 1) (files_apart t t == 1) (ne_eqb (rank_of t) (rank_of t + 1) (λ e. omega (arith, e)))
-none_at_home Black Pawn t = and_left (rank_of t == rank_of t + 1) (files_apart t t == 1) (ne_eqb (rank_of t) (rank_of t + 1) (λ e. omega (arith, e)))
-none_at_home c Knight t = rw (files_self t, ranks_self t) refl
-none_at_home c Bishop t = diagonal_self t
-none_at_home c Rook t = straight_self t
-none_at_home c Queen t = rw (straight_self t, diagonal_self t) refl
-none_at_home c King t = rw (files_self t, ranks_self t) refl
+aims_at_self White Pawn t = and_left (rank_of t == rank_of t + 1) (files_apart t t == 1) (ne_eqb (rank_of t) (rank_of t + 1) (λ e. omega (arith, e)))
+aims_at_self Black Pawn t = and_left (rank_of t == rank_of t + 1) (files_apart t t == 1) (ne_eqb (rank_of t) (rank_of t + 1) (λ e. omega (arith, e)))
+aims_at_self c Knight t = rw (files_self t, ranks_self t) refl
+aims_at_self c Bishop t = diagonal_self t
+aims_at_self c Rook t = straight_self t
+aims_at_self c Queen t = rw (straight_self t, diagonal_self t) refl
+aims_at_self c King t = rw (files_self t, ranks_self t) refl
 
 -- a man that aims at its own square is none
 pub unaimed : (c : Color) (t : ℕ) (o : Option Man) → aims_as c t t o ≡ true → ⊥
 unaimed c t None h = cc
-unaimed c t (Some man) h = both_ways (aims_at c man.kind t t) (none_at_home c man.kind t) (and_parts (same_color man.color c) (aims_at c man.kind t t) h).1
+unaimed c t (Some man) h = both_ways (aims_at c man.kind t t) (aims_at_self c man.kind t) (and_parts (same_color man.color c) (aims_at c man.kind t t) h).1
 
 -- t does not lie between itself and another square
 pub not_between : (u t : ℕ) → lies_between u t t ≡ false

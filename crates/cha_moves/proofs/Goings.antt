@@ -100,14 +100,15 @@ king_aimed men c s small =
     aims_seen men c King s
     ∙ same_set (λ t. aims_at c King s t && is_clear men s t) (aims_at c King s) (λ t small'. near_seen men c King s t (λ h. near_clear s t small small' (king_aims c s t h)))
 
-one_step : (c : Color) (s t : ℕ) → aims_at c Pawn s t ≡ true → (steps_apart s t == 1) ≡ true
+-- a pawn aims one step away
+pub pawn_near : (c : Color) (s t : ℕ) → aims_at c Pawn s t ≡ true → (steps_apart s t == 1) ≡ true
 unfolding aims_at is_rank_ahead steps_apart files_apart ranks_apart
-one_step White s t h =
+pawn_near White s t h =
     let both = and_parts (rank_of t == rank_of s + 1) _ h in
     let rank = eqb-true (rank_of t) (rank_of s + 1) both.0 in
     let file = eqb-true _ 1 both.1 in
     eq-eqb (steps_apart s t) 1 (omega (arith, rank, file))
-one_step Black s t h =
+pawn_near Black s t h =
     let both = and_parts (rank_of s == rank_of t + 1) _ h in
     let rank = eqb-true (rank_of s) (rank_of t + 1) both.0 in
     let file = eqb-true _ 1 both.1 in
@@ -116,7 +117,7 @@ one_step Black s t h =
 pub pawn_aimed : (men : List (Option Man)) (c : Color) (s : ℕ) → s < 64 → aimed c Pawn s (occupied_in men) ≡ set_of (aims_at c Pawn s)
 pawn_aimed men c s small =
     aims_seen men c Pawn s
-    ∙ same_set (λ t. aims_at c Pawn s t && is_clear men s t) (aims_at c Pawn s) (λ t small'. near_seen men c Pawn s t (λ h. near_clear s t small small' (one_step c s t h)))
+    ∙ same_set (λ t. aims_at c Pawn s t && is_clear men s t) (aims_at c Pawn s) (λ t small'. near_seen men c Pawn s t (λ h. near_clear s t small small' (pawn_near c s t h)))
 
 -- a test that passes at one square alone
 pub at_one : (t u : ℕ) (p : ℕ → Bool) → ((t == u) && p t) ≡ ((t == u) && p u)

@@ -45,9 +45,10 @@ king_goes_so q s t h = elim (or_cases (aims_at q.side King s t || is_short_castl
   | inr long ↦ inr (inr long)
 ]
 
-pub one_step : (c : Color) (s t : ℕ) → aims_at c King s t ≡ true → (files_apart s t == 2) ≡ true → ⊥
+-- a king that aims at a square is not two files away
+pub not_two_files : (c : Color) (s t : ℕ) → aims_at c King s t ≡ true → (files_apart s t == 2) ≡ true → ⊥
 unfolding aims_at steps_apart
-one_step c s t near two =
+not_two_files c s t near two =
     let step = eqb-true (steps_apart s t) 1 near in
     let files = eqb-true (files_apart s t) 2 two in
     omega arith
@@ -78,7 +79,7 @@ castled q m man may h =
     let both = and_parts (is_man q.side King (man_at q.men m.from)) (files_apart m.from m.to == 2) h in
     let king = kind_told q.side King (man_at q.men m.from) man may.found both.0 in
     elim (king_goes_so q m.from m.to (ap (λ k. goes q k m.from m.to) (sym king) ∙ may.goes)) [
-      | inl near ↦ absurd (one_step q.side m.from m.to near both.1)
+      | inl near ↦ absurd (not_two_files q.side m.from m.to near both.1)
       | inr x ↦ elim x [
         | inl short ↦ inl (short_tests q m.from m.to short).two_files
         | inr long ↦ inr (long_tests q m.from m.to long).two_files

@@ -1,5 +1,6 @@
 -- A threat is found by the tests, and what they find is one.
 use Rattle.std.proofs.Common.{◌≡◌, ◌≢◌, ℕ, ◌<◌, Bool, true, false, not, ◌&&◌, ◌||◌, ◌==◌, if◌then◌else◌, List, length, Option, refl, ap, sym, subst, ◌∙◌, inl, inr}
+use Rattle.cha_moves.proofs.GoingLegally.{aims_at_self}
 use Rattle.std.specs.List.{list_any}
 use Rattle.std.proofs.lemmas.Bool.{and_parts, and_from, or_cases, or_left, or_right, both_ways, cases_Bool, not-true, eq-eqb, eqb-true, false_from_ne_true}
 use Rattle.cha_board.specs.declared.men.Color.{Color}
@@ -8,7 +9,6 @@ use Rattle.cha_board.specs.Men.{other_color}
 use Rattle.cha_board.specs.Squares.{squares, aims_at, steps_apart}
 use Rattle.cha_board.specs.Aims.{aims_over, is_open as is_seen}
 use Rattle.cha_board.specs.Board.{Board}
-use Rattle.mob_law.proofs.Geometry.{aims_at_self}
 use Rattle.mob_check.specs.Grounds.{has_own}
 use Rattle.cha_board.specs.SquareSets.{set_of, has_square}
 use Rattle.cha_board.proofs.SetLaws.{has-set_of}
@@ -40,7 +40,7 @@ module _ (p : Board) (r : SetRows) (w : Color) (size : length p.men ≡ 64) wher
 
   -- no man attacks the square on which it stands
   elsewhere : (k : Kind) (u t : ℕ) → u < 64 → aims_at w k u t ≡ true → u ≢ t
-  elsewhere k u t small aims e = (let P : ℕ → Type 0 = λ x. aims_at w k u x ≡ true in both_ways (aims_at w k u u) (aims_at_self w k u small) (subst P (sym e) aims))
+  elsewhere k u t small aims e = (let P : ℕ → Type 0 = λ x. aims_at w k u x ≡ true in both_ways (aims_at w k u u) (aims_at_self w k u) (subst P (sym e) aims))
 
   checks_test : (ks u : ℕ) (k : Kind) → Checks p s w ks k u → checks_as scene ks u k ≡ true
   unfolding checks_as aims_over scene_of

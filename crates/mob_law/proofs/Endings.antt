@@ -23,7 +23,8 @@ use Rattle.mob_law.specs.Reach.{steps_to}
 use Rattle.mob_law.specs.Threats.{ends_check}
 use Rattle.mob_law.proofs.Attackers.{some_attacker}
 use Rattle.cha_moves.proofs.Near.{king_aims}
-use Rattle.mob_law.proofs.Geometry.{near, aims_at_self}
+use Rattle.cha_moves.proofs.GoingLegally.{aims_at_self}
+use Rattle.mob_law.proofs.Geometry.{near}
 use Rattle.mob_law.proofs.Ways.{steps_parts, clear_over, piece_way, pawn_way, becoming, some_arrives, not_of_kind}
 
 -- The squares of a check by w's only man beside its king: that man's on s, the loser's king's on ks and the winner's on wk.
@@ -215,7 +216,7 @@ module _ (q : Board) (w : Color) (valid : IsValid q) (mate : IsMated q (other_co
       let parts = steps_parts (other_color w) man.kind n t small to steps in
       let S : Color → Type 0 = λ c. aims_at c man.kind n t ≡ true in
       let T : ℕ → Type 0 = λ x. aims_at (other_color w) man.kind n x ≡ true in
-      let apart : n ≢ t = λ e. both_ways (aims_at (other_color w) man.kind n n) (aims_at_self (other_color w) man.kind n small) (subst T (sym e) parts.0) in
+      let apart : n ≢ t = λ e. both_ways (aims_at (other_color w) man.kind n n) (aims_at_self (other_color w) man.kind n) (subst T (sym e) parts.0) in
       (subst S (sym mate.to_move) parts.0, (apart, clear_over q n t parts.1))
 
   takes : steps_to (other_color w) man.kind n s ≡ true → Reply s

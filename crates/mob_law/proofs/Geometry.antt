@@ -7,10 +7,11 @@ use Rattle.cha_board.specs.declared.men.Color.TheVariants.{White, Black}
 use Rattle.cha_board.specs.declared.men.Kind.{Kind}
 use Rattle.cha_board.specs.declared.men.Kind.TheVariants.{Pawn, Knight, Bishop, Rook, Queen, King}
 use Rattle.cha_board.specs.Board.{home_of}
-use Rattle.cha_board.specs.Squares.{squares, files_apart, ranks_apart, steps_apart, is_straight, is_diagonal, is_line, is_rank_ahead, aims_at, is_within, lies_between, between}
+use Rattle.cha_board.specs.Squares.{squares, files_apart, ranks_apart, steps_apart, is_straight, is_diagonal, is_line, aims_at, is_within, lies_between, between}
 use Rattle.cha_board.proofs.Identity.{if_at}
 use Rattle.cha_board.proofs.Scans.{all_squares_at, pair_at}
 use Rattle.cha_moves.proofs.Near.{king_aims}
+use Rattle.cha_moves.proofs.Goings.{pawn_near}
 use Rattle.mob_law.specs.Reach.{is_leaper}
 
 is_none_of : List ℕ → Bool
@@ -38,34 +39,6 @@ jump_table : list_all (λ s. list_all (jump_test s) squares) squares ≡ true
 unfolding jump_test aims_at is_none_of between lies_between is_within is_straight is_diagonal is_line steps_apart files_apart ranks_apart squares
 jump_table = refl
 
--- a pawn captures one step away
-pawn_test : Color → ℕ → ℕ → Bool
-pawn_test c s t = not (aims_at c Pawn s t) || (steps_apart s t == 1)
-
-pawn_table : (c : Color) → list_all (λ s. list_all (pawn_test c s) squares) squares ≡ true
-unfolding pawn_test aims_at is_rank_ahead steps_apart files_apart ranks_apart squares
-pawn_table White = refl
-pawn_table Black = refl
-
--- no man aims at its own square
-self_test : Color → Kind → ℕ → Bool
-self_test c k s = not (aims_at c k s s)
-
-self_table : (c : Color) (k : Kind) → list_all (self_test c k) squares ≡ true
-unfolding self_test aims_at is_rank_ahead is_straight is_diagonal is_line steps_apart files_apart ranks_apart squares
-self_table White Pawn = refl
-self_table White Knight = refl
-self_table White Bishop = refl
-self_table White Rook = refl
-self_table White Queen = refl
-self_table White King = refl
-self_table Black Pawn = refl
-self_table Black Knight = refl
-self_table Black Bishop = refl
-self_table Black Rook = refl
-self_table Black Queen = refl
-self_table Black King = refl
-
 -- what a step of one square is
 pub record Near (s t : ℕ) : Type 0 where
   pub other : s ≢ t
@@ -89,17 +62,6 @@ pub king_aims_from : (c : Color) (s t : ℕ) → (steps_apart s t == 1) ≡ true
 unfolding aims_at
 king_aims_from c s t h = h
 
--- no man aims at the square on which it stands
-pub aims_at_self : (c : Color) (k : Kind) (s : ℕ) → s < 64 → aims_at c k s s ≡ false
-unfolding self_test
-aims_at_self c k s small =
-    not-true (aims_at c k s s) (all_squares_at (self_test c k) s (self_table c k) small)
-
--- a pawn aims one step away
-pawn_near : (c : Color) (s t : ℕ) → s < 64 → t < 64 → aims_at c Pawn s t ≡ true → (steps_apart s t == 1) ≡ true
-unfolding pawn_test
-pawn_near c s t small small' aims = if_at (aims_at c Pawn s t) (steps_apart s t == 1) (pair_at (pawn_test c) (pawn_table c) s t small small') aims
-
 -- a knight jumps over nothing
 jump_clear : (c : Color) (s t : ℕ) → s < 64 → t < 64 → aims_at c Knight s t ≡ true → between s t ≡ []
 unfolding jump_test aims_at
@@ -107,7 +69,7 @@ jump_clear c s t small small' aims = none_of (between s t) (if_at (aims_at White
 
 -- whatever attacks by a step or a jump, or from a square next to its own, has nothing in its way
 pub leap_clear : (c : Color) (k : Kind) (s t : ℕ) → s < 64 → t < 64 → aims_at c k s t ≡ true → (is_leaper k || (steps_apart s t == 1)) ≡ true → between s t ≡ []
-leap_clear c Pawn s t small small' aims leap = (near s t small small' (pawn_near c s t small small' aims)).clear
+leap_clear c Pawn s t small small' aims leap = (near s t small small' (pawn_near c s t aims)).clear
 leap_clear c Knight s t small small' aims leap = jump_clear c s t small small' aims
 leap_clear c King s t small small' aims leap = (near s t small small' (king_aims c s t aims)).clear
 leap_clear c Bishop s t small small' aims leap = (near s t small small' leap).clear

@@ -20,7 +20,8 @@ use Rattle.mob_law.specs.Closed.{has_fixed_enemy, IsClosed}
 use Rattle.mob_law.proofs.Facts.{Facts}
 use Rattle.cha_board.proofs.ManTests.{other_color_of, not_of_other, same_color_from, kinds_differ}
 use Rattle.cha_moves.proofs.Near.{king_aims}
-use Rattle.mob_law.proofs.Geometry.{near, aims_at_self, leap_clear}
+use Rattle.cha_moves.proofs.GoingLegally.{aims_at_self}
+use Rattle.mob_law.proofs.Geometry.{near, leap_clear}
 use Rattle.mob_law.proofs.FixedGuards.{some_guard}
 use Rattle.mob_law.proofs.Attackers.{attacks_by, clear_near}
 use Rattle.mob_law.proofs.Standing.{fixed_stands, open_from, open_near, entry_of}
@@ -109,7 +110,7 @@ module _ (p : Board) (s : Sets) (q : Board) (origin : ℕ → ℕ) (m : Move) (m
       let own = same_color_from g.man.color (other_color q.side) g.color in
       let stood : man_at q.men f ≡ Some g.man = (facts.fixed f g.fixed).0 ∙ g.found in
       let nf : f ≢ m.from = λ e. not_of_other (other_color q.side) King (man_at q.men f) g.man stood own (rw (e, other_other) king) in
-      let nt : f ≢ m.to = λ e. both_ways (aims_at (other_color q.side) g.man.kind f m.to) (rw e (aims_at_self (other_color q.side) g.man.kind m.to step.to)) g.aims in
+      let nt : f ≢ m.to = λ e. both_ways (aims_at (other_color q.side) g.man.kind f m.to) (rw e (aims_at_self (other_color q.side) g.man.kind m.to)) g.aims in
       let now : man_at (men_moved q m) f ≡ Some g.man = moved_other q.men m.from m.to a f nf nt ∙ stood in
       let clear = clear_near (men_moved q m) f m.to (leap_clear (other_color q.side) g.man.kind f m.to some.1 step.to g.aims g.near) in
       let hit = attacks_by (men_moved q m) (other_color q.side) m.to f g.man now own g.aims clear in

@@ -19,7 +19,8 @@ use Rattle.cha_moves.proofs.Listed.{listed}
 use Rattle.cha_moves.proofs.Made.{may_gives, length-moved, moved_to, moved_from, moved_other, makes, Plainly, Passing, Shortly, Longly}
 use Rattle.mob_law.proofs.Attackers.{Attacker, some_attacker}
 use Rattle.cha_moves.proofs.Near.{king_aims}
-use Rattle.mob_law.proofs.Geometry.{aims_at_self, near}
+use Rattle.cha_moves.proofs.GoingLegally.{aims_at_self}
+use Rattle.mob_law.proofs.Geometry.{near}
 
 -- rooks and queens
 unfoldable pub is_slider : Kind → Bool
@@ -102,7 +103,7 @@ pub record Reply (q : Board) (w : Color) (k n t : ℕ) (i : Kind) : Type 0 where
 pub aims_apart : (i : Kind) (n t : ℕ) → n < 64 → aims_at White i n t ≡ true → n ≢ t
 aims_apart i n t small aims e =
     let A : ℕ → Type 0 = λ x. aims_at White i n x ≡ true in
-    both_ways (aims_at White i n n) (aims_at_self White i n small) (subst A (sym e) aims)
+    both_ways (aims_at White i n n) (aims_at_self White i n) (subst A (sym e) aims)
 
 module _ (q : Board) (w : Color) (valid : IsValid q) (mate : IsMated q (other_color w)) (k : ℕ) (small : k < 64) (king : is_man (other_color w) King (man_at q.men k) ≡ true)
     (n t : ℕ) (i : Kind) (r : Reply q w k n t i) where

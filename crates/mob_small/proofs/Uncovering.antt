@@ -17,8 +17,8 @@ use Rattle.cha_moves.specs.Moves.{is_pseudo_legal, is_en_passant, arriving, move
 use Rattle.cha_moves.proofs.Clearing.{clear_at, clear_from}
 use Rattle.cha_moves.proofs.Kept.{from_to, stays_man, short_castling, long_castling, king_place}
 use Rattle.cha_moves.proofs.Made.{Mover, may_gives, moved_to, moved_from, moved_other, makes, Plainly, Passing, Shortly, Longly}
+use Rattle.cha_moves.proofs.GoingLegally.{aims_at_self}
 use Rattle.mob_law.proofs.Attackers.{Attacker, attacks_by}
-use Rattle.mob_law.proofs.Geometry.{aims_at_self}
 use Rattle.mob_small.proofs.Scene.{non_king_man}
 use Rattle.mob_small.specs.Lone.{HasOnly, is_bishop_on}
 use Rattle.mob_small.proofs.Colors.{between_diagonal, Ray, behind_one, farther}
@@ -26,7 +26,7 @@ use Rattle.mob_small.proofs.Colors.{between_diagonal, Ray, behind_one, farther}
 -- a square does not lie between itself and another
 not_between_itself : (f k : ℕ) → f < 64 → k < 64 → is_diagonal f k ≡ true → lies_between f k f ≡ true → ⊥
 unfolding aims_at
-not_between_itself f k small small' d lies = both_ways (is_diagonal f f) (aims_at_self White Bishop f small) (between_diagonal f k f small small' d lies).0
+not_between_itself f k small small' d lies = both_ways (is_diagonal f f) (aims_at_self White Bishop f) (between_diagonal f k f small small' d lies).0
 
 -- With such bishops and a legal move:
 module _ (q : Board) (m : Move) (valid : IsValid q) (from : m.from < 64) (to : m.to < 64) (man : Man) (may : Mover q m man) (square : Color) (only : HasOnly q.men q.side (is_bishop_on square q.side)) where

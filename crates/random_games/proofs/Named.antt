@@ -27,7 +27,7 @@ use Rattle.cha_san.specs.Fitting.{is_castling, promotes_as, fits_parts, fits}
 use Rattle.cha_san.specs.Forms.{is_sign, stem, is_short, is_long, unsigned_form, form_of}
 use Rattle.cha_san.specs.Resolving.{only, resolved}
 use Rattle.cha_san.proofs.Resolved.{answers_resolved}
-use Rattle.cha_san.proofs.Sourced.{one_step}
+use Rattle.cha_san.proofs.Sourced.{not_two_files}
 use Rattle.random_games.specs.Words.{kind_text, man_text, castling_text, plain_text, move_word}
 use Rattle.cha_moves.proofs.LegalApart.{legal_apart}
 use Rattle.cha_moves.proofs.Apart.{filtered_apart}
@@ -85,7 +85,7 @@ castles q m there h =
       | inr x ↦ x.0
     ] in
     elim (three_ways (aims_at q.side King m.from m.to) (is_short_castling q m.from m.to) (is_long_castling q m.from m.to) way) [
-      | inl a ↦ absurd (one_step q.side m.from m.to a both.1)
+      | inl a ↦ absurd (not_two_files q.side m.from m.to a both.1)
       | inr x ↦ elim x [
         | inl b ↦ (let tests = short_tests q m.from m.to b in record { from_home = tests.from_home; none = none; side = inl tests.two_files })
         | inr c ↦ (let tests = long_tests q m.from m.to c in record { from_home = tests.from_home; none = none; side = inr tests.two_files })

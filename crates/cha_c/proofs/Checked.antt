@@ -35,9 +35,6 @@ module _ (words : List (String Global)) (text source left : List ℕ) (old new :
   pub accepted : status ≡ Done → IsAccepted CheckCert text
   accepted done = let e = ended Done done in subst (IsAccepted CheckCert) (taken_whole source left e.0 e.1 e.2 ∙ same) e.3
 
-  pub refused : status ≡ NotAccepted → IsAccepted CheckCert text → ⊥
-  refused not valid = let e = ended NotAccepted not in e.3 (subst (IsAccepted CheckCert) (sym (taken_whole source left e.0 e.1 e.2 ∙ same)) valid)
-
   pub lawful : (P : List ℕ → Type 0) → (status ≡ Done → order words ≡ Some CheckCert → Took (Some source) (Some left) P) → status ≡ Done → P text
   lawful P law done =
       let e = ended Done done in

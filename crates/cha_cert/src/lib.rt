@@ -2,14 +2,14 @@
 //!
 //! `nodes` has the certificate, `indexing` where positions stand in it, `checking` the check, and `law` what a valid
 //! certificate means. `shared` has the certificate in which equal sets are written once, `sharing` the way there and back,
-//! with `same`, and `shared_checking` its check.
+//! with `equal_sets`, and `shared_checking` its check.
 #![tactic(auto)]
 
 mod checking;
+mod equal_sets;
 mod indexing;
 mod law;
 mod nodes;
-mod same;
 mod shared;
 mod shared_checking;
 mod sharing;

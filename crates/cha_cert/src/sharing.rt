@@ -5,8 +5,8 @@ ghost use Rattle.cha_cert.specs.declared.nodes.Node.{Node as CertNode};
 ghost use Rattle.cha_cert.specs.declared.nodes.Part.TheVariants.{Inner as CertInner, Leaf as CertLeaf, Small as CertSmall, Lone as CertLone};
 ghost use Rattle.cha_cert.specs.Shared.{Names, AreInOrder, Shares, IsAt, expansion, part_of, number_in, part_added, shared_of};
 
+use crate::equal_sets::same_sets;
 use crate::nodes::{Cert, Node, Part};
-use crate::same::same_sets;
 use crate::shared::{SharedCert, SharedNode, SharedPart};
 use cha_board::Kept;
 use cha_list::NoMemory;

@@ -19,7 +19,7 @@ use Rattle.node_store.specs.Nodes.{Node, positions, origins, mark, IsAt}
 use Rattle.node_store.specs.Graphs.{HasOrigin, IsStore}
 use Rattle.node_store.proofs.Marking.{same_positions, same_length, at_marked, at_unmarked}
 use Rattle.node_store.proofs.Paths.{at_within}
-use Rattle.forced_graph.specs.Counts.{how_many}
+use Rattle.forced_graph.specs.HowManyWait.{how_many}
 use Rattle.forced_graph.specs.Grown.{IsGrown}
 use Rattle.forced_graph.specs.Regions.{Waits, IsLeaf, IsLeafPart, IsOpen, IsSettled, AreLed, AreExpanded, IsMap, Between, Popped, Expanding}
 use Rattle.forced_graph.proofs.Waiting.{none_waits, fewer_wait, first_waits, waits_on, waited, waits_nowhere, put_waits}

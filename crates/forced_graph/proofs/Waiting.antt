@@ -4,7 +4,7 @@ use Rattle.std.proofs.lemmas.Option.{same_Some}
 use Rattle.node_store.specs.NameLists.{list_at, Has, put, first_name, without_first}
 use Rattle.node_store.proofs.Naming.{at_set, at_set_same, has_cases, has_none, has_front}
 use Rattle.forced_graph.specs.Regions.{Waits}
-use Rattle.forced_graph.specs.Counts.{how_many}
+use Rattle.forced_graph.specs.HowManyWait.{how_many}
 
 has_later : (x : ℕ) (xs : List ℕ) (n : ℕ) → Has xs n → Has (x ∷ xs) n
 unfolding Has

@@ -3,4 +3,4 @@ pub mod Outcomes
 -- inside the crate
 pub mod Grown
 pub mod Regions
-pub mod Counts
+pub mod HowManyWait

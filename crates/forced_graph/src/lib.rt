@@ -2,12 +2,12 @@
 //! positions were expanded as are allowed.
 //!
 //! `explored` has what an exploration answers, `region` the positions that were met, `lasting` the moves after which a
-//! position is looked at by its material and its sets, `taking` how the next one is taken, `expanding` how it is expanded, `closing` the
-//! certificate of a whole region, `known` what a place that keeps facts knows, `exploring` the exploration, and
-//! `table_exploring` the same at a table of facts.
+//! position is looked at by its material and its sets, `taking` how the next one is taken, `expanding` how it is
+//! expanded, `certified` the certificate of a whole region, `known` what a place that keeps facts knows, `exploring`
+//! the exploration, and `table_exploring` the same at a table of facts.
 #![tactic(auto)]
 
-mod closing;
+mod certified;
 mod expanding;
 mod explored;
 mod exploring;

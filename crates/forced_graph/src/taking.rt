@@ -3,7 +3,7 @@
 ghost use Rattle.std.specs.Prelude.{◌≡◌, ◌<◌, [], length, IfOk, IfSome, IfNone};
 ghost use Rattle.node_store.specs.NameLists.{list_at, Has};
 ghost use Rattle.forced_graph.specs.Regions.{IsBetween, IsPopped, IsExpanding, IsDone, IsLeafPart, IsOpen, IsSameTask};
-ghost use Rattle.forced_graph.specs.Counts.{how_many};
+ghost use Rattle.forced_graph.specs.HowManyWait.{how_many};
 
 use crate::lasting::is_lasting;
 use crate::region::Region;

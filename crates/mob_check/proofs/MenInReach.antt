@@ -19,7 +19,7 @@ use Rattle.mob_check.specs.Grounds.{has_own}
 use Rattle.mob_law.specs.Threats.{KingOn, NonKingOn, HasAtMostOneMan, MayStandNear}
 use Rattle.mob_sets.specs.Rows.{Row, SetRows, is_entry, has_entry, sets_of}
 use Rattle.cha_board.proofs.Identity.{same_kind_self, same_kind_equal}
-use Rattle.mob_sets.proofs.Entries.{entry_parts, entry_from}
+use Rattle.mob_sets.proofs.RowsShow.{entry_parts, entry_from}
 use Rattle.mob_check.specs.declared.groups.Group.{Group}
 use Rattle.mob_check.specs.declared.groups.Group.TheVariants.{KingOf, MenOf, MenAs}
 use Rattle.mob_check.specs.Nearness.{next_to}

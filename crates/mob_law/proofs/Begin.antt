@@ -3,7 +3,7 @@ use Rattle.std.proofs.Common.{refl, inl}
 use Rattle.cha_board.specs.Board.{Board}
 use Rattle.mob_sets.specs.Mobility.{Sets}
 use Rattle.mob_law.specs.Closed.{IsClosed}
-use Rattle.mob_law.proofs.Facts.{FactsHold, AtFirst}
+use Rattle.mob_law.proofs.CarriedFacts.{FactsHold, AtFirst}
 
 pub facts_begin : (p : Board) (s : Sets) → IsClosed p s → FactsHold p s p
 facts_begin p s closed = (

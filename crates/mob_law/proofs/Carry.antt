@@ -12,7 +12,7 @@ use Rattle.cha_moves.specs.Moves.{second_rank, is_target}
 use Rattle.mob_law.specs.Reach.{is_fixed}
 use Rattle.mob_sets.specs.Mobility.{Sets}
 use Rattle.cha_moves.proofs.Kept.{Becomes}
-use Rattle.mob_law.proofs.Facts.{Passed, Facts}
+use Rattle.mob_law.proofs.CarriedFacts.{Passed, Facts}
 
 -- the man that stands on u after a move stood on v before it, and what it is now is in reach on u
 pub record Comes (s : Sets) (q : Board) (origin : ℕ → ℕ) (man : Man) (u v : ℕ) : Type 0 where

@@ -17,7 +17,7 @@ use Rattle.cha_moves.proofs.Validity.{Castled, KingHere, RookHere, Others, castl
 use Rattle.mob_law.specs.Reach.{is_fixed}
 use Rattle.mob_sets.specs.Mobility.{Sets}
 use Rattle.mob_law.specs.Closed.{Castles, IsClosed}
-use Rattle.mob_law.proofs.Facts.{Facts, FactsHold}
+use Rattle.mob_law.proofs.CarriedFacts.{Facts, FactsHold}
 use Rattle.mob_law.proofs.Standing.{loose_unfixed, empty_not_fixed}
 use Rattle.mob_law.proofs.Carry.{Comes, Carries, carried}
 use Rattle.mob_law.proofs.OneMan.{apart_fixed, target_now}

@@ -10,7 +10,7 @@ use Rattle.cha_board.specs.Board.{Board, man_at, IsValid}
 use Rattle.cha_board.proofs.Identity.{on_board}
 use Rattle.mob_sets.specs.Mobility.{Sets}
 use Rattle.mob_law.specs.Threats.{MayStandNear}
-use Rattle.mob_law.proofs.Facts.{Facts}
+use Rattle.mob_law.proofs.CarriedFacts.{Facts}
 use Rattle.mob_law.proofs.Standing.{origin_is_non_king}
 
 -- a man of c other than the king stands on n, next to ks

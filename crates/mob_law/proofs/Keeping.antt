@@ -11,7 +11,7 @@ use Rattle.cha_board.proofs.Identity.{same_kind_equal, one_kind}
 use Rattle.cha_moves.proofs.Made.{may_gives, Step, makes, Plainly, Passing, Shortly, Longly}
 use Rattle.mob_sets.specs.Mobility.{Sets}
 use Rattle.mob_law.specs.Closed.{IsClosed}
-use Rattle.mob_law.proofs.Facts.{Facts, FactsHold}
+use Rattle.mob_law.proofs.CarriedFacts.{Facts, FactsHold}
 use Rattle.mob_law.proofs.Carry.{carried}
 use Rattle.mob_law.proofs.OneMan.{back, Lands, one_moved, one_carries}
 use Rattle.mob_law.proofs.PieceMoves.{piece_lands}

@@ -11,7 +11,7 @@ use Rattle.mob_sets.specs.Mobility.{Sets}
 use Rattle.mob_law.specs.Closed.{IsClosed}
 use Rattle.mob_law.specs.Threats.{HasNoMate}
 use Rattle.mob_law.specs.Static.{IsStaticallyUnwinnable}
-use Rattle.mob_law.proofs.Facts.{FactsHold}
+use Rattle.mob_law.proofs.CarriedFacts.{FactsHold}
 use Rattle.mob_law.proofs.Begin.{facts_begin}
 use Rattle.mob_law.proofs.Keeping.{facts_kept}
 use Rattle.mob_law.proofs.Mating.{mate_threatens}

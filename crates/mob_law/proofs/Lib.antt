@@ -1,4 +1,4 @@
-pub mod Facts
+pub mod CarriedFacts
 pub mod Geometry
 pub mod Attackers
 pub mod Standing

@@ -19,7 +19,7 @@ use Rattle.cha_moves.proofs.KingSquare.{king_stands}
 use Rattle.mob_law.specs.Reach.{is_fixed, is_open_through}
 use Rattle.mob_sets.specs.Mobility.{Sets}
 use Rattle.mob_law.specs.Threats.{HasAtMostOneMan, Checks, ends_check, Covered, Blocked, NextToKing, Attacked, Threat}
-use Rattle.mob_law.proofs.Facts.{Facts, FactsHold}
+use Rattle.mob_law.proofs.CarriedFacts.{Facts, FactsHold}
 use Rattle.cha_board.proofs.ManTests.{either_color, not_of_other, is_non_king_from}
 use Rattle.cha_moves.proofs.Near.{king_aims}
 use Rattle.mob_law.proofs.Geometry.{near, king_aims_from}

@@ -17,7 +17,7 @@ use Rattle.cha_moves.proofs.Validity.{one_stands, double_step, no_second, short_
 use Rattle.mob_law.specs.Reach.{is_fixed}
 use Rattle.mob_sets.specs.Mobility.{Sets}
 use Rattle.mob_law.specs.Closed.{IsClosed}
-use Rattle.mob_law.proofs.Facts.{Passed, JustNow, Facts}
+use Rattle.mob_law.proofs.CarriedFacts.{Passed, JustNow, Facts}
 use Rattle.mob_law.proofs.Standing.{fixed_stands, empty_not_fixed}
 use Rattle.mob_law.proofs.Carry.{Comes, Carries}
 

@@ -18,7 +18,7 @@ use Rattle.cha_moves.proofs.Validity.{step_tests, double_step, pawn_way, Steps, 
 use Rattle.mob_law.specs.Reach.{is_fixed}
 use Rattle.mob_sets.specs.Mobility.{Sets}
 use Rattle.mob_law.specs.Closed.{Entry, Enters, PawnCaptures, IsClosed}
-use Rattle.mob_law.proofs.Facts.{Passed, AtFirst, JustNow, Facts}
+use Rattle.mob_law.proofs.CarriedFacts.{Passed, AtFirst, JustNow, Facts}
 use Rattle.mob_law.proofs.Standing.{loose_unfixed, empty_not_fixed, origin_is_non_king, entry_of}
 use Rattle.mob_law.proofs.OneMan.{Lands}
 use Rattle.mob_law.proofs.PieceMoves.{enemy_there, spared}

@@ -17,7 +17,7 @@ use Rattle.cha_moves.proofs.Kept.{stays_man, kings_kept, king_place}
 use Rattle.mob_law.specs.Reach.{is_fixed, is_open, is_guarded}
 use Rattle.mob_sets.specs.Mobility.{Sets}
 use Rattle.mob_law.specs.Closed.{has_fixed_enemy, IsClosed}
-use Rattle.mob_law.proofs.Facts.{Facts}
+use Rattle.mob_law.proofs.CarriedFacts.{Facts}
 use Rattle.cha_board.proofs.ManTests.{other_color_of, not_of_other, same_color_from, kinds_differ}
 use Rattle.cha_moves.proofs.Near.{king_aims}
 use Rattle.cha_moves.proofs.GoingLegally.{aims_at_self}

@@ -15,7 +15,7 @@ use Rattle.mob_sets.specs.Mobility.{Sets}
 use Rattle.mob_law.specs.Closed.{Entry}
 use Rattle.mob_law.specs.Threats.{KingOn, NonKingOn}
 use Rattle.cha_moves.proofs.Kept.{Becomes}
-use Rattle.mob_law.proofs.Facts.{Facts}
+use Rattle.mob_law.proofs.CarriedFacts.{Facts}
 use Rattle.cha_board.proofs.Identity.{man_of, is_man_from, on_board}
 use Rattle.cha_board.proofs.ManTests.{is_non_king_from}
 

@@ -8,7 +8,7 @@ use Rattle.mob_sets.specs.Rows.{Row, SetRows, is_entry, has_entry, sets_of, plac
 use Rattle.mob_sets.specs.Tidy.{AreTidy, IsFull}
 use Rattle.mob_sets.proofs.Order.{place_tells}
 use Rattle.cha_board.proofs.Contents.{in_empty}
-use Rattle.mob_sets.proofs.Entries.{entry_parts, shown_there, shown_nowhere}
+use Rattle.mob_sets.proofs.RowsShow.{entry_parts, shown_there, shown_nowhere}
 
 none_more : (xs : List Bool) → ((u : ℕ) → has_square xs u ≡ false) → (u : ℕ) → has_square (false ∷ xs) u ≡ false
 none_more xs none zero = refl

@@ -17,7 +17,7 @@ use Rattle.mob_sets.specs.Tidy.{AreTidy, IsFull, IsThere, IsMissing}
 use Rattle.mob_sets.proofs.Order.{place_tells}
 use Rattle.cha_board.proofs.Contents.{in_empty, has-set_with, has-set_joined}
 use Rattle.mob_sets.specs.Mobility.{Sets}
-use Rattle.mob_sets.proofs.Entries.{any_replaced, any_inserted, shared}
+use Rattle.mob_sets.proofs.RowsShow.{any_replaced, any_inserted, shared}
 use Rattle.mob_sets.proofs.Keeping.{inserted_tidy, place_kept}
 
 joined_row : (row : Row) (o : ℕ) (k : Kind) (more : List Bool) (p : ℕ) (j : Kind) (v : ℕ) → length row.squares ≡ 64 → length more ≡ 64 → row.origin ≡ o → row.kind ≡ k

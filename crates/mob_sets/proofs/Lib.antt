@@ -1,5 +1,5 @@
 pub mod Order
-pub mod Entries
+pub mod RowsShow
 pub mod Keeping
 pub mod Canonical
 pub mod KindTests

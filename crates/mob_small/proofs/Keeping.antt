@@ -16,7 +16,7 @@ use Rattle.cha_moves.specs.Moves.{after}
 use Rattle.cha_moves.specs.Ends.{IsMated, IsUnwinnable}
 use Rattle.mob_law.specs.Closed.{IsClosed}
 use Rattle.mob_law.proofs.Begin.{facts_begin}
-use Rattle.mob_law.proofs.Facts.{Facts, FactsHold}
+use Rattle.mob_law.proofs.CarriedFacts.{Facts, FactsHold}
 use Rattle.mob_small.specs.Small.{HasNoPawn, HasOnlyKing, HasBeside, IsMateFree, IsSmallUnwinnable}
 use Rattle.mob_small.specs.MateFreeKinds.{is_free}
 use Rattle.mob_small.proofs.NoMate.{free_mates_not}

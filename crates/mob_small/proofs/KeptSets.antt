@@ -19,7 +19,7 @@ use Rattle.mob_sets.specs.Mobility.{Sets}
 use Rattle.mob_law.specs.Closed.{has_fixed_enemy, IsClosed}
 use Rattle.mob_law.specs.Reach.{is_fixed}
 use Rattle.mob_law.proofs.CastlingFollows.{follows}
-use Rattle.mob_law.proofs.Facts.{Facts, FactsHold}
+use Rattle.mob_law.proofs.CarriedFacts.{Facts, FactsHold}
 use Rattle.mob_law.proofs.Keeping.{facts_kept}
 use Rattle.mob_law.proofs.Standing.{loose_unfixed}
 use Rattle.mob_small.specs.Small.{HasOneBeside}

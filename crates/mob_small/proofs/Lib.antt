@@ -8,7 +8,7 @@ pub mod KeptSets
 pub mod Keeping
 pub mod Witnesses
 pub mod Exactness
-pub mod Sets
+pub mod SetsOfMen
 pub mod Colors
 pub mod Uncovering
 pub mod Knights

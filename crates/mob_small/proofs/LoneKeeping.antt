@@ -15,7 +15,7 @@ use Rattle.cha_moves.specs.Moves.{men_after, after}
 use Rattle.cha_moves.specs.Ends.{IsMated, IsUnwinnable}
 use Rattle.cha_moves.proofs.Listed.{IsListed}
 use Rattle.mob_law.proofs.Begin.{facts_begin}
-use Rattle.mob_law.proofs.Facts.{Facts, FactsHold}
+use Rattle.mob_law.proofs.CarriedFacts.{Facts, FactsHold}
 use Rattle.mob_law.proofs.Mating.{mate_threatens}
 use Rattle.mob_small.specs.Small.{HasOneBeside}
 use Rattle.mob_small.proofs.Scene.{here, facts_here, non_king_stands, non_king_of}

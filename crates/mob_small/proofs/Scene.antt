@@ -15,7 +15,7 @@ use Rattle.cha_moves.proofs.Kept.{king_place}
 use Rattle.mob_sets.specs.Mobility.{Sets}
 use Rattle.mob_law.specs.Reach.{is_fixed}
 use Rattle.mob_law.specs.Threats.{KingOn, NonKingOn, Covered, Blocked, NextToKing, Attacked}
-use Rattle.mob_law.proofs.Facts.{FactsHold, AtFirst}
+use Rattle.mob_law.proofs.CarriedFacts.{FactsHold, AtFirst}
 use Rattle.mob_law.proofs.Mating.{mate_threatens}
 use Rattle.mob_law.proofs.Standing.{loose_unfixed}
 use Rattle.mob_small.specs.Small.{HasOnlyKing, HasOneBeside}

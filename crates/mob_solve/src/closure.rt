@@ -5,9 +5,9 @@ ghost use Rattle.mob_sets.specs.Rows.{sets_of};
 ghost use Rattle.mob_solve.specs.Least.{IsLeast};
 ghost use Rattle.mob_solve.specs.Reaching.{sets_in};
 
-use crate::entries::entered_sets;
-use crate::passes::pass;
+use crate::entering::entered_sets;
 use crate::reach::Reach;
+use crate::rule_passes::pass;
 use cha_board::Position;
 use cha_list::NoMemory;
 use mob_sets::Sets;

@@ -1,17 +1,17 @@
 //! The least closed sets of a position, and whether any closed sets show that a side cannot win.
 //!
 //! `reach` has the sets as they grow, `reached` the ground that they make, `filling` squares filled by steps, `man_rules`
-//! the rules for a man, `passes` all of them in turn, `closure` the least closed sets, `entries` how they are handed out, and
-//! `verdicts` what they show.
+//! the rules for a man, `rule_passes` all of them in turn, `closure` the least closed sets, `entering` how they are
+//! handed out, and `verdicts` what they show.
 #![tactic(auto)]
 
 mod closure;
-mod entries;
+mod entering;
 mod filling;
 mod man_rules;
-mod passes;
 mod reach;
 mod reached;
+mod rule_passes;
 mod verdicts;
 
 pub use closure::least;

@@ -1,8 +1,8 @@
 //! The tokens of a text of chess games in PGN, of any bytes whatever.
 //!
-//! `classes` has the bytes that PGN names, `kinds` the tokens, `reading` goes from piece to piece, `rules` is the table of what begins a piece, and
-//! `comments`, `word_tokens`, `tags` and `tag_values` have one function for each rule; `pieces` has what these give,
-//! and `order` the law of the places of tokens.
+//! `classes` has the bytes that PGN names, `kinds` the tokens, `reading` goes from piece to piece, `piece_rules` is the
+//! table of what begins a piece, and `comments`, `word_tokens`, `tags` and `tag_values` have one function for each
+//! rule; `pieces` has what these give, and `order` the law of the places of tokens.
 //!
 //! `machine` is the lexer that takes single bytes, over `stages`, what each byte does, and `saying`, the tokens of pieces that
 //! ended; `history` tells contracts what was fed, and `settling` has the law of the tokens that are known before the rest.
@@ -14,9 +14,9 @@ mod history;
 mod kinds;
 mod machine;
 mod order;
+mod piece_rules;
 mod pieces;
 mod reading;
-mod rules;
 mod saying;
 mod settling;
 mod stages;

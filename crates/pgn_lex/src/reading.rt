@@ -5,7 +5,7 @@ ghost use Rattle.std.specs.Bool.{OnTrue};
 ghost use Rattle.pgn_lex.specs.Tokens.{placed, has_mark, tokens};
 
 use crate::kinds::{Placed, Token};
-use crate::rules::piece_at;
+use crate::piece_rules::piece_at;
 use cha_list::{ByteClass, Class, NoMemory};
 use std::alloc::Global;
 

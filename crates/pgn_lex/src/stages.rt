@@ -4,7 +4,7 @@ ghost use Rattle.std.specs.Prelude.{◌≡◌, ◌==◌};
 ghost use Rattle.pgn_lex.specs.Stages.{begun, spoils, after_part, run_on, in_value, past_backslash, next_stage};
 
 use crate::classes::PgnClass;
-use crate::rules::white;
+use crate::piece_rules::white;
 use cha_list::{ByteClass, Class};
 
 /// What a lexer has read last.

@@ -3,8 +3,8 @@
 ghost use Rattle.std.specs.Prelude.{◌+◌, ◌≤◌};
 
 use crate::army::{Army, color_of};
+use crate::king_walks::steps_to_nearest;
 use crate::pawns::ranks_to_promotion;
-use crate::reach::steps_to_nearest;
 use cha_board::{Color, Kind, Square, SquareSet, aims_alone, steps_between};
 
 /// What each king's step of the loser's king to the corner counts.

@@ -3,8 +3,8 @@
 ghost use Rattle.std.specs.Prelude.{◌≤◌};
 
 use crate::army::Army;
+use crate::king_walks::region;
 use crate::pawns::{LONGEST_WAY, least_way};
-use crate::reach::region;
 use cha_board::SquareSet;
 
 /// What it counts that there are rooks and no queen.

@@ -3,7 +3,7 @@
 ghost use Rattle.std.specs.Prelude.{◌<◌, ◌≤◌, IfSome};
 
 use crate::army::{Army, color_of};
-use crate::reach::steps_to_nearest;
+use crate::king_walks::steps_to_nearest;
 use cha_board::{Color, Square, SquareSet, squares_between};
 use cha_moves::promotion_rank;
 

@@ -6,5 +6,5 @@ mod Staying
 mod Turning
 mod PassAt
 mod Eights
-pub mod Made
+pub mod OneEntry
 pub mod Sending

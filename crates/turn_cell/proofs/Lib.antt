@@ -8,5 +8,5 @@ mod Serving
 mod Splitting
 mod Joining
 mod Meeting
-mod Closing
+mod OnePassLeft
 pub mod Sending

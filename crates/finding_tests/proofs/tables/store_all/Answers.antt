@@ -1,5 +1,5 @@
 use Rattle.std.proofs.Common.{arith}
-use Rattle.shard_table.proofs.Made.{first_both}
+use Rattle.shard_table.proofs.OneEntry.{first_both}
 use Rattle.finding_tests.proofs.tables.store_all.Goals as goal
 
 pub loop-number-preserved : goal.loop-number-preserved

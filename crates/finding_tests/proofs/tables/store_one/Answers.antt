@@ -1,4 +1,4 @@
-use Rattle.shard_table.proofs.Made.{first_both, makes_first}
+use Rattle.shard_table.proofs.OneEntry.{first_both, makes_first}
 use Rattle.finding_tests.proofs.tables.store_one.Goals as goal
 
 pub returns-in-Some-known_at-clause-first : goal.returns-in-Some-known_at-clause-first

@@ -2,7 +2,7 @@ use Rattle.std.proofs.Common.{sym, ap, ◌∙◌}
 use Rattle.cha_board.specs.SquareSets.{set_of}
 use Rattle.cha_board.proofs.SetLaws.{length-set_of, has-set_of, same_set, same_squares}
 use Rattle.mob_sets.specs.Rows.{Row, has_entry}
-use Rattle.mob_sets.proofs.Entries.{shown_there, shown_nowhere}
+use Rattle.mob_sets.proofs.RowsShow.{shown_there, shown_nowhere}
 use Rattle.mob_sets.proofs.tidy_rows.row_of.Goals as goal
 
 pub returns-in-Ok : goal.returns-in-Ok

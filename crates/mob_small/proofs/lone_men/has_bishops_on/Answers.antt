@@ -3,7 +3,7 @@ use Rattle.std.proofs.Common.{◌↔◌, IsTrue, subst}
 use Rattle.std.proofs.lemmas.Bool.{both_ways}
 use Rattle.cha_board.specs.declared.men.Color.{Color}
 use Rattle.mob_small.specs.Lone.{HasOnly, is_bishop_on, is_heavy_or_bishop_on}
-use Rattle.mob_small.proofs.Sets.{only_within}
+use Rattle.mob_small.proofs.SetsOfMen.{only_within}
 use Rattle.mob_small.proofs.lone_men.has_bishops_on.Goals as goal
 
 pub returns-then-within : goal.returns-then-within

@@ -1,5 +1,5 @@
 -- One of the two colours of squares.
-use Rattle.mob_small.proofs.Sets.{either_square}
+use Rattle.mob_small.proofs.SetsOfMen.{either_square}
 use Rattle.mob_small.proofs.lone_men.has_one_color.Goals as goal
 
 pub returns-else-has_bishops_on : goal.returns-else-has_bishops_on

@@ -1,7 +1,7 @@
 -- One knight beside the king.
 use Rattle.std.proofs.Common.{sym, ◌∙◌}
 use Rattle.cha_board.specs.declared.men.Kind.TheVariants.{Knight}
-use Rattle.mob_small.proofs.Sets.{no_one, one_alone}
+use Rattle.mob_small.proofs.SetsOfMen.{no_one, one_alone}
 use Rattle.mob_small.proofs.lone_men.has_one_knight.Goals as goal
 
 pub returns-in-None : goal.returns-in-None

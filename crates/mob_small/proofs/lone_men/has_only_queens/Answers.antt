@@ -1,6 +1,6 @@
 -- Only queens beside the king.
 use Rattle.mob_small.specs.Lone.{is_queen}
-use Rattle.mob_small.proofs.Sets.{only_within}
+use Rattle.mob_small.proofs.SetsOfMen.{only_within}
 use Rattle.mob_small.proofs.lone_men.has_only_queens.Goals as goal
 
 pub returns : goal.returns

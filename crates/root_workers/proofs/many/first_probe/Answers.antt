@@ -3,7 +3,7 @@ use Rattle.std.proofs.lemmas.List.{length-set}
 use Rattle.cha_fact.specs.declared.calls.FactCall.TheVariants.{Probe as Asked}
 use Rattle.cha_fact.specs.declared.calls.FactReply.TheVariants.{Probed}
 use Rattle.cha_fact.specs.Entries.{probe_entry}
-use Rattle.shard_table.proofs.Made.{turn_makes}
+use Rattle.shard_table.proofs.OneEntry.{turn_makes}
 use Rattle.root_workers.proofs.Crewing.{first_makes}
 use Rattle.root_workers.proofs.many.first_probe.Goals as goal
 

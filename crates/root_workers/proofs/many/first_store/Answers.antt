@@ -3,7 +3,7 @@ use Rattle.std.proofs.lemmas.List.{length-set}
 use Rattle.cha_fact.specs.declared.calls.FactCall.TheVariants.{Store}
 use Rattle.cha_fact.specs.declared.calls.FactReply.TheVariants.{Stored as StoredAs}
 use Rattle.cha_fact.specs.Entries.{store_entry}
-use Rattle.shard_table.proofs.Made.{turn_makes}
+use Rattle.shard_table.proofs.OneEntry.{turn_makes}
 use Rattle.root_workers.proofs.Crewing.{first_makes}
 use Rattle.root_workers.proofs.many.first_store.Goals as goal
 

@@ -1,6 +1,6 @@
 use Rattle.std.proofs.Common.{◌∙◌, subst, ap}
 use Rattle.shard_table.specs.Tables.{TakesTurn, OthersStay, shard_number}
-use Rattle.shard_table.proofs.Made.{turn_first}
+use Rattle.shard_table.proofs.OneEntry.{turn_first}
 use Rattle.shard_table.proofs.turns.turn.Goals as goal
 
 pub returns-clause-turned : goal.returns-clause-turned

@@ -1,5 +1,5 @@
 use Rattle.forced_graph.specs.Regions.{IsBetween, IsSameTask}
-use Rattle.forced_graph.specs.Counts.{how_many}
+use Rattle.forced_graph.specs.HowManyWait.{how_many}
 use Rattle.forced_graph.proofs.region.Region.next.Given as goal
 
 abbrev pub invariant-loop-name : goal.invariant-loop-name

@@ -1,7 +1,7 @@
 use Rattle.std.proofs.Common.{refl}
 use Rattle.cha_fact.specs.declared.calls.FactCall.TheVariants.{Probe as Asked}
 use Rattle.cha_fact.specs.declared.calls.FactReply.TheVariants.{Probed}
-use Rattle.shard_table.proofs.Made.{turn_makes}
+use Rattle.shard_table.proofs.OneEntry.{turn_makes}
 use Rattle.shard_table.proofs.table_place.TableFactsFacts.probe.Goals as goal
 
 pub returns-clause-entered : goal.returns-clause-entered

@@ -1,7 +1,7 @@
 use Rattle.std.proofs.Common.{refl}
 use Rattle.cha_fact.specs.declared.calls.FactCall.TheVariants.{Store}
 use Rattle.cha_fact.specs.declared.calls.FactReply.TheVariants.{Stored as StoredAs}
-use Rattle.shard_table.proofs.Made.{turn_makes}
+use Rattle.shard_table.proofs.OneEntry.{turn_makes}
 use Rattle.shard_table.proofs.table_place.TableFactsFacts.store.Goals as goal
 
 pub returns-clause-entered : goal.returns-clause-entered

@@ -1,7 +1,7 @@
 use Rattle.std.proofs.Common.{◌≡◌, ◌∙◌, sym, ap, subst, arith, is_some}
 use Rattle.std.proofs.lemmas.Option.{same_Some}
 use Rattle.turn_cell.specs.Histories.{IsLegalHistory}
-use Rattle.turn_cell.proofs.Closing.{closed_held}
+use Rattle.turn_cell.proofs.OnePassLeft.{closed_held}
 use Rattle.turn_cell.proofs.cells.TurnCell.close.Goals as goal
 
 pub value_of-requires : goal.value_of-requires

@@ -4,8 +4,8 @@ use Rattle.cha_board.specs.Board.{man_at}
 use Rattle.mob_solve.specs.Reaching.{Grew}
 use Rattle.mob_solve.proofs.Reaches.{grew_yes, grew_no, grew_none}
 use Rattle.mob_solve.proofs.RowRules.{man_before}
-use Rattle.mob_solve.proofs.passes.grow_men.Goals as goal
-use Rattle.mob_solve.proofs.passes.grow_men.Goals.{then-grow_on, else-grow_on}
+use Rattle.mob_solve.proofs.rule_passes.grow_men.Goals as goal
+use Rattle.mob_solve.proofs.rule_passes.grow_men.Goals.{then-grow_on, else-grow_on}
 
 pub loop-index-init : goal.loop-index-init
 loop-index-init c = record {

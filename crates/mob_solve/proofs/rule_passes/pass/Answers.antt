@@ -2,7 +2,7 @@ use Rattle.cha_board.proofs.Identity.{on_board}
 use Rattle.mob_solve.specs.Reaching.{sets_in}
 use Rattle.mob_check.proofs.Grounded.{all_forced}
 use Rattle.mob_check.proofs.RulesClose.{rules_close}
-use Rattle.mob_solve.proofs.passes.pass.Goals as goal
+use Rattle.mob_solve.proofs.rule_passes.pass.Goals as goal
 
 pub returns-clause-closed : goal.returns-clause-closed
 returns-clause-closed c = λ last.

@@ -1,7 +1,7 @@
 use Rattle.std.proofs.Common.{◌≡◌, ◌+◌, ◌++◌, length, drop}
 use Rattle.node_store.specs.Nodes.{positions}
 use Rattle.forced_graph.specs.Regions.{certified}
-use Rattle.forced_graph.proofs.closing.nodes_of.Given as goal
+use Rattle.forced_graph.proofs.certified.nodes_of.Given as goal
 
 abbrev pub invariant-loop-part : goal.invariant-loop-part
 invariant-loop-part l = record {

@@ -4,7 +4,7 @@ use Rattle.cha_cert.specs.declared.nodes.Part.{Part}
 use Rattle.node_store.specs.Nodes.{positions}
 use Rattle.forced_graph.specs.Regions.{certified}
 use Rattle.forced_graph.proofs.Certifying.{next_node, all_nodes}
-use Rattle.forced_graph.proofs.closing.nodes_of.Goals as goal
+use Rattle.forced_graph.proofs.certified.nodes_of.Goals as goal
 
 pub loop-part-init : goal.loop-part-init
 loop-part-init c =

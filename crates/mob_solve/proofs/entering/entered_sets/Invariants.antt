@@ -3,7 +3,7 @@ use Rattle.cha_board.specs.declared.men.Kind.{Kind}
 use Rattle.mob_sets.specs.Rows.{sets_of}
 use Rattle.mob_sets.specs.Mobility.{IsWithin}
 use Rattle.mob_solve.specs.Reaching.{sets_in}
-use Rattle.mob_solve.proofs.entries.entered_sets.Given as goal
+use Rattle.mob_solve.proofs.entering.entered_sets.Given as goal
 
 abbrev pub invariant-loop-index : goal.invariant-loop-index
 invariant-loop-index l = record {

@@ -8,8 +8,8 @@ use Rattle.mob_sets.specs.Mobility.{IsWithin}
 use Rattle.mob_solve.specs.Reaching.{sets_in}
 use Rattle.mob_solve.proofs.Entered.{nothing_within, loosened_grows, loosened_has, loosened_inside, origin_small}
 use Rattle.mob_check.proofs.RowRules.{shown}
-use Rattle.mob_solve.proofs.entries.entered_sets.Goals as goal
-use Rattle.mob_solve.proofs.entries.entered_sets.Goals.{then-has, else-has}
+use Rattle.mob_solve.proofs.entering.entered_sets.Goals as goal
+use Rattle.mob_solve.proofs.entering.entered_sets.Goals.{then-has, else-has}
 
 pub loop-index-init : goal.loop-index-init
 loop-index-init c = record {

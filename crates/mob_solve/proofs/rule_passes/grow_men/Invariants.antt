@@ -4,7 +4,7 @@ use Rattle.cha_board.specs.Board.{man_at}
 use Rattle.mob_sets.specs.Mobility.{Sets, IsWithin}
 use Rattle.mob_solve.specs.Reaching.{sets_in, Grew}
 use Rattle.mob_check.specs.Rules.{ManRules}
-use Rattle.mob_solve.proofs.passes.grow_men.Given as goal
+use Rattle.mob_solve.proofs.rule_passes.grow_men.Given as goal
 
 abbrev pub invariant-loop-index : goal.invariant-loop-index
 invariant-loop-index l = record {

@@ -5,7 +5,7 @@ use Rattle.cha_board.specs.SquareSets.{has_square}
 use Rattle.mob_sets.specs.Rows.{sets_of}
 use Rattle.mob_solve.specs.Reaching.{sets_in}
 use Rattle.mob_solve.proofs.Entered.{within_then, for_each_kind}
-use Rattle.mob_solve.proofs.entries.enter_origin.Goals as goal
+use Rattle.mob_solve.proofs.entering.enter_origin.Goals as goal
 
 pub returns-clause-grows : goal.returns-clause-grows
 returns-clause-grows c =

@@ -1,7 +1,7 @@
 -- Rows that are equal one by one.
 use Rattle.std.proofs.Common.{refl, arith}
 use Rattle.std.proofs.lemmas.List.{same_lists}
-use Rattle.cha_cert.proofs.same.same_rows.Goals as goal
+use Rattle.cha_cert.proofs.equal_sets.same_rows.Goals as goal
 
 pub returns : goal.returns
 returns c = (

@@ -130,9 +130,9 @@ pub data Gives (q : Board) (m : Move) (man : Man) : Type 0 where
   Short : man.kind ≡ King → m.to ≡ home_of q.side + 2 → Gives q m man
   Long : man.kind ≡ King → m.to ≡ home_of q.side - 2 → Gives q m man
 
--- a man that is told by its kind
-pub kind_told : (c : Color) (k : Kind) (o : Option Man) (man : Man) → o ≡ Some man → is_man c k o ≡ true → man.kind ≡ k
-kind_told c k o man found is =
+-- a man that passes the test of a kind is of that kind
+pub kind_tested : (c : Color) (k : Kind) (o : Option Man) (man : Man) → o ≡ Some man → is_man c k o ≡ true → man.kind ≡ k
+kind_tested c k o man found is =
     let there : is_man c k (Some man) ≡ true = ap (is_man c k) (sym found) ∙ is in
     same_kind_equal man.kind k (and_parts (same_color man.color c) (same_kind man.kind k) there).1
 
@@ -156,13 +156,13 @@ gives_check q m man step off check =
       ]
       | Passing t e ↦
           let parts = and_parts (is_man q.side Pawn (man_at q.men m.from)) (is_en_passant q m.from m.to) t in
-          Taking (kind_told q.side Pawn (man_at q.men m.from) man found parts.0) (and_parts (aims_at q.side Pawn m.from m.to) (is_target q.target m.to) parts.1).1
+          Taking (kind_tested q.side Pawn (man_at q.men m.from) man found parts.0) (and_parts (aims_at q.side Pawn m.from m.to) (is_target q.target m.to) parts.1).1
       | Shortly t e ↦
           let parts = and_parts (is_man q.side King (man_at q.men m.from)) (is_short_castling q m.from m.to) t in
-          Short (kind_told q.side King (man_at q.men m.from) man found parts.0) (short_tests q m.from m.to parts.1).two_files
+          Short (kind_tested q.side King (man_at q.men m.from) man found parts.0) (short_tests q m.from m.to parts.1).two_files
       | Longly t e ↦
           let parts = and_parts (is_man q.side King (man_at q.men m.from)) (is_long_castling q m.from m.to) t in
-          Long (kind_told q.side King (man_at q.men m.from) man found parts.0) (long_tests q m.from m.to parts.1).two_files
+          Long (kind_tested q.side King (man_at q.men m.from) man found parts.0) (long_tests q m.from m.to parts.1).two_files
     ]
 
 -- no man off the lines alone stands between the king and a man that aims at it

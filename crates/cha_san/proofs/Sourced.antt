@@ -19,7 +19,7 @@ use Rattle.cha_moves.proofs.Made.{Mover, may_gives}
 use Rattle.cha_moves.proofs.Kept.{short_tests, long_tests}
 use Rattle.cha_moves.proofs.WayLaws.{filter_in_set}
 use Rattle.cha_moves.proofs.Goings.{joined_of, common_of, minus_of}
-use Rattle.cha_moves.proofs.Checking.{kind_told}
+use Rattle.cha_moves.proofs.Checking.{kind_tested}
 use Rattle.cha_san.specs.declared.forms.Form.{Form}
 use Rattle.cha_san.specs.declared.forms.Form.TheVariants.{Short, Long, Plain}
 use Rattle.cha_san.specs.declared.forms.Parts.{Parts}
@@ -77,7 +77,7 @@ castled : (q : Board) (m : Move) (man : Man) → Mover q m man → is_castling q
 unfolding is_castling
 castled q m man may h =
     let both = and_parts (is_man q.side King (man_at q.men m.from)) (files_apart m.from m.to == 2) h in
-    let king = kind_told q.side King (man_at q.men m.from) man may.found both.0 in
+    let king = kind_tested q.side King (man_at q.men m.from) man may.found both.0 in
     elim (king_goes_so q m.from m.to (ap (λ k. goes q k m.from m.to) (sym king) ∙ may.goes)) [
       | inl near ↦ absurd (not_two_files q.side m.from m.to near both.1)
       | inr x ↦ elim x [
@@ -223,7 +223,7 @@ leaves q Long m from to h =
 leaves q (Plain p) m from to h =
     let may = mover_named q (Plain p) m h in
     let fit = parts_fit q p m (and_parts (fits q (Plain p) m) (is_legal_in q m) h).0 in
-    let kind = kind_told q.side p.kind (man_at q.men m.from) may.0 may.1.found fit.man in
+    let kind = kind_tested q.side p.kind (man_at q.men m.from) may.0 may.1.found fit.man in
     let goes_so : goes q p.kind m.from m.to ≡ true = ap (λ k. goes q k m.from m.to) (sym kind) ∙ may.1.goes in
     let there = fit.to in
     let small : m.to < 64 = omega arith in

@@ -11,20 +11,15 @@ use Rattle.cha_board.specs.declared.men.Kind.TheVariants.{Pawn, King}
 use Rattle.cha_board.specs.declared.men.Man.{Man}
 use Rattle.cha_board.specs.Men.{same_kind, is_man}
 use Rattle.cha_board.specs.Squares.{rank_of, files_apart, ranks_apart, steps_apart, is_rank_ahead, aims_at}
-use Rattle.cha_board.specs.Board.{Board, man_at, is_empty, in_check, home_of}
+use Rattle.cha_board.specs.Board.{Board, man_at, is_empty, home_of}
 use Rattle.cha_board.proofs.Identity.{same_color_equal, some_inj, man_of, is_man_from, one_kind, two_kinds}
 use Rattle.cha_moves.specs.Step.{Move}
-use Rattle.cha_moves.specs.Moves.{second_rank, fourth_rank, middle, victim_of, is_target, is_pawn_capture, goes, rook_of, is_en_passant, is_short_castling, is_long_castling, is_double_step, is_pseudo_legal, arriving, moved, castles_short, castles_long, captures_en_passant, men_after, target_after, is_legal_in, legal}
-use Rattle.cha_moves.proofs.Made.{Mover, may_gives, makes, Plainly, Passing, Shortly, Longly}
+use Rattle.cha_moves.specs.Moves.{second_rank, fourth_rank, middle, victim_of, is_target, is_pawn_capture, goes, rook_of, is_en_passant, is_short_castling, is_long_castling, is_double_step, arriving, moved, castles_short, castles_long, captures_en_passant, men_after, target_after, legal}
+use Rattle.cha_moves.proofs.Made.{makes, Plainly, Passing, Shortly, Longly}
 use Rattle.cha_moves.proofs.Kept.{promoted, short_tests, long_tests}
-use Rattle.cha_moves.proofs.Listed.{is_listed}
+use Rattle.cha_moves.proofs.Listed.{mover_of}
 use Rattle.cha_moves.proofs.Near.{king_aims}
 use Rattle.cha_moves.proofs.Validity.{pawn_ahead, step_tests, double_step, Steps, DoubleSteps, Captures, Passes, pawn_way}
-
--- the man that makes a legal move
-pub mover_of : (q : Board) (m : Move) → Contains (legal q) m → (man : Man) × Mover q m man
-unfolding is_legal_in
-mover_of q m h = may_gives q m (and_parts (is_pseudo_legal q m) (not (in_check (men_after q m) q.side)) (is_listed q m h).legal).0
 
 -- it is of the side to move, and of the kind that is told of the man on that square
 pub is_mover : (q : Board) (m : Move) (k told : Kind) (men : List (Option Man)) (from : ℕ) → Contains (legal q) m → men ≡ q.men → from ≡ m.from

@@ -26,8 +26,8 @@ use Rattle.cha_moves.specs.Checks.{IsAlone, HaveScreens, others, may_check, is_s
 use Rattle.cha_moves.proofs.KingSquare.{king_stands}
 use Rattle.cha_moves.proofs.Made.{Step, men_moved, moved_to, moved_from, moved_other, Plainly, Passing, Shortly, Longly, makes}
 use Rattle.cha_moves.proofs.Kept.{from_to, no_king_entered, promoted, length_after, kings_kept, king_place, short_tests, long_tests}
-use Rattle.cha_moves.proofs.Listed.{is_listed}
-use Rattle.cha_moves.proofs.MateMoves.{Mates, mover_of, in_squares, way_there}
+use Rattle.cha_moves.proofs.Listed.{is_listed, mover_of}
+use Rattle.cha_moves.proofs.MateMoves.{Mates, in_squares, way_there}
 use Rattle.cha_moves.proofs.Clearing.{clear_at, clear_from, attack_parts, attack_from}
 
 -- the king that a move may check

@@ -3,7 +3,7 @@ pub mod Kept
 pub mod Validity
 pub mod Contained
 pub mod Listed
-pub mod Alone
+mod Alone
 pub mod Near
 pub mod Filling
 pub mod KingSquare

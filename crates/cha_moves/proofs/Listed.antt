@@ -5,11 +5,12 @@ use Rattle.std.proofs.lemmas.Bool.{and_parts}
 use Rattle.std.proofs.lemmas.List.Elements.{All-contains, All-map}
 use Rattle.cha_board.specs.declared.men.Kind.{Kind}
 use Rattle.cha_board.specs.declared.men.Kind.TheVariants.{Pawn, Knight, Bishop, Rook, Queen, King}
+use Rattle.cha_board.specs.declared.men.Man.{Man}
 use Rattle.cha_board.specs.Squares.{squares}
 use Rattle.cha_board.specs.Board.{Board, in_check}
 use Rattle.cha_moves.specs.Step.{Move}
 use Rattle.cha_moves.specs.Moves.{promotions, is_promotion, is_pseudo_legal, men_after, is_legal_in, moves_between, moves_from, all_moves, legal}
-use Rattle.cha_moves.proofs.Made.{may_gives}
+use Rattle.cha_moves.proofs.Made.{Mover, may_gives}
 use Rattle.cha_moves.proofs.Kept.{promoted}
 use Rattle.cha_moves.proofs.Contained.{Contains-filter_from, Contains-filter_parts, Contains-flat_map_parts, Contains-flat_map_from, Contains-squares_from, Contains-squares_small}
 
@@ -49,10 +50,17 @@ between_has s t (Some Pawn) (inr h) = cc
 between_has s t (Some King) (inl h) = cc
 between_has s t (Some King) (inr h) = cc
 
-pub promotes_listed : (q : Board) (m : Move) → is_legal_in q m ≡ true → (is_promotion m.promotion ≡ true) ⊎ (m.promotion ≡ None)
+-- the man that makes a legal move
+pub mover_in : (q : Board) (m : Move) → is_legal_in q m ≡ true → (man : Man) × Mover q m man
 unfolding is_legal_in
+mover_in q m h = may_gives q m (and_parts (is_pseudo_legal q m) (not (in_check (men_after q m) q.side)) h).0
+
+pub mover_of : (q : Board) (m : Move) → Contains (legal q) m → (man : Man) × Mover q m man
+mover_of q m h = mover_in q m (is_listed q m h).legal
+
+pub promotes_listed : (q : Board) (m : Move) → is_legal_in q m ≡ true → (is_promotion m.promotion ≡ true) ⊎ (m.promotion ≡ None)
 promotes_listed q m h =
-    let mover = may_gives q m (and_parts (is_pseudo_legal q m) (not (in_check (men_after q m) q.side)) h).0 in
+    let mover = mover_in q m h in
     elim (promoted q.side mover.0.kind m.to m.promotion mover.1.well) [
       | inl x ↦ inl x.2
       | inr x ↦ inr x.0

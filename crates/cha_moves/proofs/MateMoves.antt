@@ -1,35 +1,30 @@
 -- Which legal moves mate at once.
-use Rattle.std.proofs.Common.{◌≡◌, ℕ, ◌<◌, Bool, true, false, not, List, [], ◌∷◌, Option, Some, None, IsTrue, ◌↔◌, inl, inr, refl, sym, ◌∙◌, ap, subst}
+use Rattle.std.proofs.Common.{◌≡◌, ℕ, ◌<◌, Bool, true, false, List, [], ◌∷◌, Option, Some, None, IsTrue, ◌↔◌, inl, inr, refl, sym, ◌∙◌, ap, subst}
 use Rattle.std.specs.List.{Contains}
 use Rattle.std.specs.Option.{IfNone}
-use Rattle.std.proofs.lemmas.Bool.{and_parts, both_ways}
+use Rattle.std.proofs.lemmas.Bool.{both_ways}
 use Rattle.cha_board.specs.declared.men.Color.{Color}
 use Rattle.cha_board.specs.declared.men.Color.TheVariants.{White, Black}
 use Rattle.cha_board.specs.declared.men.Kind.{Kind}
 use Rattle.cha_board.specs.declared.men.Kind.TheVariants.{Pawn, Knight, Bishop, Rook, Queen, King}
 use Rattle.cha_board.specs.Men.{other_color, same_color, is_of}
 use Rattle.cha_board.specs.Squares.{squares, rank_of, last_rank}
-use Rattle.cha_board.specs.Board.{Board, man_at, in_check}
+use Rattle.cha_board.specs.Board.{Board, man_at}
 use Rattle.cha_board.specs.SquareSets.{set_of, squares_in, has_square}
 use Rattle.cha_board.proofs.SetLaws.{has-set_of}
 use Rattle.cha_moves.specs.Step.{Move}
-use Rattle.cha_moves.specs.Moves.{is_promotion, is_pseudo_legal, men_after, is_legal_in, legal, after}
+use Rattle.cha_moves.specs.Moves.{is_promotion, legal, after}
 use Rattle.cha_moves.specs.Ways.{is_way}
 use Rattle.cha_moves.specs.Ends.{IsMatingLine}
-use Rattle.cha_moves.proofs.Made.{Mover, may_gives}
+use Rattle.cha_moves.proofs.Made.{Mover}
 use Rattle.cha_moves.proofs.Kept.{promoted}
-use Rattle.cha_moves.proofs.Listed.{is_listed}
+use Rattle.cha_moves.proofs.Listed.{is_listed, mover_of}
 use Rattle.cha_moves.proofs.WayLaws.{way_of}
 use Rattle.cha_moves.proofs.Contained.{not_in_nothing, Contains-cons_cases, Contains-filter_from, Contains-squares_from}
 
 -- a legal move mates for w
 abbrev pub Mates : Board → Color → Move → Type 0
 Mates q w m = IsMatingLine q w (m ∷ [])
-
--- the mover of a legal move
-pub mover_of : (q : Board) (m : Move) → Contains (legal q) m → (man : _) × Mover q m man
-unfolding is_legal_in
-mover_of q m h = may_gives q m (and_parts (is_pseudo_legal q m) (not (in_check (men_after q m) q.side)) (is_listed q m h).legal).0
 
 -- what a test refuses
 pub not_by : (P : Move → Type 0) (x y : Move) (b : Bool) → (IsTrue b ↔ P x) → b ≡ false → x ≡ y → P y → ⊥

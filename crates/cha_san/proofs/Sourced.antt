@@ -9,14 +9,15 @@ use Rattle.cha_board.specs.declared.men.Kind.TheVariants.{Pawn, Knight, Bishop, 
 use Rattle.cha_board.specs.declared.men.Man.{Man}
 use Rattle.cha_board.specs.Men.{other_color, same_kind, is_man}
 use Rattle.cha_board.specs.Squares.{squares, file_of, rank_of, files_apart, ranks_apart, steps_apart, is_straight, is_rank_ahead, aims_at, last_rank}
-use Rattle.cha_board.specs.Board.{Board, man_at, is_empty, is_clear, in_check, home_of}
+use Rattle.cha_board.specs.Board.{Board, man_at, is_empty, is_clear, home_of}
 use Rattle.cha_board.specs.SquareSets.{set_of, squares_in, set_minus, set_joined, set_common}
 use Rattle.cha_board.proofs.SetLaws.{same_set}
 use Rattle.cha_board.proofs.Tables.{aims_from_there}
 use Rattle.cha_moves.specs.Step.{Move}
-use Rattle.cha_moves.specs.Moves.{second_rank, fourth_rank, middle, is_step, is_double_step, is_pawn_capture, is_en_passant, is_target, is_short_castling, is_long_castling, goes, promotes_well, is_pseudo_legal, men_after, is_legal_in, moves_between, moves_from, all_moves, legal}
-use Rattle.cha_moves.proofs.Made.{Mover, may_gives}
+use Rattle.cha_moves.specs.Moves.{second_rank, fourth_rank, middle, is_step, is_double_step, is_pawn_capture, is_en_passant, is_target, is_short_castling, is_long_castling, goes, promotes_well, is_legal_in, moves_between, moves_from, all_moves, legal}
+use Rattle.cha_moves.proofs.Made.{Mover}
 use Rattle.cha_moves.proofs.Kept.{short_tests, long_tests}
+use Rattle.cha_moves.proofs.Listed.{mover_in}
 use Rattle.cha_moves.proofs.WayLaws.{filter_in_set}
 use Rattle.cha_moves.proofs.Goings.{joined_of, common_of, minus_of}
 use Rattle.cha_moves.proofs.Checking.{kind_tested}
@@ -29,10 +30,7 @@ use Rattle.cha_san.proofs.Sifting.{all_empty, of_one_square, filter_both}
 
 -- the man that makes a legal move that fits
 mover_named : (q : Board) (form : Form) (m : Move) → names q form m ≡ true → (man : Man) × Mover q m man
-unfolding is_legal_in
-mover_named q form m h =
-    let may = (and_parts (fits q form m) (is_legal_in q m) h).1 in
-    may_gives q m (and_parts (is_pseudo_legal q m) (not (in_check (men_after q m) q.side)) may).0
+mover_named q form m h = mover_in q m (and_parts (fits q form m) (is_legal_in q m) h).1
 
 -- what a king does that goes so
 king_goes_so : (q : Board) (s t : ℕ) → goes q King s t ≡ true → (aims_at q.side King s t ≡ true) ⊎ ((is_short_castling q s t ≡ true) ⊎ (is_long_castling q s t ≡ true))

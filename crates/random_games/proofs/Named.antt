@@ -19,8 +19,7 @@ use Rattle.cha_moves.specs.Moves.{goes, promotes_well, is_short_castling, is_lon
 use Rattle.cha_moves.proofs.Contained.{not_in_nothing, Contains-cons_here, Contains-cons_there, Contains-filter_from, Contains-filter_parts}
 use Rattle.cha_moves.proofs.Made.{Mover}
 use Rattle.cha_moves.proofs.Kept.{promoted, short_tests, long_tests}
-use Rattle.cha_moves.proofs.Listed.{is_listed}
-use Rattle.cha_moves.proofs.Alone.{mover_of}
+use Rattle.cha_moves.proofs.Listed.{is_listed, mover_of}
 use Rattle.cha_san.specs.declared.forms.Form.{Form}
 use Rattle.cha_san.specs.declared.forms.Form.TheVariants.{Short, Long}
 use Rattle.cha_san.specs.Fitting.{is_castling, promotes_as, fits_parts, fits}

@@ -87,7 +87,7 @@ impl Square {
         ensures { result ≡ square_of file rank }
     {
         if b'a' <= file && file <= b'h' && b'1' <= rank && rank <= b'8' {
-            Some(Square::at((file - b'a') + 8 * (rank - b'1')))
+            Some(Square::on(file - b'a', rank - b'1'))
         } else {
             None
         }

@@ -1,6 +1,6 @@
 //! The squares of the board (Laws of Chess, Article 2.4).
 
-ghost use Rattle.std.specs.Prelude.{◌≡◌, ◌≢◌, ◌<◌, ◌↔◌, IsSome, IfSome};
+ghost use Rattle.std.specs.Prelude.{◌≡◌, ◌≢◌, ◌+◌, ◌*◌, ◌<◌, ◌↔◌, IsSome, IfSome};
 ghost use Rattle.cha_board.specs.Squares.{file_of, rank_of, last_rank, ahead_of};
 
 use crate::men::Color;
@@ -50,6 +50,17 @@ impl Square {
         ensures { result ≡ index }
     {
         Square { index }
+    }
+
+    /// The square of a file and a rank, each from 0 to 7.
+    pub fn on(file: u8, rank: u8) -> Square
+        requires file { file < 8 }
+        requires rank { rank < 8 }
+        ensures { result ≡ file + 8 * rank }
+    {
+        Square {
+            index: file + 8 * rank,
+        }
     }
 
     /// The number of the square, from 0 to 63.

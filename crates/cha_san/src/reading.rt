@@ -56,7 +56,7 @@ fn square_at(word: &[u8]) -> Option<Square>
     let Some(rank) = rank_at(word) else {
         return None;
     };
-    Some(Square::at(file + 8 * rank))
+    Some(Square::on(file, rank))
 }
 
 /// What stands in front of a promotion.

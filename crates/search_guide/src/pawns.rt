@@ -36,7 +36,7 @@ pub fn ranks_to_promotion(side: Color, pawns: SquareSet) -> Option<u8>
 
 /// The squares in front of a pawn on its file.
 fn in_front(side: Color, pawn: Square) -> SquareSet {
-    let end = Square::at(8 * promotion_rank(side) + pawn.file());
+    let end = Square::on(pawn.file(), promotion_rank(side));
     squares_between(pawn, end).with(end)
 }
 

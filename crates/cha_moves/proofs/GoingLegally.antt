@@ -11,7 +11,7 @@ use Rattle.cha_board.specs.declared.men.Man.{Man}
 use Rattle.cha_board.specs.Men.{other_color, same_color, same_kind, is_vacant, is_man}
 use Rattle.cha_board.specs.Squares.{squares, rank_of, last_rank, aims_at, files_apart, ranks_apart, steps_apart, is_straight, is_diagonal, is_line, is_rank_ahead, is_within, lies_between}
 use Rattle.cha_board.specs.Board.{Board, IsValid, man_at, attacks_as, attacked, in_check, king_of, home_of}
-use Rattle.cha_board.specs.SquareSets.{set_of, has_square, squares_in, set_of_bits, set_common, set_without, set_placed}
+use Rattle.cha_board.specs.SquareSets.{set_of, has_square, squares_in, set_common, set_without, set_placed}
 use Rattle.cha_board.proofs.SetLaws.{has-set_of, same_set, same_squares, length-set_of}
 use Rattle.cha_board.proofs.Sightings.{attacked_from, attacked_by_none}
 use Rattle.cha_moves.specs.Step.{Move}
@@ -242,10 +242,3 @@ all_sifted q s left legal f none =
 pub none_promoted : (c : Color) (k : Kind) → same_kind k Pawn ≡ false → set_of (λ _. false) ≡ set_of (is_promoted c k)
 none_promoted c k h = same_set (λ _. false) (is_promoted c k) (λ t _. sym (and_left (same_kind k Pawn) (rank_of t == last_rank c) h))
 
-pub white_promoted : set_of_bits 18374686479671623680 ≡ set_of (is_promoted White Pawn)
-unfolding squares
-white_promoted = refl
-
-pub black_promoted : set_of_bits 255 ≡ set_of (is_promoted Black Pawn)
-unfolding squares
-black_promoted = refl

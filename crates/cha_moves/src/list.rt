@@ -11,6 +11,7 @@ ghost use Rattle.cha_moves.specs.Shields.{AreShields, goes_legally};
 use crate::legally::legal_ways;
 use crate::safety::stays_safe;
 use crate::shields::{Shields, shields_of};
+use crate::sides::promotion_rank;
 use crate::step::Move;
 use crate::ways::is_pseudo_legal;
 use cha_board::{Color, Kind, Man, Position, Square, SquareSet};
@@ -55,10 +56,7 @@ pub fn promoting(side: Color, kind: Kind) -> SquareSet
     if !kind.is(Kind::Pawn) {
         return SquareSet::empty();
     }
-    match side {
-        Color::White => SquareSet::from_bits(0xff << 56),
-        Color::Black => SquareSet::from_bits(0xff),
-    }
+    SquareSet::of_rank(promotion_rank(side))
 }
 
 /// Appends the legal moves from one square to another to which the man there goes legally. It is promoted on the squares

@@ -1,5 +1,5 @@
-//! What a side needs for castling: the homes of its king and its rooks, where its king arrives, and the rights that it has
-//! left (Laws of Chess, Article 3.8.2).
+//! What a side needs for castling: the homes of its king and its rooks, where its king arrives, and the rights that it
+//! has left (Laws of Chess, Article 3.8.2).
 
 ghost use Rattle.std.specs.Prelude.{◌≡◌, ◌≤◌};
 ghost use Rattle.cha_board.specs.Board.{home_of, short_home_of, long_home_of, short_goal_of, long_goal_of, is_home};

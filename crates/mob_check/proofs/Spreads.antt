@@ -6,8 +6,8 @@ use Rattle.cha_board.specs.declared.men.Kind.{Kind}
 use Rattle.cha_board.specs.declared.men.Kind.TheVariants.{Pawn, Knight, Bishop, Rook, Queen, King}
 use Rattle.cha_board.specs.Squares.{squares, files_apart, ranks_apart, steps_apart, is_straight, is_diagonal, is_line, is_rank_ahead, aims_at}
 use Rattle.cha_board.specs.SquareSets.{set_of}
-use Rattle.cha_board.specs.Shifts.{is_king_step}
-use Rattle.cha_board.proofs.Pulls.{Pulls, up, down, right, left, either, here, pull_is, pulls_of, pulled, agree, pairs, from_pairs, sides, king_step}
+use Rattle.cha_board.specs.Shifts.{is_ahead, is_king_step}
+use Rattle.cha_board.proofs.Pulls.{Pulls, up, down, right, left, either, here, pull_up, pull_down, pull_is, pulls_of, pulled, agree, pairs, from_pairs, sides, king_step}
 use Rattle.mob_law.specs.Reach.{steps_to}
 use Rattle.mob_check.specs.SingleSteps.{is_stepped_to, spread_of}
 
@@ -78,8 +78,13 @@ bishop_spreads c a x p = spreads c Bishop a x bishop_way (λ u t small small'. f
 pub knight_spreads : (c : Color) (a x : List Bool) → Pulls a x knight_way → x ≡ spread_of c Knight a
 knight_spreads c a x p = spreads c Knight a x knight_way (λ u t small small'. from_pairs knight_way (steps_to White Knight) knight_table u t small small' ∙ sym (any_color c u t).4) p
 
-pub white_spreads : (a x : List Bool) → Pulls a x (up sides) → x ≡ spread_of White Pawn a
+white_spreads : (a x : List Bool) → Pulls a x (up sides) → x ≡ spread_of White Pawn a
 white_spreads a x p = spreads White Pawn a x (up sides) (from_pairs (up sides) (steps_to White Pawn) white_table) p
 
-pub black_spreads : (a x : List Bool) → Pulls a x (down sides) → x ≡ spread_of Black Pawn a
+black_spreads : (a x : List Bool) → Pulls a x (down sides) → x ≡ spread_of Black Pawn a
 black_spreads a x p = spreads Black Pawn a x (down sides) (from_pairs (down sides) (steps_to Black Pawn) black_table) p
+
+-- the squares ahead of those beside a set are those onto which pawns on it capture
+pub pawn_spreads : (c : Color) (a x y : List Bool) → Pulls a x sides → y ≡ set_of (is_ahead c x) → y ≡ spread_of c Pawn a
+pawn_spreads White a x y p is = white_spreads a y (pull_up a x y sides p is)
+pawn_spreads Black a x y p is = black_spreads a y (pull_down a x y sides p is)

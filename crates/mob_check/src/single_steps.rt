@@ -28,10 +28,7 @@ fn pawn_captures(side: Color, from: SquareSet) -> SquareSet
     // The number of a set tells that it has 64 truth values.
     let _number = from.bits();
     let beside = from.east().joined(from.west());
-    match side {
-        Color::White => beside.north(),
-        Color::Black => beside.south(),
-    }
+    beside.ahead(side)
 }
 
 /// The squares to which knights jump.

@@ -2,7 +2,7 @@
 use Rattle.std.specs.Prelude.{◌≡◌, ℕ, ◌<◌, List, length}
 use Rattle.node_store.specs.NameLists.{list_at, Has, Falls}
 
--- 64 lists of names, the number of names that there are, and how many more there is room for
+-- 64 lists of names, the number of names that there are, and for how many more room was made ready
 pub record Chained : Type 0 where
   pub lists : List (List ℕ)
   pub slots : ℕ

@@ -6,7 +6,7 @@ use Rattle.node_store.specs.NameLists.{list_at, Has, Falls}
 use Rattle.node_store.specs.Nodes.{Node, leaves, IsAt, IsReached}
 
 -- the nodes, in the order of their names; 64 lists of the names that wait, each with the last that was added in front;
--- and for how many more nodes there is room
+-- and for how many more nodes room was made ready
 pub record Graph : Type 0 where
   pub nodes : List Node
   pub waiting : List (List ℕ)

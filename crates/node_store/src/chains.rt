@@ -1,6 +1,6 @@
 //! 64 lists of names, linked by index: each list has its front, and each name the one that follows it.
 
-ghost use Rattle.std.specs.Prelude.{◌≡◌, ◌≢◌, ◌+◌, ◌-◌, ◌<◌, ◌≤◌, ℕ, [], replicate, OnOk, OnErr, IfSome, IfNone, vec_len, vec_capacity};
+ghost use Rattle.std.specs.Prelude.{◌≡◌, ◌≢◌, ◌+◌, ◌<◌, ◌≤◌, ℕ, max, [], replicate, OnOk, OnErr, IfSome, IfNone};
 ghost use Rattle.node_store.specs.NameLists.{list_at, Has, AreBelow, put, front_of, take_from};
 ghost use Rattle.node_store.specs.Chained.{AreChained};
 
@@ -19,25 +19,27 @@ struct Head {
     count: u32,
 }
 
-/// 64 lists of names, from 0 on, seen by contracts as the lists, the number of names that there are, and how many more
-/// there is room for. A name stands in at most one list at a time, in front of smaller ones.
+/// 64 lists of names, from 0 on, seen by contracts as the lists, the number of names that there are, and for how many more
+/// room was made ready. A name stands in at most one list at a time, in front of smaller ones.
 #[derive(Drop)]
 pub struct Chains {
     heads: [Head; 64],
     links: Vec<u32>,
+    /// For how many more names room was made ready. The links may have room for others.
+    ready: u32,
 }
 
 impl Model for Chains {
-    ghost use Rattle.std.specs.Prelude.{◌-◌, length, vec_len, vec_capacity};
+    ghost use Rattle.std.specs.Prelude.{◌-◌, ◌≤◌, length, vec_len, vec_capacity};
     ghost use Rattle.node_store.specs.Chained.{Chained, AreChained};
 
     ghost Value = { Chained };
 
     ghost use Rattle.node_store.specs.Links.{lists_of};
 
-    ghost view = { λ s. record { lists = lists_of s.heads s.links.items; slots = length s.links.items; spare = vec_capacity s.links - vec_len s.links } };
+    ghost view = { λ s. record { lists = lists_of s.heads s.links.items; slots = length s.links.items; spare = s.ready } };
 
-    ghost invariant = { λ s. AreChained (lists_of s.heads s.links.items) (length s.links.items) };
+    ghost invariant = { λ s. AreChained (lists_of s.heads s.links.items) (length s.links.items) × (s.ready ≤ vec_capacity s.links - vec_len s.links) };
 }
 
 impl Chains {
@@ -50,6 +52,7 @@ impl Chains {
         Chains {
             heads: [Head { front: 0, count: 0 }; 64],
             links: Vec::new(alloc),
+            ready: 0,
         }
     }
 
@@ -65,10 +68,15 @@ impl Chains {
         ensures lists { self.new.lists ≡ self.old.lists }
         ensures slots { self.new.slots ≡ self.old.slots }
         ensures ok { OnOk result (more ≤ self.new.spare) }
+        ensures spare { OnOk result (self.new.spare ≡ max self.old.spare more) }
         ensures room { self.old.spare ≤ self.new.spare }
         ensures err { OnErr result (self.new ≡ self.old) }
     {
+        if more <= self.ready {
+            return Ok(());
+        }
         self.links.reserve(more as usize)?;
+        self.ready = more;
         Ok(())
     }
 
@@ -79,9 +87,10 @@ impl Chains {
         ensures name { result ≡ self.old.slots }
         ensures lists { self.new.lists ≡ self.old.lists }
         ensures slots { self.new.slots ≡ self.old.slots + 1 }
-        ensures spare { self.old.spare ≤ self.new.spare + 1 }
+        ensures spare { self.old.spare ≡ self.new.spare + 1 }
     {
         let name = self.links.len() as u32;
+        self.ready -= 1;
         match self.links.push(0) {
             Ok(()) => name,
             Err(_) => unreachable!(),

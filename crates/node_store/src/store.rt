@@ -1,6 +1,6 @@
 //! The positions of an exploration and the names of those that wait.
 
-ghost use Rattle.std.specs.Prelude.{◌≡◌, ◌+◌, ◌<◌, ◌≤◌, ℕ, [], ◌∷◌, ◌++◌, false, true, None, Some, length, replicate, slice_get, IfSome, IfNone, IfOk, OnOk, OnErr};
+ghost use Rattle.std.specs.Prelude.{◌≡◌, ◌+◌, ◌-◌, ◌<◌, ◌≤◌, ℕ, max, [], ◌∷◌, ◌++◌, false, true, None, Some, length, replicate, slice_get, IfSome, IfNone, IfOk, OnOk, OnErr};
 ghost use Rattle.cha_board.specs.Board.{Board};
 ghost use Rattle.node_store.specs.NameLists.{list_at, Has, put, first_name, without_first};
 ghost use Rattle.node_store.specs.Nodes.{leaves, origins, mark, IsAt, IsNew, IsReached};
@@ -19,7 +19,7 @@ use std::sync::ledger::Ledger;
 
 /// The positions of an exploration, named from 0 on, each with the node that it came from and the move that led there.
 /// Some wait to be expanded, in 64 lists. Contracts see the nodes, the lists of waiting names, and for how many more
-/// nodes there is room.
+/// nodes room was made ready.
 #[derive(Drop)]
 pub struct Store {
     nodes: IndexMap<Spot, Place>,
@@ -27,7 +27,7 @@ pub struct Store {
 }
 
 impl Model for Store {
-    ghost use Rattle.std.specs.Prelude.{min};
+    ghost use Rattle.std.specs.Prelude.{◌≤◌};
     ghost use Rattle.indexmap.specs.IndexMap.{spare};
     ghost use Rattle.node_store.specs.Graphs.{Graph};
 
@@ -35,9 +35,9 @@ impl Model for Store {
 
     ghost use Rattle.node_store.specs.Places.{nodes_of, AreStored};
 
-    ghost view = { λ s. record { nodes = nodes_of s.nodes.entries; waiting = s.waiting.lists; spare = min (spare s.nodes) s.waiting.spare } };
+    ghost view = { λ s. record { nodes = nodes_of s.nodes.entries; waiting = s.waiting.lists; spare = s.waiting.spare } };
 
-    ghost invariant = { λ s. AreStored s.nodes.entries s.waiting.lists s.waiting.slots };
+    ghost invariant = { λ s. AreStored s.nodes.entries s.waiting.lists s.waiting.slots × (s.waiting.spare ≤ spare s.nodes) };
 }
 
 impl Store {
@@ -45,6 +45,7 @@ impl Store {
     pub fn new(alloc: Global, root: &Position) -> Result<Store, NoMemory>
         ensures nodes { IfOk result (λ store. store.nodes ≡ record { position = root.now; origin = None; leaf = false } ∷ []) }
         ensures waiting { IfOk result (λ store. store.waiting ≡ put (replicate 64 []) 0 0) }
+        ensures spare { IfOk result (λ store. store.spare ≡ 0) }
     {
         root.known();
         let mut waiting = Chains::new(alloc);
@@ -126,16 +127,18 @@ impl Store {
         }
     }
 
-    /// Makes room for more nodes. On a refusal nodes and lists stay.
+    /// Makes room ready for so many more nodes, unless it is. On a refusal nothing changes.
     pub fn reserve(&mut self, more: u32) -> Result<(), NoMemory>
         ensures nodes { self.new.nodes ≡ self.old.nodes }
         ensures waiting { self.new.waiting ≡ self.old.waiting }
-        ensures room { self.old.spare ≤ self.new.spare }
         ensures ok { OnOk result (more ≤ self.new.spare) }
+        ensures spare { OnOk result (self.new.spare ≡ max self.old.spare more) }
+        ensures room { self.old.spare ≤ self.new.spare }
+        ensures err { OnErr result (self.new ≡ self.old) }
     {
-        self.waiting.reserve(more)?;
+        // The names count what is ready, so they come last.
         self.nodes.reserve(more as usize)?;
-        Ok(())
+        self.waiting.reserve(more)
     }
 
     /// Adds a node that does not wait, for which there is room.
@@ -147,7 +150,7 @@ impl Store {
         ensures name { result ≡ length self.old.nodes }
         ensures nodes { self.new.nodes ≡ self.old.nodes ++ record { position = position.now; origin = Some origin; leaf = leaf } ∷ [] }
         ensures waiting { self.new.waiting ≡ self.old.waiting }
-        ensures room { self.old.spare ≤ self.new.spare + 1 }
+        ensures spare { self.old.spare ≡ self.new.spare + 1 }
     {
         position.known();
         let spot = Spot {
@@ -179,8 +182,8 @@ impl Store {
         ensures name { IfOk result (λ name. name ≡ length self.old.nodes) }
         ensures nodes { OnOk result (self.new.nodes ≡ self.old.nodes ++ record { position = position.now; origin = Some (record { parent = parent; by = by }); leaf = false } ∷ []) }
         ensures waiting { OnOk result (self.new.waiting ≡ put self.old.waiting bucket (length self.old.nodes)) }
-        ensures unchanged_nodes { OnErr result (self.new.nodes ≡ self.old.nodes) }
-        ensures unchanged_waiting { OnErr result (self.new.waiting ≡ self.old.waiting) }
+        ensures spare { OnOk result (self.new.spare ≡ self.old.spare - 1) }
+        ensures err { OnErr result (self.new ≡ self.old) }
     {
         self.known();
         self.reserve(1)?;
@@ -197,7 +200,8 @@ impl Store {
         ensures name { IfOk result (λ name. name ≡ length self.old.nodes) }
         ensures nodes { OnOk result (self.new.nodes ≡ self.old.nodes ++ record { position = position.now; origin = Some (record { parent = parent; by = by }); leaf = true } ∷ []) }
         ensures waiting { self.new.waiting ≡ self.old.waiting }
-        ensures unchanged_nodes { OnErr result (self.new.nodes ≡ self.old.nodes) }
+        ensures spare { OnOk result (self.new.spare ≡ self.old.spare - 1) }
+        ensures err { OnErr result (self.new ≡ self.old) }
     {
         self.reserve(1)?;
         Ok(self.insert(position, Origin { parent, by }, true))
@@ -280,7 +284,7 @@ impl Store {
         ensures name { result ≡ length self.old.nodes }
         ensures nodes { self.new.nodes ≡ self.old.nodes ++ record { position = position.now; origin = Some (record { parent = parent; by = by }); leaf = false } ∷ [] }
         ensures waiting { self.new.waiting ≡ put self.old.waiting bucket (length self.old.nodes) }
-        ensures room { self.old.spare ≤ self.new.spare + 1 }
+        ensures spare { self.old.spare ≡ self.new.spare + 1 }
         ensures cost { steps.new ≡ steps.old + 1 }
     {
         self.known();
@@ -298,7 +302,7 @@ impl Store {
         ensures name { result ≡ length self.old.nodes }
         ensures nodes { self.new.nodes ≡ self.old.nodes ++ record { position = position.now; origin = Some (record { parent = parent; by = by }); leaf = true } ∷ [] }
         ensures waiting { self.new.waiting ≡ self.old.waiting }
-        ensures room { self.old.spare ≤ self.new.spare + 1 }
+        ensures spare { self.old.spare ≡ self.new.spare + 1 }
     {
         self.insert(position, Origin { parent, by }, true)
     }

@@ -1,4 +1,4 @@
-use Rattle.std.proofs.Common.{refl, sym, subst, ◌∙◌}
+use Rattle.std.proofs.Common.{arith, refl, sym, subst, ◌∙◌}
 use Rattle.node_store.proofs.Storing.{store_take, first_used_is, none_used, front_inner, front_within, front_waited}
 use Rattle.node_store.specs.NameLists.{list_at}
 use Rattle.node_store.specs.Places.{nodes_of}
@@ -6,7 +6,7 @@ use Rattle.node_store.specs.Graphs.{IsStore}
 use Rattle.node_store.proofs.store.Store.pop.Goals as goal
 
 pub invariant_of-self : goal.invariant_of-self
-invariant_of-self c = record { store = subst (IsStore (nodes_of c.self.inside.nodes.entries)) (sym c.take.ensures.lists) (store_take (nodes_of c.self.inside.nodes.entries) c.self.inside.waiting.lists c.self.invariant.store c.in-Some.bucket); slots = c.take.ensures.slots ∙ c.self.invariant.slots }
+invariant_of-self c = (record { store = subst (IsStore (nodes_of c.self.inside.nodes.entries)) (sym c.take.ensures.lists) (store_take (nodes_of c.self.inside.nodes.entries) c.self.inside.waiting.lists c.self.invariant.0.store c.in-Some.bucket); slots = c.take.ensures.slots ∙ c.self.invariant.0.slots }, omega (arith, c.self.invariant.1, c.take.ensures.spare))
 
 pub returns-in-None-clause-name : goal.returns-in-None-clause-name
 returns-in-None-clause-name c = rw (← c.self.view_is) (none_used c.self.inside.waiting.lists c.in-None.ensures.none).0
@@ -21,10 +21,10 @@ pub returns-in-Some-clause-waiting : goal.returns-in-Some-clause-waiting
 returns-in-Some-clause-waiting c = rw (← c.self.view_is) (c.take.ensures.lists ∙ (first_used_is c.self.inside.waiting.lists c.in-Some.bucket c.in-Some.ensures.before c.in-Some.ensures.found.1).1)
 
 pub returns-in-Some-clause-within : goal.returns-in-Some-clause-within
-returns-in-Some-clause-within c = rw (c.take.ensures.name) (front_within (nodes_of c.self.inside.nodes.entries) c.self.inside.waiting.lists c.self.invariant.store c.in-Some.bucket (list_at c.self.inside.waiting.lists c.in-Some.bucket) refl)
+returns-in-Some-clause-within c = rw (c.take.ensures.name) (front_within (nodes_of c.self.inside.nodes.entries) c.self.inside.waiting.lists c.self.invariant.0.store c.in-Some.bucket (list_at c.self.inside.waiting.lists c.in-Some.bucket) refl)
 
 pub returns-in-Some-clause-inner : goal.returns-in-Some-clause-inner
-returns-in-Some-clause-inner c = rw (c.take.ensures.name) (front_inner (nodes_of c.self.inside.nodes.entries) c.self.inside.waiting.lists c.self.invariant.store c.in-Some.bucket (list_at c.self.inside.waiting.lists c.in-Some.bucket) refl)
+returns-in-Some-clause-inner c = rw (c.take.ensures.name) (front_inner (nodes_of c.self.inside.nodes.entries) c.self.inside.waiting.lists c.self.invariant.0.store c.in-Some.bucket (list_at c.self.inside.waiting.lists c.in-Some.bucket) refl)
 
 pub returns-in-Some-clause-waited : goal.returns-in-Some-clause-waited
-returns-in-Some-clause-waited c = rw (c.take.ensures.name, c.take.ensures.lists) (front_waited (nodes_of c.self.inside.nodes.entries) c.self.inside.waiting.lists c.self.invariant.store c.in-Some.bucket (list_at c.self.inside.waiting.lists c.in-Some.bucket) c.in-Some.ensures.found.0 refl)
+returns-in-Some-clause-waited c = rw (c.take.ensures.name, c.take.ensures.lists) (front_waited (nodes_of c.self.inside.nodes.entries) c.self.inside.waiting.lists c.self.invariant.0.store c.in-Some.bucket (list_at c.self.inside.waiting.lists c.in-Some.bucket) c.in-Some.ensures.found.0 refl)

@@ -99,9 +99,6 @@ empty_is_none (Some man) h = cc
 pub none_some : (o : Option Man) (man : Man) → o ≡ None → o ≡ Some man → ⊥
 none_some o man e f = cc
 
-pub some_inj : {A : Type 0} (a b : A) → Some a ≡ Some b → a ≡ b
-some_inj a b e = cc
-
 -- a man stands on the board
 pub on_board : (men : List (Option Man)) (u : ℕ) (man : Man) → man_at men u ≡ Some man → u < length men
 on_board men u man found = elim (cases_lt u (length men)) [

@@ -4,6 +4,7 @@ use Rattle.std.specs.List.{Contains}
 use Rattle.std.specs.Int.{abs_diff}
 use Rattle.std.specs.Option.{is_some}
 use Rattle.std.proofs.lemmas.Bool.{and_parts, or_cases, both_ways, eqb-true, false_from_ne_true, and_left}
+use Rattle.std.proofs.lemmas.Option.{same_Some}
 use Rattle.cha_board.specs.declared.men.Color.{Color}
 use Rattle.cha_board.specs.declared.men.Color.TheVariants.{White, Black}
 use Rattle.cha_board.specs.declared.men.Kind.{Kind}
@@ -12,7 +13,7 @@ use Rattle.cha_board.specs.declared.men.Man.{Man}
 use Rattle.cha_board.specs.Men.{same_kind, is_man}
 use Rattle.cha_board.specs.Squares.{rank_of, files_apart, ranks_apart, steps_apart, is_rank_ahead, aims_at}
 use Rattle.cha_board.specs.Board.{Board, man_at, is_empty, home_of}
-use Rattle.cha_board.proofs.Identity.{same_color_equal, some_inj, man_of, is_man_from, one_kind, two_kinds}
+use Rattle.cha_board.proofs.Identity.{same_color_equal, man_of, is_man_from, one_kind, two_kinds}
 use Rattle.cha_moves.specs.Step.{Move}
 use Rattle.cha_moves.specs.Moves.{second_rank, fourth_rank, middle, victim_of, is_target, is_pawn_capture, goes, rook_of, is_en_passant, is_short_castling, is_long_castling, is_double_step, arriving, moved, castles_short, castles_long, captures_en_passant, men_after, target_after, legal}
 use Rattle.cha_moves.proofs.Made.{makes, Plainly, Passing, Shortly, Longly}
@@ -155,7 +156,7 @@ goes_as_kind : (q : Board) (m : Move) (k : Kind) → Contains (legal q) m → is
 goes_as_kind q m k h man =
     let mover = mover_of q m h in
     let x = man_of (man_at q.men m.from) q.side k man in
-    let same : mover.0 ≡ x.man = some_inj mover.0 x.man (sym mover.1.found ∙ x.found) in
+    let same : mover.0 ≡ x.man = same_Some mover.0 x.man (sym mover.1.found ∙ x.found) in
     ap (λ k. goes q k m.from m.to) (sym (ap (λ (y : Man). y.kind) same ∙ x.kind)) ∙ mover.1.goes
 
 arrived : (q : Board) (m : Move) → Contains (legal q) m → is_man q.side King (man_at q.men m.from) ≡ true → arriving (man_at q.men m.from) m.promotion ≡ Some (record { color = q.side; kind = King })

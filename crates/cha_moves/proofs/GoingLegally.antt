@@ -3,6 +3,7 @@ use Rattle.std.proofs.Common.{◌≡◌, ◌≢◌, ℕ, ◌<◌, ◌+◌, ◌-�
 use Rattle.std.specs.List.{Contains, filter, flat_map}
 use Rattle.std.proofs.lemmas.Bool.{and_parts, and_left, and_right, or_from, both_ways, cases_Bool, cases_eq, eq-eqb, ne_eqb, false_from_ne_true}
 use Rattle.std.proofs.lemmas.List.{length-set}
+use Rattle.std.proofs.lemmas.Option.{same_Some}
 use Rattle.cha_board.specs.declared.men.Color.{Color}
 use Rattle.cha_board.specs.declared.men.Color.TheVariants.{White, Black}
 use Rattle.cha_board.specs.declared.men.Kind.{Kind}
@@ -18,7 +19,7 @@ use Rattle.cha_moves.specs.Step.{Move}
 use Rattle.cha_moves.specs.Moves.{is_legal_in, is_en_passant, is_short_castling, is_long_castling, moves_between, moves_from, men_after}
 use Rattle.cha_moves.specs.Ways.{is_way, is_promoted, legal_between}
 use Rattle.cha_moves.specs.Shields.{aims_as, men_less, AreShields, IsFree, some_move, goes_legally}
-use Rattle.cha_board.proofs.Identity.{some_inj, two_kinds}
+use Rattle.cha_board.proofs.Identity.{two_kinds}
 use Rattle.cha_moves.proofs.Made.{Step, may_gives, put, put_other, men_moved, Plainly, Passing, Shortly, Longly, makes}
 use Rattle.cha_moves.proofs.Kept.{kings_kept, king_place, length_after, short_tests, long_tests}
 use Rattle.cha_moves.proofs.Contained.{Contains-filter_parts, Contains-squares_small}
@@ -196,7 +197,7 @@ king_goes q s t man g king aims =
     let mover = may_gives q m may in
     let step : Step q m mover.0 = record { valid = g.valid; from = g.from; to = g.to; may = mover.1 } in
     let size = g.valid.size in
-    let own : same_color man.color q.side ≡ true = ap (λ (x : Man). same_color x.color q.side) (some_inj man mover.0 (sym g.found ∙ mover.1.found)) ∙ mover.1.own in
+    let own : same_color man.color q.side ≡ true = ap (λ (x : Man). same_color x.color q.side) (same_Some man mover.0 (sym g.found ∙ mover.1.found)) ∙ mover.1.own in
     let one : men_after q m ≡ slice_set (men_less q s) t (Some man) = king_moves_one q s t man g.found king aims ∙ ap (slice_set (men_less q s) t) g.found in
     let inside : t < length (men_less q s) = rw length-set (omega (arith, size, g.to)) in
     let here : man_at (men_after q m) t ≡ Some man = ap (λ (x : List (Option Man)). man_at x t) one ∙ put (men_less q s) t (Some man) inside in

@@ -4,6 +4,7 @@ use Rattle.std.specs.List.{count_by}
 use Rattle.std.proofs.lemmas.Bool.{and_parts, both_ways, eqb-true, eq-eqb, not-true, cases_eq, false_from_ne_true}
 use Rattle.std.proofs.lemmas.List.{length-set}
 use Rattle.std.proofs.lemmas.List.Sums.{sum_by-set}
+use Rattle.std.proofs.lemmas.Option.{same_Some}
 use Rattle.cha_board.specs.declared.men.Color.{Color}
 use Rattle.cha_board.specs.declared.men.Color.TheVariants.{White, Black}
 use Rattle.cha_board.specs.declared.men.Kind.{Kind}
@@ -15,7 +16,7 @@ use Rattle.cha_board.specs.Board.{Board, IsValid, man_at, is_empty, home_of, kin
 use Rattle.cha_board.proofs.Kings.{king_is}
 use Rattle.cha_moves.specs.Step.{Move}
 use Rattle.cha_moves.specs.Moves.{is_promotion, promotes_well, may_enter, arriving, is_target, is_en_passant, victim_of, is_short_castling, is_long_castling, moved, castles_short, castles_long, captures_en_passant, rook_of, men_after}
-use Rattle.cha_board.proofs.Identity.{same_color_equal, same_kind_equal, side_other, two_kinds, one_kind, empty_no_man, empty_is_none, none_some, some_inj, on_board, man_of, five_of_eight, six_of_nine, all_four, if_at}
+use Rattle.cha_board.proofs.Identity.{same_color_equal, same_kind_equal, side_other, two_kinds, one_kind, empty_no_man, empty_is_none, none_some, on_board, man_of, five_of_eight, six_of_nine, all_four, if_at}
 use Rattle.cha_moves.proofs.Made.{Mover, Step, put_other, length-moved, moved_other, men_moved, Plainly, Passing, Shortly, Longly, makes}
 
 -- the mover's own man bars a square
@@ -23,7 +24,7 @@ pub own_bars : (c : Color) (o : Option Man) (man : Man) → o ≡ Some man → s
 own_bars c None man e own h = cc
 own_bars c (Some x) man e own h =
     let both = and_parts (not (same_color x.color c)) (not (same_kind x.kind King)) h in
-    let f = some_inj x man e in
+    let f = same_Some x man e in
     both_ways (same_color x.color c) (not-true (same_color x.color c) both.0) (rw f own)
 
 -- a move leads to another square
@@ -64,11 +65,11 @@ promoted c k t b h =
 -- the man that arrives is of the mover's colour, and of its kind or promoted
 pub arrived_is : (c : Color) (man new : Man) (t : ℕ) (b : Option Kind) → promotes_well c man.kind t b ≡ true → arriving (Some man) b ≡ Some new → (man.color ≡ new.color) × Becomes man.kind new.kind
 arrived_is c man new t None well e =
-    let f = some_inj man new e in
+    let f = same_Some man new e in
     (ap (λ (x : Man). x.color) f, inl (ap (λ (x : Man). x.kind) (sym f)))
 arrived_is c man new t (Some k) well e =
     let late : Man = record { color = man.color; kind = k } in
-    let f = some_inj late new e in
+    let f = same_Some late new e in
     let kind : k ≡ new.kind = ap (λ (x : Man). x.kind) f in
     elim (promoted c man.kind t (Some k) well) [
       | inl x ↦ (ap (λ (x : Man). x.color) f, inr (x.0, rw (← kind) x.2))
@@ -190,7 +191,7 @@ victim_of_move q m man step h =
       inside = on_board q.men v k.man k.found;
       not_from = λ e. (
           let here : man_at q.men m.from ≡ Some k.man = ap (λ s. man_at q.men s) (sym e) ∙ k.found in
-          let one : k.man ≡ man = some_inj k.man man (sym here ∙ step.may.found) in
+          let one : k.man ≡ man = same_Some k.man man (sym here ∙ step.may.found) in
           let enemy : man.color ≡ other_color q.side = rw (← one) k.color in
           let own = same_color_equal man.color q.side step.may.own in
           side_other q.side (sym own ∙ enemy));

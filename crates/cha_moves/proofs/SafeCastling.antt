@@ -2,6 +2,7 @@
 use Rattle.std.proofs.Common.{◌≡◌, ◌≢◌, ℕ, ◌<◌, ◌+◌, ◌-◌, Bool, true, false, not, ◌||◌, ◌&&◌, List, length, Option, Some, None, inl, inr, refl, sym, ◌∙◌, ap, arith}
 use Rattle.std.specs.List.{list_all}
 use Rattle.std.proofs.lemmas.Bool.{and_parts, and_from, both_ways, cases_eq, or_cases, not-true, false_from_ne_true}
+use Rattle.std.proofs.lemmas.Option.{same_Some}
 use Rattle.cha_board.specs.declared.men.Color.{Color}
 use Rattle.cha_board.specs.declared.men.Color.TheVariants.{White, Black}
 use Rattle.cha_board.specs.declared.men.Kind.TheVariants.{Pawn, Rook, King}
@@ -15,7 +16,7 @@ use Rattle.cha_moves.specs.Step.{Move}
 use Rattle.cha_moves.specs.Moves.{goes, goes_as, may_enter, is_en_passant, is_short_castling, is_long_castling, castles_short, castles_long, moved, rook_of, men_after, arriving}
 use Rattle.cha_moves.specs.Ways.{is_way, is_promoted}
 use Rattle.cha_moves.specs.Shields.{aims_as, goes_legally}
-use Rattle.cha_board.proofs.Identity.{same_color_self, some_inj, one_color, one_kind, if_at}
+use Rattle.cha_board.proofs.Identity.{same_color_self, one_color, one_kind, if_at}
 use Rattle.cha_moves.proofs.Made.{Step, may_gives, length-moved, moved_to, moved_from, moved_other, men_moved, Plainly, Passing, Shortly, Longly, makes}
 use Rattle.cha_moves.proofs.Kept.{from_to, Castling, short_castling, long_castling, short_tests, long_tests, kings_kept, king_place, length_after}
 use Rattle.cha_moves.proofs.Sureness.{legal_if}
@@ -142,7 +143,7 @@ castling_goes q s t man g king far =
     let m : Move = record { from = s; to = t; promotion = None } in
     let plain : is_promoted q.side man.kind t ≡ false = rw king refl in
     let mover = may_gives q m (going_plain q s t man g plain) in
-    let own : same_color man.color q.side ≡ true = ap (λ (x : Man). same_color x.color q.side) (some_inj man mover.0 (sym g.found ∙ mover.1.found)) ∙ mover.1.own in
+    let own : same_color man.color q.side ≡ true = ap (λ (x : Man). same_color x.color q.side) (same_Some man mover.0 (sym g.found ∙ mover.1.found)) ∙ mover.1.own in
     let is_king : is_man q.side King (man_at q.men s) ≡ true = ap (is_man q.side King) g.found ∙ rw (own, king) refl in
     let no_pawn : is_man q.side Pawn (man_at q.men s) ≡ false = one_kind q.side q.side King Pawn (man_at q.men s) refl is_king in
     let h = home_of q.side in

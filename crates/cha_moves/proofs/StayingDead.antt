@@ -1,8 +1,8 @@
 -- What is unwinnable stays so.
 use Rattle.std.proofs.Common.{◌≡◌, ℕ, zero, suc, ◌+◌, ◌-◌, ◌≤◌, List, [], ◌∷◌, Some, slice_get, refl, sym, subst, ◌∙◌, arith, Contains}
+use Rattle.std.proofs.lemmas.Option.{same_Some}
 use Rattle.cha_board.specs.declared.men.Color.{Color}
 use Rattle.cha_board.specs.Board.{Board}
-use Rattle.cha_board.proofs.Identity.{some_inj}
 use Rattle.cha_moves.specs.Step.{Move}
 use Rattle.cha_moves.specs.Moves.{after, legal}
 use Rattle.cha_moves.specs.Ends.{IsUnwinnable}
@@ -25,7 +25,7 @@ module _ (qs : List Board) (w : Color) (played : ArePlayed qs) (i : ℕ) (p : Bo
   stays_behind zero q e =
       let same : i + 0 ≡ i = omega arith in
       let at : slice_get qs i ≡ Some q = subst (λ k. slice_get qs k ≡ Some q) same e in
-      subst (λ x. IsUnwinnable x w) (some_inj p q (sym there ∙ at)) none
+      subst (λ x. IsUnwinnable x w) (same_Some p q (sym there ∙ at)) none
   stays_behind (suc n) q e =
       let same : i + suc n ≡ suc (i + n) = omega arith in
       let at : slice_get qs (suc (i + n)) ≡ Some q = subst (λ k. slice_get qs k ≡ Some q) same e in

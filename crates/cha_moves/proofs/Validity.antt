@@ -1,6 +1,7 @@
 -- The position after a legal move is valid.
 use Rattle.std.proofs.Common.{◌≡◌, ◌≢◌, ℕ, ◌+◌, ◌-◌, ◌%◌, ◌<◌, ◌==◌, true, false, not, ◌&&◌, ◌||◌, List, length, Option, Some, None, slice_set, ◌⊎◌, inl, inr, refl, sym, ◌∙◌, ap, subst, arith}
 use Rattle.std.proofs.lemmas.Bool.{and_parts, and_from, or_cases, or_parts, both_ways, eqb-true, eqb-false, eq-eqb, not-true, ne_eqb, cases_eq, cases_Bool, false_from_ne_true, or_left, or_right}
+use Rattle.std.proofs.lemmas.Option.{same_Some}
 use Rattle.cha_board.specs.declared.men.Color.{Color}
 use Rattle.cha_board.specs.declared.men.Color.TheVariants.{White, Black}
 use Rattle.cha_board.specs.declared.men.Kind.{Kind}
@@ -13,7 +14,7 @@ use Rattle.cha_board.specs.Board.{Board, IsValid, man_at, is_empty, home_of, in_
 use Rattle.cha_board.proofs.Builds.{pawn_at, pawn_nowhere}
 use Rattle.cha_moves.specs.Step.{Move}
 use Rattle.cha_moves.specs.Moves.{second_rank, fourth_rank, middle, is_step, is_double_step, is_pawn_capture, is_en_passant, is_short_castling, is_long_castling, goes, is_promotion, is_target, arriving, victim_of, moved, rook_of, men_after, touches, rights_after, target_after, after, is_pseudo_legal, is_legal_in}
-use Rattle.cha_board.proofs.Identity.{all_five, same_color_equal, same_kind_equal, other_other, one_kind, none_some, some_inj, man_of, is_man_from, pawn_of, if_from}
+use Rattle.cha_board.proofs.Identity.{all_five, same_color_equal, same_kind_equal, other_other, one_kind, none_some, man_of, is_man_from, pawn_of, if_from}
 use Rattle.cha_moves.proofs.Made.{may_gives, Step, put, put_other, length-moved, moved_to, moved_from, moved_other, men_moved, Plainly, Passing, Shortly, Longly, makes}
 use Rattle.cha_moves.proofs.Kept.{from_to, promoted, arrived_is, Victim, victim_of_move, short_homes, long_homes, Castling, short_castling, long_castling, length_after, kings_kept}
 
@@ -206,7 +207,7 @@ unpromoted : (c : Color) (man new : Man) (b : Option Kind) → is_promotion b �
 unpromoted c man new None h e pawn = cc
 unpromoted c man new (Some k) h e pawn =
     let late : Man = record { color = man.color; kind = k } in
-    let f : k ≡ new.kind = ap (λ (x : Man). x.kind) (some_inj late new e) in
+    let f : k ≡ new.kind = ap (λ (x : Man). x.kind) (same_Some late new e) in
     let g : is_promotion (Some Pawn) ≡ true = rw (f, pawn) at h in
     cc
 
@@ -217,7 +218,7 @@ pawn_arrives q m man new step e pawn =
       | inl x ↦ absurd (unpromoted q.side man new m.promotion x.2 e pawn)
       | inr x ↦ (
           let same : Some man ≡ Some new = ap (arriving (Some man)) (sym x.0) ∙ e in
-          let kind : man.kind ≡ Pawn = ap (λ (y : Man). y.kind) (some_inj man new same) ∙ pawn in
+          let kind : man.kind ≡ Pawn = ap (λ (y : Man). y.kind) (same_Some man new same) ∙ pawn in
           let is : same_kind man.kind Pawn ≡ true = rw kind refl in
           (kind, λ last. both_ways (same_kind man.kind Pawn && (rank_of m.to == last_rank q.side)) x.1 (and_from (same_kind man.kind Pawn) (rank_of m.to == last_rank q.side) is (eq-eqb (rank_of m.to) (last_rank q.side) last))))
     ]
@@ -236,7 +237,7 @@ pawn_stands q m man new u step small pawn (Arrived e a) =
     (λ f. to.0 (ap rank_of (sym e) ∙ f), λ f. to.1 (ap rank_of (sym e) ∙ f))
 pawn_stands q m man new u step small pawn (Rooked i j castling e a) =
     let rook : Man = record { color = q.side; kind = Rook } in
-    let f : Rook ≡ Pawn = ap (λ (x : Man). x.kind) (some_inj rook new a) ∙ pawn in
+    let f : Rook ≡ Pawn = ap (λ (x : Man). x.kind) (same_Some rook new a) ∙ pawn in
     absurd cc
 pawn_stands q m man new u step small pawn (Stayed f t a) =
     pawn_inside q.men u (not-true (has_pawn_at_end q.men) step.valid.pawns) small (pawn_of new.color (man_at q.men u) (is_man_from (man_at q.men u) new new.color Pawn a refl pawn))

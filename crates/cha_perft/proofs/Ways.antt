@@ -1,13 +1,13 @@
 -- The moves of one way, which are legal.
 use Rattle.std.proofs.Common.{◌≡◌, ℕ, ◌+◌, ◌<◌, Bool, true, false, cond, List, [], ◌∷◌, Option, Some, None, refl, sym, ap, subst, ◌∙◌, arith}
 use Rattle.std.specs.List.{Contains}
+use Rattle.std.proofs.lemmas.Option.{same_Some}
 use Rattle.cha_board.specs.declared.men.Man.{Man}
 use Rattle.cha_board.specs.declared.men.Kind.{Kind}
 use Rattle.cha_board.specs.declared.men.Kind.TheVariants.{Queen, Rook, Bishop, Knight}
 use Rattle.cha_board.specs.Board.{Board, IsValid, man_at}
 use Rattle.cha_board.specs.SquareSets.{set_of, has_square}
 use Rattle.cha_board.proofs.SetLaws.{has-set_of}
-use Rattle.cha_board.proofs.Identity.{some_inj}
 use Rattle.cha_moves.specs.Step.{Move}
 use Rattle.cha_moves.specs.Moves.{is_legal_in, moves_between, after, legal}
 use Rattle.cha_moves.specs.Ways.{is_promoted, legal_between}
@@ -76,7 +76,7 @@ promoted_at q man last t small are = ap (λ (x : List Bool). has_square x t) are
 
 -- the man that stands there is of the kind that is told of it
 pub kind_of : (q : Board) (s : ℕ) (man : Man) → man_at q.men s ≡ Some man → (other : Man) → man_at q.men s ≡ Some other → man.kind ≡ other.kind
-kind_of q s man found other here = ap (λ (x : Man). x.kind) (some_inj man other (sym found ∙ here))
+kind_of q s man found other here = ap (λ (x : Man). x.kind) (same_Some man other (sym found ∙ here))
 
 -- what a move that is known asks
 pub asked : (q : Board) (s t : ℕ) (k : Option Kind) (man : Man) (m : Move) → man_at q.men s ≡ Some man → m ≡ move_of s t k → Contains (legal q) (move_of s t k)

@@ -2,6 +2,7 @@
 use Rattle.std.proofs.Common.{◌≡◌, ℕ, ◌<◌, true, ◌&&◌, length, Option, Some, None, refl, sym, subst, ◌∙◌}
 use Rattle.std.specs.List.{list_all, list_any}
 use Rattle.std.proofs.lemmas.Bool.{and_parts, and_from}
+use Rattle.std.proofs.lemmas.Option.{same_Some}
 use Rattle.cha_board.specs.declared.men.Color.{Color}
 use Rattle.cha_board.specs.declared.men.Kind.{Kind}
 use Rattle.cha_board.specs.declared.men.Kind.TheVariants.{Knight, Bishop, Rook, Queen}
@@ -14,7 +15,7 @@ use Rattle.cha_board.specs.Board.{Board, man_at}
 use Rattle.cha_board.proofs.Scans.{any_square_at, all_squares_at, each_square}
 use Rattle.cha_board.proofs.Contents.{some_square, same_test, in_set_of, subset_at, subset_from}
 use Rattle.cha_moves.specs.Moves.{is_promotion}
-use Rattle.cha_board.proofs.Identity.{on_board, some_inj}
+use Rattle.cha_board.proofs.Identity.{on_board}
 use Rattle.mob_sets.specs.Mobility.{Sets}
 use Rattle.mob_sets.specs.Rows.{SetRows, kinds, sets_of}
 use Rattle.mob_sets.proofs.KindTests.{any_kind_at, some_kind, all_kinds_at, each_kind}
@@ -114,7 +115,7 @@ module _ (g : Ground) (r : SetRows) where
   man_gives o (Some found) small h man is =
       let both = and_parts (s.has o found.kind o) (list_all (row_holds g r o found.color) kinds) h in
       let P : Man → Type 0 = λ m. ManRules g s o m in
-      subst P (some_inj found man is) (record { begins = both.0; each = λ k. row_gives o found.color k small (all_kinds_at (row_holds g r o found.color) k both.1) })
+      subst P (same_Some found man is) (record { begins = both.0; each = λ k. row_gives o found.color k small (all_kinds_at (row_holds g r o found.color) k both.1) })
 
   man_from : (o : ℕ) (found : Option Man) → ((man : Man) → found ≡ Some man → ManRules g s o man) → man_holds g r o found ≡ true
   unfolding man_holds

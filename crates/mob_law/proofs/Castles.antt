@@ -1,6 +1,7 @@
 -- Castling: the king and its rook go at once, and both leave their origins.
 use Rattle.std.proofs.Common.{◌≡◌, ◌≢◌, ℕ, ◌+◌, ◌-◌, true, false, cond, ◌==◌, List, Option, Some, refl, sym, subst, ap, ◌∙◌, arith, inl}
 use Rattle.std.proofs.lemmas.Bool.{and_parts, eq-eqb, ne_eqb}
+use Rattle.std.proofs.lemmas.Option.{same_Some}
 use Rattle.cha_board.specs.declared.men.Color.{Color}
 use Rattle.cha_board.specs.declared.men.Color.TheVariants.{White, Black}
 use Rattle.cha_board.specs.declared.men.Kind.{Kind}
@@ -10,7 +11,7 @@ use Rattle.cha_board.specs.Men.{same_kind, is_man}
 use Rattle.cha_board.specs.Board.{Board, man_at, home_of}
 use Rattle.cha_moves.specs.Step.{Move}
 use Rattle.cha_moves.specs.Moves.{is_short_castling, is_long_castling, arriving, moved, castles_short, castles_long, rook_of, men_after, after}
-use Rattle.cha_board.proofs.Identity.{some_inj, man_of, is_man_from}
+use Rattle.cha_board.proofs.Identity.{man_of, is_man_from}
 use Rattle.cha_moves.proofs.Made.{Step, moved_other, men_moved}
 use Rattle.cha_moves.proofs.Kept.{Castling, short_castling, long_castling, short_tests, long_tests, stays_man}
 use Rattle.cha_moves.proofs.Validity.{Castled, KingHere, RookHere, Others, castled, short_after, long_after}
@@ -55,7 +56,7 @@ record CastlingMove (p : Board) (s : Sets) (q : Board) (origin : ℕ → ℕ) (m
 king_stays : (q : Board) (m : Move) (man new : Man) → Step q m man → man.kind ≡ King → arriving (Some man) m.promotion ≡ Some new → man ≡ new
 king_stays q m man new step king arrives =
     let other : same_kind man.kind Pawn ≡ false = rw king refl in
-    some_inj man new (sym (stays_man q.side man m.to m.promotion step.may.well other) ∙ arrives)
+    same_Some man new (sym (stays_man q.side man m.to m.promotion step.may.well other) ∙ arrives)
 
 -- from which square the man on u came
 data Source (from to i j u x : ℕ) : Type 0 where
@@ -103,7 +104,7 @@ module _ (p : Board) (s : Sets) (q : Board) (origin : ℕ → ℕ) (m : Move) (m
   castled_comes u new (RookHere e arrives) =
       let rook = man_of (man_at q.men i) q.side Rook c.move.rook in
       let late : Man = record { color = q.side; kind = Rook } in
-      let one : late ≡ new = some_inj late new arrives in
+      let one : late ≡ new = same_Some late new arrives in
       let color : q.side ≡ new.color = ap (λ (x : Man). x.color) one in
       let kind : Rook ≡ new.kind = ap (λ (x : Man). x.kind) one in
       let nt : u ≢ m.to = λ f. c.move.j_to (sym e ∙ f) in
@@ -137,7 +138,7 @@ module _ (p : Board) (s : Sets) (q : Board) (origin : ℕ → ℕ) (m : Move) (m
       absurd cc
   castled_second u new d color kind (RookHere e arrives) =
       let late : Man = record { color = q.side; kind = Rook } in
-      let is : Rook ≡ Pawn = ap (λ (x : Man). x.kind) (some_inj late new arrives) ∙ kind in
+      let is : Rook ≡ Pawn = ap (λ (x : Man). x.kind) (same_Some late new arrives) ∙ kind in
       absurd cc
   castled_second u new d color kind (Others nf nt ni nj stays) =
       (is_man_from (man_at q.men u) new d Pawn stays color kind, back_none m.from m.to i j u nt nj)
@@ -208,7 +209,7 @@ module _ (p : Board) (s : Sets) (q : Board) (origin : ℕ → ℕ) (m : Move) (m
       let X : ℕ → Type 0 = λ x. is_fixed p s x ≡ false in
       let c : CastlingMove p s q origin m man i j = record {
         move = short_castling q m step.valid h men;
-        king = ap (λ (x : Man). x.kind) (some_inj man king.man (sym step.may.found ∙ king.found)) ∙ king.kind;
+        king = ap (λ (x : Man). x.kind) (same_Some man king.man (sym step.may.found ∙ king.found)) ∙ king.kind;
         castles = subst T (sym tests.two_files) (subst F (sym tests.from_home) castles);
         king_origin = subst O (sym tests.from_home) right.1;
         rook_origin = right.2;
@@ -238,7 +239,7 @@ module _ (p : Board) (s : Sets) (q : Board) (origin : ℕ → ℕ) (m : Move) (m
       let X : ℕ → Type 0 = λ x. is_fixed p s x ≡ false in
       let c : CastlingMove p s q origin m man i j = record {
         move = long_castling q m step.valid h men;
-        king = ap (λ (x : Man). x.kind) (some_inj man king.man (sym step.may.found ∙ king.found)) ∙ king.kind;
+        king = ap (λ (x : Man). x.kind) (same_Some man king.man (sym step.may.found ∙ king.found)) ∙ king.kind;
         castles = subst T (sym tests.two_files) (subst F (sym tests.from_home) castles);
         king_origin = subst O (sym tests.from_home) right.1;
         rook_origin = right.2;

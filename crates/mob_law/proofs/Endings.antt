@@ -2,6 +2,7 @@
 use Rattle.std.proofs.Common.{◌≡◌, ◌≢◌, ℕ, ◌<◌, ◌==◌, true, false, not, ◌&&◌, ◌⊎◌, List, [], length, Option, Some, None, Contains, refl, sym, subst, ap, ◌∙◌, arith, inl, inr}
 use Rattle.std.specs.List.{list_any}
 use Rattle.std.proofs.lemmas.Bool.{and_parts, and_from, or_cases, both_ways, cases_Bool, not-true, false_from_ne_true}
+use Rattle.std.proofs.lemmas.Option.{same_Some}
 use Rattle.cha_board.specs.declared.men.Color.{Color}
 use Rattle.cha_board.specs.declared.men.Kind.{Kind}
 use Rattle.cha_board.specs.declared.men.Kind.TheVariants.{Pawn, King}
@@ -9,7 +10,7 @@ use Rattle.cha_board.specs.declared.men.Man.{Man}
 use Rattle.cha_board.specs.Men.{other_color, same_color, same_kind, is_man}
 use Rattle.cha_board.specs.Squares.{squares, steps_apart, aims_at, lies_between}
 use Rattle.cha_board.specs.Board.{Board, man_at, is_empty, is_clear, attacked, king_of, in_check, has_one_king, IsValid}
-use Rattle.cha_board.proofs.Identity.{man_of, is_man_from, same_color_equal, same_kind_equal, empty_is_none, other_other, none_some, some_inj, one_color}
+use Rattle.cha_board.proofs.Identity.{man_of, is_man_from, same_color_equal, same_kind_equal, empty_is_none, other_other, none_some, one_color}
 use Rattle.cha_board.proofs.ManTests.{not_of_other}
 use Rattle.cha_board.proofs.Contents.{some_square}
 use Rattle.cha_moves.specs.Step.{Move}
@@ -169,7 +170,7 @@ module _ (q : Board) (w : Color) (valid : IsValid q) (mate : IsMated q (other_co
         let P : ℕ → Type 0 = λ x. man_at then x ≡ Some a.man in
         let not_from : u ≢ n = λ f. none_some (man_at then n) a.man left (subst P f a.found) in
         let not_to : u ≢ t = λ f. (
-        let same = some_inj new a.man (sym arrived ∙ subst P f a.found) in
+        let same = same_Some new a.man (sym arrived ∙ subst P f a.found) in
         let C : Man → Type 0 = λ x. same_color x.color (other_color w) ≡ true in
         one_color a.man.color w a.own (subst C same new_own)) in
         let stood : man_at q.men u ≡ Some a.man = sym (stays u not_from not_to) ∙ a.found in

@@ -1,6 +1,7 @@
 -- A mate where the facts hold is a threat in the sets.
 use Rattle.std.proofs.Common.{◌≡◌, ◌≢◌, ℕ, ◌<◌, true, false, not, ◌||◌, ◌==◌, ◌⊎◌, List, [], length, Option, Some, None, Contains, refl, sym, subst, ap, ◌∙◌, arith, inl, inr}
 use Rattle.std.proofs.lemmas.Bool.{and_from, or_left, or_right, both_ways, false_from_ne_true, true_from_ne_false, not-true, cases_Bool, cases_eq, eq-eqb, eqb-true}
+use Rattle.std.proofs.lemmas.Option.{same_Some}
 use Rattle.cha_board.specs.declared.men.Color.{Color}
 use Rattle.cha_board.specs.declared.men.Kind.TheVariants.{King}
 use Rattle.cha_board.specs.declared.men.Man.{Man}
@@ -11,7 +12,7 @@ use Rattle.cha_board.proofs.Sightings.{attacked_from}
 use Rattle.cha_moves.specs.Step.{Move}
 use Rattle.cha_moves.specs.Moves.{may_enter, is_pseudo_legal, moved, men_after, is_legal_in}
 use Rattle.cha_moves.specs.Ends.{IsMated}
-use Rattle.cha_board.proofs.Identity.{other_other, same_color_self, same_color_equal, same_kind_equal, ManOf, man_of, is_man_from, none_some, some_inj, on_board}
+use Rattle.cha_board.proofs.Identity.{other_other, same_color_self, same_color_equal, same_kind_equal, ManOf, man_of, is_man_from, none_some, on_board}
 use Rattle.cha_moves.proofs.Kept.{kings_kept, king_place}
 use Rattle.cha_moves.proofs.Made.{may_gives, length-moved, moved_to, moved_from, moved_other}
 use Rattle.cha_moves.proofs.Listed.{listed}
@@ -213,7 +214,7 @@ module _ (p : Board) (s : Sets) (q : Board) (w : Color) (origin : ℕ → ℕ) (
             let first = origin_is_non_king p s q origin scene.facts w u e.man stood e.own h in
             let second = origin_is_non_king p s q origin scene.facts w c.square c.man c.found c.own c.other in
             let together = scene.facts.distinct u c.square e.man c.man stood c.found (lone (origin u) (origin c.square) first second) in
-            let one = some_inj e.man c.man (sym stood ∙ (rw together c.found)) in
+            let one = same_Some e.man c.man (sym stood ∙ (rw together c.found)) in
             (ap (λ (x : Man). x.kind) one, together))
       ]
 

@@ -1,6 +1,7 @@
 -- Moves of pawns: steps, double steps, captures, captures en passant, and promotion.
 use Rattle.std.proofs.Common.{◌≡◌, ◌≢◌, ℕ, ◌+◌, ◌-◌, ◌/◌, ◌%◌, true, false, not, ◌&&◌, ◌==◌, Option, Some, None, refl, sym, subst, ap, ◌∙◌, arith, inl, inr}
 use Rattle.std.proofs.lemmas.Bool.{and_parts, and_from, both_ways, false_from_ne_true, not-true, eq-eqb}
+use Rattle.std.proofs.lemmas.Option.{same_Some}
 use Rattle.cha_board.specs.declared.men.Color.{Color}
 use Rattle.cha_board.specs.declared.men.Color.TheVariants.{White, Black}
 use Rattle.cha_board.specs.declared.men.Kind.{Kind}
@@ -11,7 +12,7 @@ use Rattle.cha_board.specs.Squares.{rank_of, last_rank, files_apart, is_rank_ahe
 use Rattle.cha_board.specs.Board.{Board, man_at, is_empty}
 use Rattle.cha_moves.specs.Step.{Move}
 use Rattle.cha_moves.specs.Moves.{second_rank, fourth_rank, middle, is_step, is_double_step, is_pawn_capture, is_target, is_en_passant, goes, promotes_well, arriving, victim_of}
-use Rattle.cha_board.proofs.Identity.{same_color_self, same_color_equal, some_inj, man_of}
+use Rattle.cha_board.proofs.Identity.{same_color_self, same_color_equal, man_of}
 use Rattle.cha_moves.proofs.Made.{Step}
 use Rattle.cha_moves.proofs.Kept.{Target, target_of, promoted}
 use Rattle.cha_moves.proofs.Validity.{step_tests, double_step, pawn_way, Steps, DoubleSteps, Captures, Passes}
@@ -26,7 +27,7 @@ use Rattle.mob_law.proofs.PieceMoves.{enemy_there, spared}
 -- what a pawn that enters a square becomes there is in reach there
 pawn_reach : (p : Board) (s : Sets) (o : ℕ) (c : Color) (u t : ℕ) (man new : Man) (b : Option Kind) → Enters p s o c u t → man.kind ≡ Pawn → promotes_well c man.kind t b ≡ true → arriving (Some man) b ≡ Some new → s.has o new.kind t ≡ true
 pawn_reach p s o c u t man new None enters pawn well arrives =
-    let one : man ≡ new = some_inj man new arrives in
+    let one : man ≡ new = same_Some man new arrives in
     let kind : Pawn ≡ new.kind = sym pawn ∙ ap (λ (x : Man). x.kind) one in
     let P : Kind → Type 0 = λ k. s.has o k t ≡ true in
     let is : same_kind man.kind Pawn ≡ true = rw pawn refl in
@@ -37,7 +38,7 @@ pawn_reach p s o c u t man new None enters pawn well arrives =
     ]
 pawn_reach p s o c u t man new (Some k) enters pawn well arrives =
     let late : Man = record { color = man.color; kind = k } in
-    let kind : k ≡ new.kind = ap (λ (x : Man). x.kind) (some_inj late new arrives) in
+    let kind : k ≡ new.kind = ap (λ (x : Man). x.kind) (same_Some late new arrives) in
     let P : Kind → Type 0 = λ j. s.has o j t ≡ true in
     elim (promoted c man.kind t (Some k) well) [
       | inl x ↦ subst P kind (enters.becomes x.1 k x.2)

@@ -1,6 +1,7 @@
 -- Moves of men other than pawns: the rules have them in reach where they go, and no king steps onto a guarded square.
 use Rattle.std.proofs.Common.{◌≡◌, ◌≢◌, ℕ, ◌<◌, true, false, not, ◌&&◌, ◌||◌, ◌==◌, length, Option, Some, None, refl, sym, subst, ap, ◌∙◌, arith, inl, inr}
 use Rattle.std.proofs.lemmas.Bool.{and_parts, and_from, or_cases, both_ways, false_from_ne_true, not-true, cases_Bool}
+use Rattle.std.proofs.lemmas.Option.{same_Some}
 use Rattle.cha_board.specs.declared.men.Color.{Color}
 use Rattle.cha_board.specs.declared.men.Kind.{Kind}
 use Rattle.cha_board.specs.declared.men.Kind.TheVariants.{Pawn, Knight, Bishop, Rook, Queen, King}
@@ -11,7 +12,7 @@ use Rattle.cha_board.specs.Board.{Board, man_at, is_clear, in_check, king_of, ha
 use Rattle.cha_board.proofs.Sightings.{attacked_from}
 use Rattle.cha_moves.specs.Step.{Move}
 use Rattle.cha_moves.specs.Moves.{goes, is_short_castling, is_long_castling, may_enter, arriving, is_en_passant, castles_short, castles_long, captures_en_passant, men_after}
-use Rattle.cha_board.proofs.Identity.{other_other, same_color_equal, same_kind_equal, some_inj, man_of, is_man_from}
+use Rattle.cha_board.proofs.Identity.{other_other, same_color_equal, same_kind_equal, man_of, is_man_from}
 use Rattle.cha_moves.proofs.Made.{Step, length-moved, moved_to, moved_other, men_moved}
 use Rattle.cha_moves.proofs.Kept.{stays_man, kings_kept, king_place}
 use Rattle.mob_law.specs.Reach.{is_fixed, is_open, is_guarded}
@@ -57,7 +58,7 @@ record Way (p : Board) (s : Sets) (q : Board) (m : Move) (man : Man) : Type 0 wh
 no_pawn_passes : (q : Board) (o : Option Man) (man : Man) (s t : ℕ) → o ≡ Some man → same_kind man.kind Pawn ≡ false → captures_en_passant q o s t ≡ true → ⊥
 no_pawn_passes q o man s t found other h =
     let pawn = man_of o q.side Pawn (and_parts (is_man q.side Pawn o) (is_en_passant q s t) h).0 in
-    let one = some_inj pawn.man man (sym pawn.found ∙ found) in
+    let one = same_Some pawn.man man (sym pawn.found ∙ found) in
     let kind : man.kind ≡ Pawn = ap (λ (x : Man). x.kind) (sym one) ∙ pawn.kind in
     both_ways (same_kind man.kind Pawn) other (rw kind refl)
 
@@ -130,7 +131,7 @@ module _ (p : Board) (s : Sets) (q : Board) (origin : ℕ → ℕ) (m : Move) (m
         unfixed = free;
         leaves = walks.leaves free;
         reach = λ new arrives. (
-            let one : man ≡ new = some_inj man new (sym (stays_man q.side man m.to m.promotion step.may.well way.other) ∙ arrives) in
+            let one : man ≡ new = same_Some man new (sym (stays_man q.side man m.to m.promotion step.may.well way.other) ∙ arrives) in
             (let P : Man → Type 0 = λ x. s.has (origin m.from) x.kind m.to ≡ true in subst P one (walks.goes free)));
         victim = λ passes. absurd (no_pawn_passes q (man_at q.men m.from) man m.from m.to step.may.found way.other passes);
       }

@@ -2,6 +2,7 @@
 -- the king captures the one that checks, or steps in between.
 use Rattle.std.proofs.Common.{◌≡◌, ◌≢◌, ℕ, ◌<◌, true, false, ◌||◌, ◌⊎◌, List, Option, Some, refl, sym, subst, ap, ◌∙◌, inl, inr}
 use Rattle.std.proofs.lemmas.Bool.{and_parts, both_ways, eqb-true, or_cases}
+use Rattle.std.proofs.lemmas.Option.{same_Some}
 use Rattle.cha_board.specs.declared.men.Color.{Color}
 use Rattle.cha_board.specs.declared.men.Color.TheVariants.{White}
 use Rattle.cha_board.specs.declared.men.Kind.{Kind}
@@ -10,7 +11,7 @@ use Rattle.cha_board.specs.declared.men.Man.{Man}
 use Rattle.cha_board.specs.Men.{other_color, same_color, is_vacant, is_man, is_non_king}
 use Rattle.cha_board.specs.Squares.{steps_apart, is_diagonal, aims_at, lies_between, color_of_square}
 use Rattle.cha_board.specs.Board.{Board, man_at, is_empty, is_clear, attacked, in_check, IsValid}
-use Rattle.cha_board.proofs.Identity.{man_of, same_color_self, same_color_equal, other_other, some_inj, empty_is_none}
+use Rattle.cha_board.proofs.Identity.{man_of, same_color_self, same_color_equal, other_other, empty_is_none}
 use Rattle.cha_board.proofs.ManTests.{is_non_king_from}
 use Rattle.cha_moves.specs.Moves.{may_enter, moved}
 use Rattle.cha_moves.specs.Ends.{IsMated}
@@ -70,7 +71,7 @@ module _ (q : Board) (w : Color) (square : Color) (valid : IsValid q) (has : Has
   its_kind : (u : ℕ) (man : Man) → is_non_king w (man_at q.men u) ≡ true → man_at q.men u ≡ Some man → man.kind ≡ Bishop
   its_kind u man h found =
       let b = man_of (man_at q.men u) w Bishop (bishop_there u h).0 in
-      let same : b.man ≡ man = some_inj b.man man (sym b.found ∙ found) in
+      let same : b.man ≡ man = same_Some b.man man (sym b.found ∙ found) in
       let K : Man → Type 0 = λ x. x.kind ≡ Bishop in
       subst K same b.kind
 

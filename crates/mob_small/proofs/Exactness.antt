@@ -2,6 +2,7 @@
 use Rattle.std.proofs.Common.{◌≡◌, ◌≢◌, ℕ, ◌<◌, ◌==◌, Bool, true, false, not, ◌&&◌, List, length, Option, Some, None, slice_get, ◌↔◌, IsTrue, refl, sym, subst, ap, ◌∙◌, inl, inr}
 use Rattle.std.specs.List.{list_any}
 use Rattle.std.proofs.lemmas.Bool.{and_parts, and_from, both_ways, cases_eq, ne_eqb, false_from_ne_true, true_from_ne_false, not-true, eqb-false, not-false, or_cases}
+use Rattle.std.proofs.lemmas.Option.{same_Some}
 use Rattle.cha_board.specs.declared.men.Color.{Color}
 use Rattle.cha_board.specs.declared.men.Color.TheVariants.{White, Black}
 use Rattle.cha_board.specs.declared.men.Kind.{Kind}
@@ -14,7 +15,7 @@ use Rattle.cha_board.specs.Board.{Board, man_at}
 use Rattle.cha_board.proofs.SetLaws.{has-set_of}
 use Rattle.cha_board.proofs.Contents.{some_square, in_set_of}
 use Rattle.cha_board.proofs.Firsts.{first_tells, none_tells}
-use Rattle.cha_board.proofs.Identity.{man_of, on_board, is_man_from, some_inj, same_color_equal}
+use Rattle.cha_board.proofs.Identity.{man_of, on_board, is_man_from, same_color_equal}
 use Rattle.cha_board.proofs.ManTests.{either_color, kinds_differ}
 use Rattle.cha_board.proofs.Scans.{any_square_at}
 use Rattle.mob_small.specs.Small.{HasNoPawn, HasOnlyKing, HasOneBeside, HasBeside, IsMateFree, IsSmallUnwinnable}
@@ -57,7 +58,7 @@ module _ (men : List (Option Man)) (c : Color) (size : length men ≡ 64) (set :
     unfolding set_without has_no_square
     one_beside rest man found =
         let m = non_king_of (man_at men at) c first_non_king in
-        let same : m.man ≡ man = some_inj m.man man (sym m.found ∙ found) in
+        let same : m.man ≡ man = same_Some m.man man (sym m.found ∙ found) in
         let M : Man → Type 0 = λ x. same_color x.color c ≡ true in
         let K : Man → Type 0 = λ x. same_kind x.kind King ≡ false in
         record {
@@ -98,7 +99,7 @@ beside_is_one men c (Some k) (Some j) one other =
     let m = man_of (man_at men one.square) c k one.stands in
     let P : ℕ → Type 0 = λ x. is_man c j (man_at men x) ≡ true in
     let n = man_of (man_at men one.square) c j (subst P place other.stands) in
-    let same = some_inj m.man n.man (sym m.found ∙ n.found) in
+    let same = same_Some m.man n.man (sym m.found ∙ n.found) in
     ap Some (sym m.kind ∙ ap (λ (x : Man). x.kind) same ∙ n.kind)
 
 -- what is known of the two sides settles the verdict

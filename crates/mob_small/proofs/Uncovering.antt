@@ -1,6 +1,7 @@
 -- A side that has beside its king only bishops on squares of one colour never gives check by two men at once.
 use Rattle.std.proofs.Common.{◌≡◌, ◌≢◌, ℕ, ◌<◌, true, false, not, List, Option, Some, None, refl, sym, subst, ap, ◌∙◌, inl, inr}
 use Rattle.std.proofs.lemmas.Bool.{and_parts, both_ways, cases_Bool, cases_eq, false_from_ne_true, not-true}
+use Rattle.std.proofs.lemmas.Option.{same_Some}
 use Rattle.cha_board.specs.declared.men.Color.{Color}
 use Rattle.cha_board.specs.declared.men.Color.TheVariants.{White}
 use Rattle.cha_board.specs.declared.men.Kind.{Kind}
@@ -9,7 +10,7 @@ use Rattle.cha_board.specs.declared.men.Man.{Man}
 use Rattle.cha_board.specs.Men.{other_color, same_color, same_kind, is_vacant, is_man, is_non_king}
 use Rattle.cha_board.specs.Squares.{is_diagonal, aims_at, lies_between, color_of_square}
 use Rattle.cha_board.specs.Board.{Board, man_at, is_empty, is_clear, attacked, king_of, in_check, IsValid}
-use Rattle.cha_board.proofs.Identity.{man_of, is_man_from, same_color_self, same_color_equal, same_kind_equal, other_other, none_some, some_inj, one_kind, empty_is_none}
+use Rattle.cha_board.proofs.Identity.{man_of, is_man_from, same_color_self, same_color_equal, same_kind_equal, other_other, none_some, one_kind, empty_is_none}
 use Rattle.cha_board.proofs.ManTests.{is_non_king_from, not_of_other}
 use Rattle.cha_board.proofs.Sightings.{attacked_from}
 use Rattle.cha_moves.specs.Step.{Move}
@@ -139,7 +140,7 @@ module _ (q : Board) (m : Move) (valid : IsValid q) (from : m.from < 64) (to : m
     no_king_here : (u : ℕ) (a : Attacker then q.side k u) → a.man.kind ≡ Bishop → u ≡ m.to → same_kind man.kind King ≡ true → ⊥
     no_king_here u a bishop here king_moved =
         let P : ℕ → Type 0 = λ x. man_at then x ≡ Some a.man in
-        let same : a.man ≡ man = some_inj a.man man (sym (subst P here a.found) ∙ arrived) in
+        let same : a.man ≡ man = same_Some a.man man (sym (subst P here a.found) ∙ arrived) in
         let K : Man → Type 0 = λ x. x.kind ≡ Bishop in
         let kind : man.kind ≡ Bishop = subst K same bishop in
         let none : same_kind man.kind King ≡ false = rw kind refl in

@@ -1,5 +1,6 @@
 -- Where games end.
 use Rattle.std.proofs.Common.{◌≡◌, ℕ, zero, suc, ◌+◌, ◌<◌, ◌≤◌, ◌==◌, ◌&&◌, Bool, true, false, if◌then◌else◌, List, [], ◌∷◌, ◌++◌, Option, Some, None, is_some, length, take, drop, refl, sym, ap, ◌∙◌, subst, arith, append-nil, append_assoc, length-append}
+use Rattle.std.proofs.lemmas.Option.{same_Some}
 use Rattle.pgn_lex.specs.declared.kinds.Token.{Token}
 use Rattle.pgn_lex.specs.declared.kinds.Placed.{Placed}
 use Rattle.pgn_games.specs.declared.token_turns.Place.{Place}
@@ -21,9 +22,6 @@ zero_more n = omega arith
 
 one_plus : (n : ℕ) → 1 + n ≡ suc n
 one_plus n = omega arith
-
-some_is : (a b : ℕ) → ◌≡◌ {A = Option ℕ} (Some a) (Some b) → b ≡ a
-some_is a b e = cc
 
 take_onto : (t : Placed) (n : ℕ) (games : List (List Placed)) → take (suc n) (onto t games) ≡ onto t (take (suc n) games)
 take_onto t n [] = ap (λ gs. (t ∷ []) ∷ gs) (take_nothing n)
@@ -71,7 +69,7 @@ ClosesAt place xs n ts =
 
 one_in_front : (k n : ℕ) (o : Option ℕ) → shifted 1 o ≡ Some n → (m : ℕ) × (o ≡ Some m) × (n ≡ suc m)
 one_in_front k n None e = cc
-one_in_front k n (Some m) e = let f : n ≡ 1 + m = some_is (1 + m) n e in (m, refl, omega (arith, f))
+one_in_front k n (Some m) e = let f : n ≡ 1 + m = sym (same_Some (1 + m) n e) in (m, refl, omega (arith, f))
 
 ended_step : (place : Place) (t : Placed) (ts : List Placed) → games_ended place (t ∷ ts) ≡ ends_by (turn place t.token) + games_ended (place_after (turn place t.token)) ts
 unfolding games_ended
@@ -95,10 +93,10 @@ closes_by (Stays p) place x xs n ts e f later =
       omega (arith, h.2),
     )
 closes_by Ends place x xs n ts e f later =
-    let one : n ≡ 1 = some_is 1 n f in
+    let one : n ≡ 1 = sym (same_Some 1 n f) in
     subst (λ k. ClosesAt place (x ∷ xs) k ts) (sym one) (cut_by Ends place x (xs ++ ts) e, ended_by Ends place x (xs ++ ts) e, omega arith)
 closes_by Begins place x xs n ts e f later =
-    let none : n ≡ 0 = some_is 0 n f in
+    let none : n ≡ 0 = sym (same_Some 0 n f) in
     let tag = tag_begins place x.token e in
     subst (λ k. ClosesAt place (x ∷ xs) k ts) (sym none) (
       cut_by Begins place x (xs ++ ts) e ∙ ap (λ gs. [] ∷ gs) (sym (cut_by (Stays Tags) Before x (xs ++ ts) tag)),
@@ -184,7 +182,7 @@ open_game (x ∷ xs) e some =
 -- a game has a token
 first_by : (u : Turn) (x : Placed) (o : Option ℕ) (n : ℕ) → turn Before x.token ≡ u → size_with u o ≡ Some n → 0 < n
 first_by (Stays p) x o n e f = let h = one_in_front 0 n o f in omega (arith, h.2)
-first_by Ends x o n e f = omega (arith, some_is 1 n f)
+first_by Ends x o n e f = omega (arith, same_Some 1 n f)
 first_by Begins x o n e f = let g : Begins ≡ Stays Tags = sym e ∙ tag_begins Before x.token e in cc
 
 pub some_first : (xs : List Placed) (n : ℕ) → first_end Before xs ≡ Some n → 0 < n

@@ -1,5 +1,6 @@
 -- A row that was stored stays until it is evicted.
 use Rattle.std.proofs.Common.{◌≡◌, ◌∙◌, refl, sym, ap, subst, cond, ℕ, ◌-◌, ◌+◌, zero, suc, List, [], ◌∷◌, ◌++◌, map, take, length, Bool, true, false, Some, None, slice_get, ◌≤◌, ◌⊎◌, inl, inr, ⊎_elim, arith}
+use Rattle.std.proofs.lemmas.Option.{same_Some}
 use Rattle.turn_cell.specs.declared.object.Entry.{Entry}
 use Rattle.turn_cell.specs.Histories.{IsLegalHistory, entry}
 use Rattle.cha_fact.specs.declared.key.Key.{Key}
@@ -131,13 +132,10 @@ store_step_has row v u (Probed reply) s h = absurd h
 live_has : (history : History) (i : ℕ) (v u : Rows) (row : Claim) → IsLegalHistory ShardStep v history u → IsLive history i row → Has (row_key row) (rank_of row.fact) u.rows
 live_has [] i v u row l h = let e = h.1 in cc
 live_has (e ∷ history) zero v u row l h =
-    let same : e ≡ h.0 = some_same e h.0 h.1 in
+    let same : e ≡ h.0 = same_Some e h.0 h.1 in
     let call : e.call ≡ Store row = ap (λ (x : Entry FactCall FactReply). x.call) same ∙ h.2 in
     let stay : IsKeptBy e.reply = subst (λ (x : Entry FactCall FactReply). IsKeptBy x.reply) (sym same) h.3 in
     kept_by_all (row_key row) (rank_of row.fact) history l.0 u l.2 (store_step_has row v l.0 e.reply (subst (λ c. ShardStep v c e.reply l.0) call l.1) stay) (λ j d f. h.4 (suc j) d (omega arith) f)
-  where
-    some_same : (a b : Entry FactCall FactReply) → Some a ≡ Some b → a ≡ b
-    some_same a b e = cc
 live_has (e ∷ history) (suc i) v u row l h = live_has history i l.0 u row l.2 (h.0, h.1, h.2, h.3, λ j d lt f. h.4 (suc j) d (omega (arith, lt)) f)
 
 -- a history whose last entry is known

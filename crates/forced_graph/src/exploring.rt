@@ -20,7 +20,8 @@ use std::alloc::Global;
 /// good, and small material or lone minor men never mate there or its closed sets have no mate, it is a leaf, which is never
 /// expanded and costs nothing.
 ///
-/// A place that keeps facts is asked for each position that is expanded; a mate that it knows ends the exploration.
+/// A place that keeps facts is asked for each position that is expanded; a mate that it knows ends the exploration. Where
+/// more than 4,294,967,295 positions are met, memory counts as used up.
 pub fn explore_in<F: Facts>(
     alloc: Global,
     position: &Position,

@@ -22,6 +22,7 @@ use Rattle.root_workers.specs.declared.answers.RoundsDone.{RoundsDone}
 use Rattle.root_workers.specs.RoundAnswers.{RoundsCalls}
 use Rattle.root_workers.specs.Shares.{IsShare, ShareCalls, AllGrow}
 use Rattle.root_workers.specs.Crews.{IsCrew, CrewMakes, LeavesWork, WorkerDone}
+use Rattle.root_workers.specs.Splits.{OnlySplits, IsFresh, AreFresh}
 
 -- what all calls keep is kept by a worker's part of a round
 pub calls_keep : {S X : Type 0} (made : S → List Entry → S → Type 0) (f : S → X) (a b : S) (task : Task) (moves : List Move) (number count : ℕ) (work : Work)
@@ -98,6 +99,26 @@ all_workers table crew count workers same some few = record {
 -- one more pass was split off
 pub one_split : (old new other : TablePass) → SplitsAll old new other → splits_of new ≡ splits_of old + 1
 one_split old new other split = (split 0 (omega arith)).splits
+
+-- what the pass knows stays, and the pass that was split off knows it
+pub splits_none : (pass : TablePass) → OnlySplits pass pass
+splits_none pass = record { seen = λ k low. refl; mine = λ k low. refl; joins = refl; }
+
+pub splits_more : (first old new other : TablePass) → OnlySplits first old → SplitsAll old new other → OnlySplits first new
+splits_more first old new other before split = record {
+  seen = λ k low. (split k low).same.1 ∙ before.seen k low;
+  mine = λ k low. (split k low).same.2 ∙ before.mine k low;
+  joins = (split 0 (omega arith)).same.3 ∙ before.joins;
+}
+
+pub none_fresh : (first : TablePass) (crew : List Worker) → crew ≡ [] → AreFresh first crew
+none_fresh first crew is = subst (λ (ws : List Worker). AreFresh first ws) (sym is) (λ i d less. absurd (omega (arith, less)))
+
+pub one_more_fresh : (first old new : TablePass) (crew : List Worker) (w : Worker) → AreFresh first crew → OnlySplits first old → SplitsAll old new w.pass → AreFresh first (crew ++ w ∷ [])
+one_more_fresh first old new crew w before only split = worker_at (λ i x. IsFresh first x.pass) crew w before (record {
+  seen = λ k low. (split k low).other_seen ∙ only.seen k low;
+  mine = λ k low. (split k low).other_mine;
+})
 
 -- all workers did their parts of a round
 module _ (table : Table) (task : Task) (moves : List Move) where

@@ -2,6 +2,7 @@
 pub mod Shares
 pub mod RoundAnswers
 pub mod Crews
+pub mod Splits
 pub mod Gathers
 -- inside the crate
 pub mod Deepens

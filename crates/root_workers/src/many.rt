@@ -1,6 +1,6 @@
 //! Workers that are threads at one table.
 
-ghost use Rattle.std.specs.Prelude.{◌≡◌, ℕ, ◌+◌, ◌<◌, ◌≤◌, [], ◌∷◌, length, slice_index_or, IsNone, IfOk};
+ghost use Rattle.std.specs.Prelude.{◌≡◌, ℕ, ◌+◌, ◌<◌, ◌≤◌, [], ◌∷◌, length, slice_index_or, IsNone, IfOk, OnErr};
 ghost use Rattle.std.specs.Vec.{vec_len};
 ghost use Rattle.cha_moves.specs.Moves.{legal as legal_moves};
 ghost use Rattle.cha_fact.specs.Keys.{key_of};
@@ -9,6 +9,7 @@ ghost use Rattle.shard_table.specs.Makes.{Makes};
 ghost use Rattle.shard_table.specs.Tables.{IsOfTable, IsFirstPass, splits_of};
 ghost use Rattle.root_workers.specs.Shares.{IsShare, ShareCalls};
 ghost use Rattle.root_workers.specs.Crews.{IsCrew, CrewMakes, WorkerDone};
+ghost use Rattle.root_workers.specs.Splits.{OnlySplits, AreFresh};
 
 use crate::gate::Gate;
 use crate::share::share_of;
@@ -43,7 +44,8 @@ impl<'a, R: Threads + Wait + Sync> Many<'a, R> {
     }
 }
 
-/// A crew of 1 to 16 workers, whose passes are split off the table's first pass. It is made once in a run.
+/// A crew of 1 to 16 workers, whose passes are split off the table's first pass: they know what it knows, and have made no
+/// call. It is made once in a run. Where memory is refused no pass was split off.
 pub fn crew(
     alloc: Global,
     table: &Table,
@@ -58,17 +60,23 @@ pub fn crew(
     ensures of { IsOfTable table.now pass.new }
     ensures first { IsFirstPass pass.new }
     ensures splits { IfOk result (λ crew. splits_of pass.new ≡ splits_of pass.old + count) }
+    ensures only { OnlySplits pass.old pass.new }
     ensures crew { IfOk result (λ crew. IsCrew table.now crew.items) }
     ensures count { IfOk result (λ crew. length crew.items ≡ count) }
+    ensures fresh { IfOk result (λ crew. AreFresh pass.old crew.items) }
+    ensures unchanged { OnErr result (pass.new ≡ pass.old) }
 {
-    let mut crew = Vec::new(alloc);
+    let mut crew = Vec::with_capacity(alloc, count as usize)?;
     for number in 0..count {
         let own = table.split(pass);
-        crew.push(Worker {
+        let worker = Worker {
             number,
             pass: own,
             work: Work::new(alloc),
-        })?;
+        };
+        let Ok(()) = crew.push(worker) else {
+            unreachable!()
+        };
     }
     Ok(crew)
 }

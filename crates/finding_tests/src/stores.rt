@@ -180,7 +180,7 @@ fn a_leaf_does_not_wait(rt: HostRuntime) -> Result<(), Fail> {
 /// Adds a node that waits in list 9 where there is room for one.
 fn add_with_room<L: Ledger>(store: &mut Store, by: Move, steps: &mut Steps<L>) -> Result<u32, Fail>
     requires { 1 ≤ store.old.spare }
-    ensures { IfOk result (λ _. store.old.spare ≤ store.new.spare + 1) }
+    ensures { IfOk result (λ _. store.old.spare ≡ store.new.spare + 1) }
 {
     if store.len() > 2 || store.len() == 0 {
         Err("no place")?;

@@ -8,5 +8,6 @@ mod Serving
 mod Splitting
 mod Joining
 mod Meeting
+pub mod Knowing
 mod OnePassLeft
 pub mod Sending

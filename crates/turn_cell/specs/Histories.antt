@@ -16,6 +16,14 @@ module _ {C R : Type 0} where
   IsLegalHistory step start [] last = last ≡ start
   IsLegalHistory {V} step start (e ∷ history) last = (next : V) × step start e.call e.reply next × IsLegalHistory step next history last
 
+  -- there is a value that is the last one so
+  abbrev pub IsLegal : {V : Type 0} → (V → C → R → V → Type 0) → V → List (Entry C R) → Type 0
+  IsLegal {V} step start history = ∥ ((last : V) × IsLegalHistory step start history last) ∥₁
+
+  -- what a pass with this number has seen is one legal history from `start`, and the entries there under its number are these
+  abbrev pub IsWellKnown : {V : Type 0} → (V → C → R → V → Type 0) → V → ℕ → List (Entry C R) → List (Entry C R) → Type 0
+  IsWellKnown step start number seen mine = IsLegal step start seen × (entries_of number seen ≡ mine)
+
   -- the history begins with these entries
   abbrev pub IsPrefix : List (Entry C R) → List (Entry C R) → Type 0
   IsPrefix entries history = (more : List (Entry C R)) × (history ≡ entries ++ more)

@@ -1,6 +1,7 @@
 //! A cell, and the passes of it.
 
-ghost use Rattle.std.specs.Prelude.{◌≡◌, ◌≤◌};
+ghost use Rattle.std.specs.Prelude.{◌≡◌, ◌≤◌, Some};
+ghost use Rattle.turn_cell.specs.Histories.{IsWellKnown};
 ghost use Rattle.turn_cell.specs.Views.{IsIdle};
 
 use crate::object::Object;
@@ -23,6 +24,7 @@ pub struct Pass<V: Object> {
     ghost idle: { IsIdle seat.me },
     ghost counts: { (seat.me.0.splits ≡ splits) × (seat.me.0.joins ≡ joins) },
     ghost fewer: { (joins ≤ splits) × (splits ≤ 1000) },
+    ghost knows: { (o : _) → seat.me.0.origin ≡ Some o → IsWellKnown V.step o.value seat.me.0.number seat.me.0.seen seat.me.0.mine },
 }
 
 /// A cell that is not closed, since other passes of it are still out.

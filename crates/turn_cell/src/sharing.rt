@@ -1,6 +1,7 @@
 //! A pass split off, and a pass taken back.
 
-ghost use Rattle.std.specs.Prelude.{◌≡◌, ◌<◌, ◌≤◌, [], Some};
+ghost use Rattle.std.specs.Prelude.{◌≡◌, ◌<◌, ◌≤◌, ◌+◌, [], Some};
+ghost use Rattle.turn_cell.specs.Histories.{entries_of};
 ghost use Rattle.turn_cell.specs.Passes.{known_in, Joined};
 ghost use Rattle.turn_cell.specs.Views.{after_split, split_view, IsIdle};
 
@@ -19,8 +20,12 @@ pub(crate) fn split_off<V: Object>(
     ensures table { (seat.new.table_id ≡ seat.old.table_id) × (result.table_id ≡ seat.old.table_id) }
     ensures old { seat.new.me ≡ (after_split seat.old.me.0, seat.old.me.1) }
     ensures new { result.me ≡ (split_view seat.old.me.0, []) }
+    ensures unused { entries_of (seat.old.me.0.splits + 1) seat.old.me.0.seen ≡ [] }
 {
-    shared.split_seat::<Splitting>(seat)
+    let mut other = shared.split_seat::<Splitting>(seat);
+    // This look tells that no call was made under the new number.
+    shared.load::<Meeting>(&mut other, 0);
+    other
 }
 
 /// Takes a seat back.

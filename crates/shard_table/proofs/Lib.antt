@@ -6,5 +6,6 @@ mod Staying
 mod Turning
 mod PassAt
 mod Eights
+pub mod Knowing
 pub mod OneEntry
 pub mod Sending

@@ -3,7 +3,7 @@ use Rattle.std.specs.Prelude.{◌≡◌, ◌≢◌, ℕ, zero, suc, ◌+◌, ◌
 use Rattle.turn_cell.specs.declared.object.Object.{Ghosts}
 use Rattle.turn_cell.specs.declared.object.Entry.{Entry}
 use Rattle.turn_cell.specs.declared.cells.Pass.{Pass}
-use Rattle.turn_cell.specs.Histories.{IsLegalHistory}
+use Rattle.turn_cell.specs.Histories.{IsLegalHistory, IsWellKnown}
 use Rattle.turn_cell.specs.Passes.{Known, known, IsOf, Turned, SplitOff, Joined}
 use Rattle.cha_board.specs.Packing.{color_code}
 use Rattle.cha_fact.specs.declared.key.Key.{Key}
@@ -49,6 +49,11 @@ mine_at pass k = (pass_at pass k).mine
 -- each of the eight passes is of the table's cell at its place
 unfoldable pub IsOfTable : Table → TablePass → Type 0
 IsOfTable table pass = (k : ℕ) (cell : _) (p : _) → slice_get table.cells k ≡ Some cell → slice_get pass.passes k ≡ Some p → IsOf cell p
+
+-- what the pass has seen at each shard is one legal history from the empty shard, and the entries there under its number are
+-- those that it made
+unfoldable pub KnowsWell : Table → TablePass → Type 0
+KnowsWell table pass = (k : ℕ) → k < 8 → IsWellKnown ShardStep (empty table.entries) (pass_at pass k).number (seen_at pass k) (mine_at pass k)
 
 -- one call was made at shard k
 abbrev pub TakesTurn : ℕ → Table → TablePass → FactCall → FactReply → TablePass → Type 0

@@ -1,7 +1,7 @@
 //! A bounded list of true facts, the most recently used first, and a table of eight such lists at which threads take turns.
 //!
 //! `shard` has the list and its two calls, `shard_object` the list as a value at which passes take turns, `place` the
-//! list as a place that keeps facts, and `law` what holds after any calls. `table` has the table and its passes,
+//! list as a place that keeps facts, and `law` what holds after any calls, and of a pass at any time. `table` has the table and its passes,
 //! `turns` a probe and a store there, and `passes` how a table is made, its passes split off and taken back, and how it
 //! ends; `eight` takes an array of eight apart.
 #![tactic(auto)]
@@ -16,7 +16,7 @@ mod table;
 mod table_place;
 mod turns;
 
-pub use law::{any_calls_leave_a_shard, keys_are_compared_whole};
+pub use law::{a_pass_knows_one_history, any_calls_leave_a_shard, keys_are_compared_whole};
 pub use shard::Shard;
 pub use table::{StillOut, Table, TablePass};
 pub use table_place::TableFacts;

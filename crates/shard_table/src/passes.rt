@@ -4,7 +4,7 @@ ghost use Rattle.std.specs.Prelude.{◌≡◌, ◌<◌, ◌≤◌, ◌+◌, ◌-
 ghost use Rattle.turn_cell.specs.Histories.{IsLegalHistory};
 ghost use Rattle.turn_cell.specs.Passes.{IsOf, IsFirst, start, known, seen, mine, splits, joins, SplitOff, Joined};
 ghost use Rattle.shard_table.specs.Shards.{ShardStep, empty};
-ghost use Rattle.shard_table.specs.Tables.{IsOfTable, IsFirstPass, IsNewPass, SplitsAll, JoinsAll, AreReplays, OthersStay, pass_at, splits_of, joins_of};
+ghost use Rattle.shard_table.specs.Tables.{IsOfTable, IsFirstPass, IsNewPass, KnowsWell, SplitsAll, JoinsAll, AreReplays, OthersStay, pass_at, splits_of, joins_of};
 
 use crate::shard::Shard;
 use crate::table::{StillOut, Table, TablePass};
@@ -141,6 +141,7 @@ impl Table {
         ensures first { IfOk result (λ t. IsFirstPass t.1) }
         ensures counts { IfOk result (λ t. (splits_of t.1 ≡ 0) × (joins_of t.1 ≡ 0)) }
         ensures empty { IfOk result (λ t. IsNewPass t.1) }
+        ensures knows { IfOk result (λ t. KnowsWell t.0 t.1) }
     {
         let (c0, p0) = one_cell(alloc, entries)?;
         let (c1, p1) = one_cell(alloc, entries)?;
@@ -169,6 +170,7 @@ impl Table {
         ensures of { IsOfTable self.now pass.new × IsOfTable self.now result }
         ensures first { IsFirstPass pass.new }
         ensures split { SplitsAll pass.old pass.new result }
+        ensures knows { KnowsWell self.now pass.new × KnowsWell self.now result }
     {
         split_each(self, pass)
     }
@@ -181,6 +183,7 @@ impl Table {
         ensures of { IsOfTable self.now pass.new }
         ensures first { IsFirstPass pass.new }
         ensures joined { JoinsAll pass.old other pass.new }
+        ensures knows { KnowsWell self.now pass.new }
     {
         join_each(self, pass, other);
     }

@@ -9,7 +9,7 @@ ghost use Rattle.cha_fact.specs.Truths.{Claim, rank_of};
 ghost use Rattle.shard_table.specs.ShardRows.{row_key};
 ghost use Rattle.shard_table.specs.Live.{IsLive, FindsAtLeast, IsTrueReply};
 ghost use Rattle.shard_table.specs.Makes.{call_key};
-ghost use Rattle.shard_table.specs.Tables.{shard_number, seen_at, IsOfTable, TakesTurn, OthersStay, StaysFirst, FindsExactly, StoresExactly};
+ghost use Rattle.shard_table.specs.Tables.{shard_number, seen_at, IsOfTable, KnowsWell, TakesTurn, OthersStay, StaysFirst, FindsExactly, StoresExactly};
 
 use crate::table::{Table, TablePass};
 use cha_board::Color;
@@ -76,6 +76,7 @@ impl Table {
         ensures of { IsOfTable self.now pass.new }
         ensures turned { TakesTurn (shard_number key.now) self.now pass.old (FactCall.Probe key.now) (FactReply.Probed result) pass.new }
         ensures others { OthersStay (shard_number key.now) pass.old pass.new }
+        ensures knows { KnowsWell self.now pass.new }
         ensures first { StaysFirst pass.old pass.new }
         ensures key { IsOfKey key.now result }
         ensures exactly { FindsExactly self.now pass.new key.now result }
@@ -101,6 +102,7 @@ impl Table {
         ensures of { IsOfTable self.now pass.new }
         ensures turned { TakesTurn (shard_number (row_key row)) self.now pass.old (FactCall.Store row) (FactReply.Stored result) pass.new }
         ensures others { OthersStay (shard_number (row_key row)) pass.old pass.new }
+        ensures knows { KnowsWell self.now pass.new }
         ensures first { StaysFirst pass.old pass.new }
         ensures exactly { StoresExactly self.now pass.new row result }
     {

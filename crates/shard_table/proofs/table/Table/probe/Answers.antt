@@ -6,6 +6,7 @@ use Rattle.cha_board.specs.Board.{IsValid}
 use Rattle.shard_table.specs.Shards.{empty}
 use Rattle.shard_table.specs.Tables.{TakesTurn, pass_at, shard_number}
 use Rattle.shard_table.proofs.Turning.{no_stored, stays, finds, finds_key, true_of}
+use Rattle.shard_table.proofs.Knowing.{knows_well}
 use Rattle.shard_table.proofs.table.Table.probe.Goals as goal
 
 pub unreachable-requires : goal.unreachable-requires
@@ -48,3 +49,9 @@ returns-in-Probed-Found-clause-holds g c = λ q winner valid asked.
     ((let k = shard_number c.args.key.now in
     finds_key (empty c.args.self.now.entries) (pass_at c.args.pass.now k) (pass_at c.turn.new.pass k) c.args.key.now (Found c.in-Probed-Found.row)
     (subst (λ r. TakesTurn k c.args.self.now c.args.pass.now (Asked c.args.key.now) (Probed r) c.turn.new.pass) c.in-Probed-Found.field-0-is c.in-Probed-Found.ensures.turned)) ∙ asked) c.fact-fact.ensures.holds
+
+pub returns-in-Probed-Found-clause-knows : goal.returns-in-Probed-Found-clause-knows
+returns-in-Probed-Found-clause-knows g c = knows_well c.args.self.now c.turn.new.pass c.turn.ensures.of
+
+pub returns-in-Probed-Miss-clause-knows : goal.returns-in-Probed-Miss-clause-knows
+returns-in-Probed-Miss-clause-knows g c = knows_well c.args.self.now c.turn.new.pass c.turn.ensures.of

@@ -1,7 +1,7 @@
 //! A round at a table at which others take turns too.
 
 ghost use Rattle.std.specs.Prelude.{◌≡◌, ◌+◌, ◌≤◌, Some, IsNone, IfOk};
-ghost use Rattle.shard_table.specs.Tables.{IsOfTable};
+ghost use Rattle.shard_table.specs.Tables.{IsOfTable, KnowsWell};
 ghost use Rattle.shard_table.specs.Makes.{Makes};
 ghost use Rattle.helpmate.specs.Units.{AreUnits};
 ghost use Rattle.helpmate.specs.Rounds.{IsAnswer, IsAllowed, RoundCalls};
@@ -34,6 +34,7 @@ pub fn round<R: Wait>(
     ensures allowed { IfOk result (λ done. IsAllowed allowance done.units) }
     ensures units { IfOk result (λ done. AreUnits position.now depth done.units) }
     ensures spent { IfOk result (λ done. done.round ≡ RoundAnswer.Spent → allowance ≡ Some done.units) }
+    ensures knows { KnowsWell table.now pass.new }
     ensures calls { RoundCalls Makes pass.old pass.new position.now winner depth result }
 {
     let mut facts = TableFacts::new(rt, table, pass);

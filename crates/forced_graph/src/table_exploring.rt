@@ -5,7 +5,7 @@ ghost use Rattle.cha_board.specs.Men.{other_color};
 ghost use Rattle.cha_moves.specs.Ends.{IsMated};
 ghost use Rattle.cha_fact.specs.Entries.{Entry};
 ghost use Rattle.mob_law.specs.Static.{IsStaticallyUnwinnable};
-ghost use Rattle.shard_table.specs.Tables.{IsOfTable};
+ghost use Rattle.shard_table.specs.Tables.{IsOfTable, KnowsWell};
 ghost use Rattle.shard_table.specs.Makes.{Makes};
 ghost use Rattle.forced_graph.specs.Outcomes.{IsOutcome, HasManyIfSpent};
 
@@ -35,6 +35,7 @@ pub fn explore<R: Wait>(
     ensures of { IsOfTable table.now pass.new }
     ensures holds { IfOk result (IsOutcome position.now winner budget) }
     ensures many { IfOk result (HasManyIfSpent position.now budget) }
+    ensures knows { KnowsWell table.now pass.new }
     ensures calls { (entries : List Entry) × Makes pass.old entries pass.new }
 {
     let mut facts = TableFacts::new(rt, table, pass);

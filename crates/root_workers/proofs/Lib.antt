@@ -4,4 +4,5 @@ pub mod Gathering
 pub mod Going
 pub mod Ending
 pub mod Crewing
+pub mod Knowing
 pub mod Crossing

@@ -3,7 +3,7 @@ use Rattle.std.specs.Prelude.{◌≡◌, ℕ, ◌<◌, ◌≤◌, List, length, 
 use Rattle.cha_moves.specs.Step.{Move}
 use Rattle.cha_fact.specs.Entries.{Entry}
 use Rattle.shard_table.specs.Makes.{Makes}
-use Rattle.shard_table.specs.Tables.{IsOfTable}
+use Rattle.shard_table.specs.Tables.{IsOfTable, KnowsWell}
 use Rattle.shard_table.specs.declared.table.Table.{Table}
 use Rattle.root_workers.specs.declared.task.Task.{Task}
 use Rattle.root_workers.specs.declared.work.Work.{Work}
@@ -16,6 +16,10 @@ pub record IsCrew (table : Table) (crew : List Worker) : Type 0 where
   pub few : length crew ≤ 16
   pub number : (i : ℕ) (d : Worker) → i < length crew → (slice_index_or crew i d).number ≡ i
   pub of : (i : ℕ) (d : Worker) → i < length crew → IsOfTable table (slice_index_or crew i d).pass
+
+-- what the pass of each worker has seen at each shard is one legal history
+unfoldable pub AllKnowWell : Table → List Worker → Type 0
+AllKnowWell table crew = (i : ℕ) (d : Worker) → i < length crew → KnowsWell table (slice_index_or crew i d).pass
 
 -- From one state of a crew to a later one worker i made just these entries, and each worker some.
 pub record CrewMakes (i : ℕ) (old : List Worker) (entries : List Entry) (new : List Worker) : Type 0 where

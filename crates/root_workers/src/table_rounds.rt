@@ -4,7 +4,7 @@ ghost use Rattle.std.specs.Prelude.{◌≡◌, ◌≤◌, List, length, IfOk};
 ghost use Rattle.cha_board.specs.Men.{other_color};
 ghost use Rattle.cha_moves.specs.Step.{Move as Step};
 ghost use Rattle.cha_moves.specs.Ends.{IsMated, IsMatingLine, IsUnwinnable};
-ghost use Rattle.root_workers.specs.Crews.{IsCrew, CrewMakes};
+ghost use Rattle.root_workers.specs.Crews.{IsCrew, AllKnowWell, CrewMakes};
 ghost use Rattle.root_workers.specs.RoundAnswers.{IsMateEnd, IsEnd, IsAmple, RoundsCalls};
 
 use crate::answers::{RoundsDone, RoundsEnd};
@@ -40,6 +40,7 @@ pub fn rounds<'x, R: Threads + Wait + Sync>(
     requires running { IsMated position.now (other_color winner) → ⊥ }
     ensures crew { IsCrew table.now crew.new.items }
     ensures count { length crew.new.items ≡ length crew.old.items }
+    ensures knows { AllKnowWell table.now crew.new.items }
     ensures holds { IfOk result (λ done. IsEnd position.now winner limits.now done.end) }
     ensures finds_in_two { IfOk result (λ done. (line : List Step) → IsMatingLine position.now winner line → length line ≤ 2 → IsMateEnd done.end) }
     ensures finds { IfOk result (λ done. (line : List Step) → IsAmple position.now limits.now → IsMatingLine position.now winner line → length line ≤ limits.now.depth → IsMateEnd done.end) }

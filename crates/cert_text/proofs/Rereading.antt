@@ -46,7 +46,7 @@ unfolding lone_line
 lone_no_row q = refl
 
 row_begins : (row : Row) → begins_reach (row_line row) ≡ true
-unfolding row_line square_text
+unfolding row_line
 row_begins row = refl
 
 -- a row of tidy rows follows those before it

@@ -242,4 +242,3 @@ all_sifted q s left legal f none =
 -- the squares on which a man is promoted
 pub none_promoted : (c : Color) (k : Kind) → same_kind k Pawn ≡ false → set_of (λ _. false) ≡ set_of (is_promoted c k)
 none_promoted c k h = same_set (λ _. false) (is_promoted c k) (λ t _. sym (and_left (same_kind k Pawn) (rank_of t == last_rank c) h))
-

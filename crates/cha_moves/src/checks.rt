@@ -6,9 +6,7 @@ ghost use Rattle.cha_moves.specs.Checks.{HaveScreens, may_check, is_special_chec
 
 use crate::shields::{aimers, lone};
 use crate::sides::promotion_rank;
-use cha_board::{
-    Kind, Position, Square, SquareSet, aims, long_goal, short_goal, squares_between,
-};
+use cha_board::{Kind, Position, Square, SquareSet, aims, long_goal, short_goal, squares_between};
 
 /// The squares of the men that alone stand between a square and a man of the side to move that aims at it over them. Where one of
 /// them goes, that man may attack the square.

@@ -102,7 +102,7 @@ one_split old new other split = (split 0 (omega arith)).splits
 
 -- what the pass knows stays, and the pass that was split off knows it
 pub splits_none : (pass : TablePass) → OnlySplits pass pass
-splits_none pass = record { seen = λ k low. refl; mine = λ k low. refl; joins = refl; }
+splits_none pass = record { seen = λ k low. refl; mine = λ k low. refl; joins = refl }
 
 pub splits_more : (first old new other : TablePass) → OnlySplits first old → SplitsAll old new other → OnlySplits first new
 splits_more first old new other before split = record {

@@ -4,7 +4,7 @@ ghost use Rattle.std.specs.Prelude.{IfOk};
 ghost use Rattle.cha_board.specs.declared.men.Color.{Color as Side};
 ghost use Rattle.cha_verdict.specs.Verdicts.{IsPrintable};
 ghost use Rattle.cha_verdict.specs.Sound.{IsSound, IsComplete, verdict_on};
-ghost use Rattle.root_workers.specs.Crews.{IsCrew, CrewMakes};
+ghost use Rattle.root_workers.specs.Crews.{IsCrew, AllKnowWell, CrewMakes};
 ghost use Rattle.cha_decide.specs.Shown.{Asked};
 
 use crate::deciding::decide_by;
@@ -32,6 +32,7 @@ pub fn decide<'x, R: Threads + Wait + Sync>(
 ) -> Result<Decision, NoMemory>
     requires crew { IsCrew table.now crew.old.items }
     ensures crew { IsCrew table.now crew.new.items }
+    ensures knows { AllKnowWell table.now crew.new.items }
     ensures sound { IfOk result (λ decision. IsSound position.now first limits.now decision) }
     ensures white_printable { IfOk result (λ decision. IsPrintable decision.white) }
     ensures black_printable { IfOk result (λ decision. IsPrintable decision.black) }

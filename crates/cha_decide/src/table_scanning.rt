@@ -2,7 +2,7 @@
 
 ghost use Rattle.std.specs.Prelude.{◌≡◌, ◌<◌, ◌≤◌, true, false, length, IfOk, IfSome, MatchOption};
 ghost use Rattle.cha_verdict.specs.Scans.{HasScan, IsPrintableScan};
-ghost use Rattle.root_workers.specs.Crews.{IsCrew, CrewMakes};
+ghost use Rattle.root_workers.specs.Crews.{IsCrew, AllKnowWell, CrewMakes};
 ghost use Rattle.cha_fact.specs.Entries.{MadeSome};
 
 use crate::scanning::scan_by;
@@ -33,6 +33,7 @@ pub fn scan_back<'x, R: Threads + Wait + Sync>(
     requires few { length positions.now ≤ 12001 }
     requires crew { IsCrew table.now crew.old.items }
     ensures crew { IsCrew table.now crew.new.items }
+    ensures knows { AllKnowWell table.now crew.new.items }
     ensures scan { IfOk result (HasScan positions.now first limits.now last.now) }
     ensures printable { IfOk result (λ found. IfSome found (λ scan. IsPrintableScan scan.earlier)) }
     ensures calls { MadeSome (CrewMakes 0) crew.old.items crew.new.items }

@@ -16,7 +16,7 @@ pub struct TurnCell<V: Object> {
 /// The right to take turns at one cell. It can move to another thread where the value can.
 ///
 /// Contracts see of it a number, `seen`, the part of the cell's history that it knows, and `mine`, its own entries there.
-/// None of the three takes memory.
+/// None of the three takes memory. What it has seen is one legal history from the cell's first value, at any time.
 pub struct Pass<V: Object> {
     pub(crate) seat: CellSeat<V, V::Call, V::Reply>,
     pub(crate) splits: u32,

@@ -7,9 +7,9 @@ use Rattle.std.proofs.lemmas.List.{length-map}
 use Rattle.cha_board.specs.Board.{Board}
 use Rattle.cha_list.specs.declared.classes.Class.TheVariants.{InLine}
 use Rattle.cha_list.specs.Bytes.{in_class}
-use Rattle.pgn_lex.specs.declared.kinds.Token.{Token}
 use Rattle.pgn_lex.specs.declared.kinds.Placed.{Placed}
 use Rattle.pgn_lex.specs.Tokens.{piece, placed, tokens_after, has_mark, tokens}
+use Rattle.pgn_lex.proofs.Fed.{placed_one}
 use Rattle.pgn_games.specs.declared.faults.GameFault.{GameFault}
 use Rattle.pgn_games.specs.declared.faults.GameFault.TheVariants.{BadToken, Unclosed, ValueTooLong, Variant, TooManyPlies}
 use Rattle.pgn_games.specs.declared.played.Game.{Game}
@@ -76,17 +76,13 @@ unfolding games
 few_words bytes n game e none = few_at (cut Before (tokens bytes)) n game e none
 
 -- a text has at most as many tokens as bytes, and at most one game more than tokens
-placed_few : (at : ℕ) (token : Option Token) → length (placed at token) ≤ 1
-placed_few at None = omega arith
-placed_few at (Some token) = omega arith
-
 tokens_after_few : (pass at : ℕ) (first : Bool) (bs : List ℕ) → length (tokens_after pass at first bs) ≤ length bs
 unfolding tokens_after
 tokens_after_few pass at first [] = omega arith
 tokens_after_few (suc pass) at first (b ∷ bs) = omega (arith, tokens_after_few pass (at + 1) (not (in_class InLine b)) bs)
 tokens_after_few zero at first (b ∷ bs) =
     let p = piece first b bs in
-    omega (arith, length-append (placed at p.token) (tokens_after p.more (at + 1) (not (in_class InLine b)) bs), placed_few at p.token, tokens_after_few p.more (at + 1) (not (in_class InLine b)) bs)
+    omega (arith, length-append (placed at p.token) (tokens_after p.more (at + 1) (not (in_class InLine b)) bs), placed_one at p.token, tokens_after_few p.more (at + 1) (not (in_class InLine b)) bs)
 
 tokens_few_if : (v : Bool) (bytes : List ℕ) → length (if v then tokens_after 0 3 true (drop 3 bytes) else tokens_after 0 0 true bytes) ≤ length bytes
 tokens_few_if true bytes = omega (arith, tokens_after_few 0 3 true (drop 3 bytes), length-drop 3 bytes)

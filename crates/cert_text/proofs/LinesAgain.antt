@@ -15,7 +15,7 @@ use Rattle.cha_board.specs.declared.men.Kind.{Kind}
 use Rattle.cha_board.specs.declared.men.Kind.TheVariants.{Pawn, Knight, Bishop, Rook, Queen, King}
 use Rattle.cha_board.specs.Board.{Board, IsValid}
 use Rattle.cha_board.specs.SquareSets.{has_square, set_of_bits, bits_of_set}
-use Rattle.cha_board.proofs.SetLaws.{one_if, length-set_of, has-set_of, same_squares, bit_at-bits_of_set}
+use Rattle.cha_board.proofs.SetLaws.{length-set_of, has-set_of, same_squares, bit_at-bits_of_set, test_of_one_if}
 use Rattle.cha_board.specs.Letters.{kind_of, square_text, square_of}
 use Rattle.cha_fen.specs.Fen.{fen}
 use Rattle.cha_board.specs.Letters.{kind_letter}
@@ -102,15 +102,11 @@ count_again n low high =
     let value : small_count (value_of 10 (decimal n)) ≡ Some n = ap small_count (decimal_read n (omega arith)) ∙ small_again n low high in
     rw fits (kept_again count_line (small_count (value_of 10 (decimal n))) n value)
 
-bit_again : (b : Bool) → (one_if b == 1) ≡ b
-bit_again true = refl
-bit_again false = refl
-
 pub set_again : (set : List Bool) → length set ≡ 64 → set_of_bits (bits_of_set set) ≡ set
 set_again set width =
     let p = λ (s : ℕ). bit_at (bits_of_set set) s == 1 in
     same_squares (set_of_bits (bits_of_set set)) set (length-set_of p) width (λ s small.
-    has-set_of p s small ∙ ap (λ x. x == 1) (bit_at-bits_of_set set s) ∙ bit_again (has_square set s))
+    has-set_of p s small ∙ ap (λ x. x == 1) (bit_at-bits_of_set set s) ∙ test_of_one_if (has_square set s))
 
 bits_more : (b : Bool) (n k : ℕ) → n < 2 ^ k → (if b then 1 else 0) + 2 * n < 2 ^ suc k
 bits_more true n k small = (let power : 2 ^ suc k ≡ 2 * 2 ^ k = pow-succ' 2 k in omega (arith, power, small))

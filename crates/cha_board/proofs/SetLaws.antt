@@ -18,7 +18,7 @@ pub same_set : (p q : ℕ → Bool) → ((s : ℕ) → s < 64 → p s ≡ q s) �
 same_set p q same =
     same_squares (set_of p) (set_of q) (length-set_of p) (length-set_of q) (λ s small. has-set_of p s small ∙ same s small ∙ sym (has-set_of q s small))
 
-test_of_one_if : (b : Bool) → (one_if b == 1) ≡ b
+pub test_of_one_if : (b : Bool) → (one_if b == 1) ≡ b
 test_of_one_if true = refl
 test_of_one_if false = refl
 

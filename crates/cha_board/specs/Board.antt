@@ -84,6 +84,10 @@ is_home_of c s = (s == home_of c) || (s == short_home_of c) || (s == long_home_o
 abbrev pub is_home : ℕ → Bool
 is_home s = is_home_of White s || is_home_of Black s
 
+-- nobody may castle
+abbrev pub no_rights : Rights
+no_rights = record { white_king = false; white_queen = false; black_king = false; black_queen = false }
+
 -- c may still castle on the king's side, as far as king and rook have not moved
 abbrev pub has_short_right : Rights → Color → Bool
 has_short_right r White = r.white_king

@@ -18,7 +18,7 @@ pub fn files_between(s: Square, t: Square) -> u8
 
 /// How many ranks two squares are apart, from 0 to 7.
 #[tactic(auto, unfolding(crate::specs::Squares::ranks_apart))]
-pub fn ranks_between(s: Square, t: Square) -> u8
+fn ranks_between(s: Square, t: Square) -> u8
     ensures value { result ≡ ranks_apart s t }
     ensures bound { result < 8 }
 {
@@ -36,7 +36,7 @@ pub fn steps_between(s: Square, t: Square) -> u8
 
 /// Whether two squares are different squares of one file or one rank.
 #[tactic(auto, unfolding(crate::specs::Squares::is_straight))]
-pub fn straight(s: Square, t: Square) -> bool
+fn straight(s: Square, t: Square) -> bool
     ensures { result ≡ is_straight s t }
 {
     s.index() != t.index() && (files_between(s, t) == 0 || ranks_between(s, t) == 0)
@@ -44,7 +44,7 @@ pub fn straight(s: Square, t: Square) -> bool
 
 /// Whether two squares are different squares of one diagonal.
 #[tactic(auto, unfolding(crate::specs::Squares::is_diagonal))]
-pub fn diagonal(s: Square, t: Square) -> bool
+fn diagonal(s: Square, t: Square) -> bool
     ensures { result ≡ is_diagonal s t }
 {
     s.index() != t.index() && files_between(s, t) == ranks_between(s, t)
@@ -60,7 +60,7 @@ pub fn in_line(s: Square, t: Square) -> bool
 
 /// Whether the second square is one rank ahead of the first, as a side sees it.
 #[tactic(auto, unfolding(crate::specs::Squares::is_rank_ahead))]
-pub fn rank_ahead(side: Color, s: Square, t: Square) -> bool
+fn rank_ahead(side: Color, s: Square, t: Square) -> bool
     ensures { result ≡ is_rank_ahead side s t }
 {
     match side {

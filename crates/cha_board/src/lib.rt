@@ -1,11 +1,12 @@
 //! The chess board: squares, men, what men aim at and attack, and valid positions (Laws of Chess, Articles 2 and 3).
 //!
 //! `men` has colours, kinds and men, `squares` the squares, `letters` how both are written, `sets` sets of squares,
-//! `shifts` ranks, colours of squares, sets moved by one square and steps of kings, and `placement` what stands on the board, kept as sets. `aim` has distances and what a man aims at on an empty board, `over` the same over occupied squares
-//! by the tables of `leaps` and `rays`, `strikes` what men attack by it, and `sight` the same by a plain walk over
-//! a list of men. `position` has the valid positions, `build` how one is made, `castling` what a side
-//! needs for castling, and `opening` the opening position.
-//! `packed` has positions as five words, by which they are compared and found, and `kept` positions in the room of these.
+//! `shifts` ranks, colours of squares, sets moved by one square and steps of kings, and `placement` what stands on the
+//! board, kept as sets. `aim` has distances and what a man aims at on an empty board, `over` the same over occupied
+//! squares by the tables of `leaps` and `rays`, `strikes` what men attack by it, and `sight` the same by a plain walk over
+//! a list of men. `position` has the valid positions, `build` how one is made, `castling` what a side needs for castling,
+//! and `opening` the opening position. `packed` has positions as five words, by which they are compared and found, and
+//! `kept` positions in the room of these.
 #![tactic(auto)]
 
 mod aim;
@@ -27,21 +28,19 @@ mod sight;
 mod squares;
 mod strikes;
 
-pub use aim::{
-    aims_at, diagonal, files_between, in_line, rank_ahead, ranks_between, steps_between, straight,
-};
+pub use aim::{aims_at, files_between, steps_between};
 pub use build::BuildFault;
 pub use castling::{
     home, homes, long_goal, long_home, long_right, short_goal, short_home, short_right,
 };
 pub use kept::Kept;
 pub use letters::put_square;
-pub use men::{Color, Kind, Man, is_man_of, is_of_kind, is_of_side};
+pub use men::{Color, Kind, Man, is_man_of};
 pub use opening::OPENING_MEN;
 pub use over::{aims, aims_alone, squares_between};
 pub use packed::{Packed, same_position, words_tell_positions};
 pub use placement::Men;
 pub use position::{Position, Rights, attacks};
 pub use sets::SquareSet;
-pub use sight::{attacks_square, sees};
+pub use sight::attacks_square;
 pub use squares::Square;

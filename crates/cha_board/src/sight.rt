@@ -8,7 +8,7 @@ use crate::men::{Color, Man};
 use crate::squares::Square;
 
 /// Whether nothing stands strictly between two squares of one line. It holds for squares of no line.
-pub fn sees(men: &[Option<Man>; 64], s: Square, t: Square) -> bool
+fn sees(men: &[Option<Man>; 64], s: Square, t: Square) -> bool
     ensures { result ≡ is_clear men.now s t }
 {
     let low = s.index().min(t.index());

@@ -9,7 +9,7 @@ use Rattle.cha_board.specs.declared.men.Man.{Man}
 use Rattle.cha_board.specs.declared.position.Rights.{Rights}
 use Rattle.cha_board.specs.declared.build.BuildFault.{BuildFault}
 use Rattle.cha_board.specs.declared.build.BuildFault.TheVariants as breaks
-use Rattle.cha_board.specs.Board.{Board}
+use Rattle.cha_board.specs.Board.{Board, no_rights}
 use Rattle.cha_board.specs.Letters.{square_of}
 use Rattle.cha_board.specs.Build.{build_fault, built}
 use Rattle.cha_fen.specs.declared.faults.FenFault.{FenFault}
@@ -36,10 +36,6 @@ are_rights bytes =
 abbrev pub is_dash : List ℕ → Bool
 is_dash (b ∷ []) = b == 45
 is_dash _ = false
-
--- no castling is left
-abbrev pub no_rights : Rights
-no_rights = record { white_king = false; white_queen = false; black_king = false; black_queen = false }
 
 -- the castlings that are left: -, or letters of KQkq (PGN standard, 16.1.3.3; in any order: this project)
 unfoldable pub rights_of : List ℕ → Option Rights

@@ -8,8 +8,9 @@ ghost use Rattle.cha_moves.specs.Moves.{moved, rook_of, is_en_passant, men_after
 use crate::goes::goes_en_passant;
 use crate::makes::{men_made, rights_made, target_made};
 use crate::passing::{captured_on, passed_over};
+use crate::sides::{long_crossing, short_crossing};
 use crate::step::Move;
-use cha_board::{Kind, Man, Position, Square, files_between, home, long_home, short_home};
+use cha_board::{Kind, Man, Position, Square, files_between, long_home, short_home};
 
 /// The position after a legal move.
 pub fn after(position: &Position, m: Move) -> Position
@@ -114,11 +115,10 @@ fn after_king(position: &Position, m: Move) -> Position
         return after_one(position, m, Kind::King, None);
     }
     let side = position.side();
-    let h = home(side);
     if m.from.index() < m.to.index() {
-        after_castling(position, m, short_home(side), Square::at(h + 1))
+        after_castling(position, m, short_home(side), short_crossing(side))
     } else {
-        after_castling(position, m, long_home(side), Square::at(h - 1))
+        after_castling(position, m, long_home(side), long_crossing(side))
     }
 }
 

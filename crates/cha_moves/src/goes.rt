@@ -7,17 +7,20 @@ ghost use Rattle.cha_moves.specs.Moves.{promotes_well as promotes_well_on};
 ghost use Rattle.cha_moves.specs.Ways.{is_promoted};
 
 use crate::passing::passed_over;
-use crate::sides::{double_step_rank, first_pawn_rank, promotion_rank};
+use crate::sides::{
+    double_step_rank, first_pawn_rank, long_crossing, promotion_rank, rook_crossing, short_crossing,
+};
 use cha_board::{
-    Color, Kind, Position, Square, aims_at, attacks, files_between, home, long_right, short_right,
+    Color, Kind, Position, Square, aims_at, attacks, files_between, home, long_goal, long_right,
+    short_goal, short_right,
 };
 
-/// Whether nothing stands on the square of a number from 0 to 63.
-fn is_empty_at(position: &Position, at: u8) -> bool
-    requires { at < 64 }
+/// Whether nothing stands on a square.
+fn is_empty_at(position: &Position, at: Square) -> bool
     ensures { result ≡ is_empty position.now.men at }
 {
-    !position.occupied().has(Square::at(at))
+    let _at = at.index();
+    !position.occupied().has(at)
 }
 
 /// Whether a square is the one that a pawn has just passed over.
@@ -39,8 +42,8 @@ pub fn double_steps(position: &Position, s: Square, t: Square) -> bool
     files_between(s, t) == 0
         && s.rank() == first_pawn_rank(side)
         && t.rank() == double_step_rank(side)
-        && is_empty_at(position, passed_over(s, t).index())
-        && is_empty_at(position, t.index())
+        && is_empty_at(position, passed_over(s, t))
+        && is_empty_at(position, t)
 }
 
 /// Whether a pawn of the side to move goes so by a capture en passant.
@@ -58,15 +61,17 @@ pub fn castles_short(position: &Position, s: Square, t: Square) -> bool
 {
     let side = position.side();
     let enemy = side.other();
-    let h = home(side);
-    s.index() == h
-        && t.index() == h + 2
+    let home = Square::at(home(side));
+    let crossing = short_crossing(side);
+    let goal = short_goal(side);
+    s.index() == home.index()
+        && t.index() == goal.index()
         && short_right(position, side)
-        && is_empty_at(position, h + 1)
-        && is_empty_at(position, h + 2)
-        && !attacks(position, enemy, Square::at(h))
-        && !attacks(position, enemy, Square::at(h + 1))
-        && !attacks(position, enemy, Square::at(h + 2))
+        && is_empty_at(position, crossing)
+        && is_empty_at(position, goal)
+        && !attacks(position, enemy, home)
+        && !attacks(position, enemy, crossing)
+        && !attacks(position, enemy, goal)
 }
 
 /// Whether the king of the side to move goes so by castling on the queen's side.
@@ -76,16 +81,18 @@ pub fn castles_long(position: &Position, s: Square, t: Square) -> bool
 {
     let side = position.side();
     let enemy = side.other();
-    let h = home(side);
-    s.index() == h
-        && t.index() == h - 2
+    let home = Square::at(home(side));
+    let crossing = long_crossing(side);
+    let goal = long_goal(side);
+    s.index() == home.index()
+        && t.index() == goal.index()
         && long_right(position, side)
-        && is_empty_at(position, h - 1)
-        && is_empty_at(position, h - 2)
-        && is_empty_at(position, h - 3)
-        && !attacks(position, enemy, Square::at(h))
-        && !attacks(position, enemy, Square::at(h - 1))
-        && !attacks(position, enemy, Square::at(h - 2))
+        && is_empty_at(position, crossing)
+        && is_empty_at(position, goal)
+        && is_empty_at(position, rook_crossing(side))
+        && !attacks(position, enemy, home)
+        && !attacks(position, enemy, crossing)
+        && !attacks(position, enemy, goal)
 }
 
 /// Whether a pawn may become this.

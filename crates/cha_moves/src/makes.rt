@@ -8,6 +8,7 @@ ghost use Rattle.cha_moves.specs.Moves.{arriving, moved, touches, men_after, rig
 
 use crate::goes::{castles_long, castles_short, double_steps, goes_en_passant};
 use crate::passing::{captured_on, passed_over};
+use crate::sides::{long_crossing, short_crossing};
 use crate::step::Move;
 use cha_board::{
     Color, Kind, Man, Men, Position, Rights, Square, SquareSet, home, homes, is_man_of, long_home,
@@ -55,18 +56,17 @@ pub fn men_made(position: &Position, m: Move) -> Men
         let captured = captured_on(side, m.to);
         return shift(men, m.from, m.to, arrived).put(captured, None);
     }
-    let h = home(side);
     let rook = Some(Man {
         color: side,
         kind: Kind::Rook,
     });
     if is_man_of(man, side, Kind::King) && castles_short(position, m.from, m.to) {
         let king_gone = shift(men, m.from, m.to, arrived);
-        return shift(&king_gone, short_home(side), Square::at(h + 1), rook);
+        return shift(&king_gone, short_home(side), short_crossing(side), rook);
     }
     if is_man_of(man, side, Kind::King) && castles_long(position, m.from, m.to) {
         let king_gone = shift(men, m.from, m.to, arrived);
-        return shift(&king_gone, long_home(side), Square::at(h - 1), rook);
+        return shift(&king_gone, long_home(side), long_crossing(side), rook);
     }
     shift(men, m.from, m.to, arrived)
 }

@@ -9,14 +9,14 @@ use Rattle.cha_board.specs.declared.men.Kind.TheVariants.{Pawn, Knight, Bishop, 
 use Rattle.cha_board.specs.declared.men.Man.{Man}
 use Rattle.cha_board.specs.Men.{other_color, is_man, is_non_king}
 use Rattle.cha_board.specs.Squares.{squares, files_apart, ranks_apart, steps_apart, is_straight, is_diagonal, is_line, is_rank_ahead, aims_at, is_within, lies_between, between}
-use Rattle.cha_board.specs.Board.{Board, man_at, is_clear, attacks_as, attacked, king_of, in_check, has_one_king, is_pawn_at_end, has_pawn_at_end, rights_fit}
+use Rattle.cha_board.specs.Board.{Board, man_at, is_clear, attacks_as, attacked, king_of, in_check, has_one_king, is_pawn_at_end, has_pawn_at_end, no_rights, rights_fit}
 use Rattle.cha_board.proofs.Identity.{if_at, all_five, other_other}
 use Rattle.cha_board.proofs.Scans.{all_squares_at}
 use Rattle.cha_moves.specs.Moves.{is_step, is_double_step, is_pawn_capture, is_en_passant, is_short_castling, is_long_castling, goes, promotes_well, is_pseudo_legal_as, men_after, is_legal_in, moves_from, all_moves, legal}
 use Rattle.cha_moves.specs.MateLines.{is_mated}
 use Rattle.cha_moves.proofs.Mated.{mated_is}
 use Rattle.cha_moves.proofs.PlacedMen.{Placed, at, men_of}
-use Rattle.mob_small.specs.Small.{HasOnlyKing, HasOneBeside, HasBeside, no_rights, IsSmallMate}
+use Rattle.mob_small.specs.Small.{HasOnlyKing, HasOneBeside, HasBeside, IsSmallMate}
 use Rattle.mob_small.specs.MateFreeKinds.{is_free}
 use Rattle.mob_small.proofs.Scene.{non_king_inside}
 

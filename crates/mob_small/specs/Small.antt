@@ -4,9 +4,8 @@ use Rattle.cha_board.specs.declared.men.Color.{Color}
 use Rattle.cha_board.specs.declared.men.Kind.{Kind}
 use Rattle.cha_board.specs.declared.men.Kind.TheVariants.{King}
 use Rattle.cha_board.specs.declared.men.Man.{Man}
-use Rattle.cha_board.specs.declared.position.Rights.{Rights}
 use Rattle.cha_board.specs.Men.{other_color, is_man, is_pawn, is_non_king}
-use Rattle.cha_board.specs.Board.{Board, man_at, IsValid}
+use Rattle.cha_board.specs.Board.{Board, man_at, IsValid, no_rights}
 use Rattle.cha_moves.specs.Ends.{IsMated}
 
 -- no pawn stands on the board
@@ -33,10 +32,6 @@ HasBeside men c (Some k) = HasOneBeside men c k
 pub record IsSmall (p : Board) : Type 0 where
   pub no_pawn : HasNoPawn p.men
   pub few : (c : Color) → (k : Option Kind) × HasBeside p.men c k
-
--- nobody may castle
-abbrev pub no_rights : Rights
-no_rights = record { white_king = false; white_queen = false; black_king = false; black_queen = false }
 
 -- A valid position without rights and target that is a mate for the winner w, whose men are the two kings, one man of w of
 -- kind own, and, or not, one man of the loser of the kind that other names.

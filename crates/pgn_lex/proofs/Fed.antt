@@ -28,9 +28,12 @@ fed_none fed word value r s e f g h i = rw (e, f, g) (record {
 })
 
 -- a piece has one token at most, and the two bytes of a mark have two
+pub placed_one : (at : ℕ) (o : Option Token) → length (placed at o) ≤ 1
+placed_one at None = omega arith
+placed_one at (Some token) = omega arith
+
 placed_few : (at : ℕ) (o : Option Token) → length (placed at o) ≤ 2
-placed_few at None = omega arith
-placed_few at (Some token) = omega arith
+placed_few at o = omega (arith, placed_one at o)
 
 few_tokens : (stage : Stage) (start : ℕ) (word value : List ℕ) → length (tokens_at stage start word value) ≤ 2
 unfolding tokens_at

@@ -21,7 +21,7 @@ use cha_outside::{MOST_BYTES, Sink, Source};
 use cha_verdict::sound_is_complete;
 use cha_words::{Order, games_are_some, mates_are_bounded, parse};
 use helpmate_list::InTurn;
-use root_workers::{Alone, OpenGate};
+use root_workers::Alone;
 use shard_table::Shard;
 use std::alloc::Global;
 
@@ -81,5 +81,5 @@ fn by_itself<S: Source, K: Sink>(
         return Status::NoMemory;
     };
     let mut alone = Alone::new(alloc, &mut shard);
-    carry_out(alloc, order, &mut alone, &OpenGate, source, sink)
+    carry_out(alloc, order, &mut alone, source, sink)
 }

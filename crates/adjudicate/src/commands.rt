@@ -17,7 +17,7 @@ use cert_par::Checker;
 use cha_outside::{Sink, Source};
 use cha_words::Order;
 use helpmate_list::Spread;
-use root_workers::{Crew, Gate};
+use root_workers::Crew;
 use std::alloc::Global;
 
 /// Reads a source to its end, and writes the report that an order asks for, with a crew of workers that searches.
@@ -25,7 +25,6 @@ pub fn carry_out<C: Crew, S: Source, K: Sink>(
     alloc: Global,
     order: &Order,
     crew: &mut C,
-    gate: &(dyn Gate + Sync),
     source: &mut S,
     sink: &mut K,
 ) -> Status
@@ -36,10 +35,10 @@ pub fn carry_out<C: Crew, S: Source, K: Sink>(
 {
     match order {
         Order::AdjudicateGames { limits, certs } => {
-            adjudicate_games(alloc, limits, *certs, crew, gate, source, sink)
+            adjudicate_games(alloc, limits, *certs, crew, source, sink)
         }
         Order::JudgePositions { limits, certs } => {
-            judge_positions(alloc, limits, *certs, crew, gate, source, sink)
+            judge_positions(alloc, limits, *certs, crew, source, sink)
         }
         Order::CheckCert => unreachable!(),
         Order::ListMates { .. } => unreachable!(),
@@ -47,7 +46,7 @@ pub fn carry_out<C: Crew, S: Source, K: Sink>(
             limits,
             seed,
             count,
-        } => adjudicate_generated(alloc, limits, *seed, *count, crew, gate, sink),
+        } => adjudicate_generated(alloc, limits, *seed, *count, crew, sink),
     }
 }
 

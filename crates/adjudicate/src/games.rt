@@ -14,7 +14,7 @@ use cha_limits::Limits;
 use cha_outside::{Sink, Source, Wrote};
 use flag_report::{GameTotals, game_summary};
 use pgn_games::Reader;
-use root_workers::{Crew, Gate};
+use root_workers::Crew;
 use std::alloc::Global;
 
 /// Judges each game of a source, and writes its block, and at the end the summary. Where `certs` says so, the certificates
@@ -24,7 +24,6 @@ pub fn adjudicate_games<C: Crew, S: Source, K: Sink>(
     limits: &Limits,
     certs: bool,
     crew: &mut C,
-    gate: &(dyn Gate + Sync),
     source: &mut S,
     sink: &mut K,
 ) -> Status
@@ -44,7 +43,7 @@ pub fn adjudicate_games<C: Crew, S: Source, K: Sink>(
         let Some(game) = found else {
             return end_games(alloc, &totals, sink);
         };
-        let Ok(judged) = judge_game(alloc, game, limits, certs, &totals, crew, gate) else {
+        let Ok(judged) = judge_game(alloc, game, limits, certs, &totals, crew) else {
             return Status::NoMemory;
         };
         match put(sink, judged.block.items()) {

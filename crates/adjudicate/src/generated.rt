@@ -16,7 +16,7 @@ use cha_outside::{Bytes, Sink};
 use flag_report::{GameTotals, game_summary};
 use pgn_games::Reader;
 use random_games::games_text;
-use root_workers::{Crew, Gate};
+use root_workers::Crew;
 use std::alloc::Global;
 
 /// Makes so many games of a seed, judges each, and writes the summary alone. Nothing is read.
@@ -26,14 +26,13 @@ pub fn adjudicate_generated<C: Crew, K: Sink>(
     seed: u64,
     count: u32,
     crew: &mut C,
-    gate: &(dyn Gate + Sync),
     sink: &mut K,
 ) -> Status
     requires count { (1 ≤ count) × (count ≤ 1000) }
     requires ready { C.ready crew.old }
     ensures run { (left : Option (List ℕ)) (faults : ℕ) → IsRun (GenGames limits.now seed count) result (outside left faults (K.written sink.old) (K.faults sink.old)) (outside left faults (K.written sink.new) (K.faults sink.new)) }
 {
-    let Ok(totals) = judge_made(alloc, limits, seed, count, crew, gate) else {
+    let Ok(totals) = judge_made(alloc, limits, seed, count, crew) else {
         return Status::NoMemory;
     };
     let Ok(summary) = game_summary(alloc, &totals) else {
@@ -49,7 +48,6 @@ fn judge_made<C: Crew>(
     seed: u64,
     count: u32,
     crew: &mut C,
-    gate: &(dyn Gate + Sync),
 ) -> Result<GameTotals, NoMemory>
     requires count { (1 ≤ count) × (count ≤ 1000) }
     requires ready { C.ready crew.old }
@@ -67,7 +65,7 @@ fn judge_made<C: Crew>(
         let Some(game) = found else {
             return Ok(totals);
         };
-        let judged = judge_game(alloc, game, limits, false, &totals, crew, gate)?;
+        let judged = judge_game(alloc, game, limits, false, &totals, crew)?;
         totals = judged.totals;
     }
 }

@@ -15,7 +15,7 @@ use cha_list::{NoMemory, Text};
 use cha_moves::state;
 use cha_verdict::{Verdict, is_undecided};
 use flag_report::{PositionTotals, position_block, refused_block, status_of};
-use root_workers::{Crew, Gate};
+use root_workers::Crew;
 use std::alloc::Global;
 
 /// The block of a line, and the totals with it.
@@ -36,7 +36,6 @@ pub fn judge_line<C: Crew>(
     certs: bool,
     totals: &PositionTotals,
     crew: &mut C,
-    gate: &(dyn Gate + Sync),
 ) -> Result<LineBlock, NoMemory>
     requires room { LineRoom totals.now }
     requires ready { C.ready crew.old }
@@ -47,7 +46,7 @@ pub fn judge_line<C: Crew>(
         return refuse(alloc, FenFault::Shape, totals);
     }
     match read(line) {
-        Ok(position) => judge_position(alloc, &position, limits, certs, totals, crew, gate),
+        Ok(position) => judge_position(alloc, &position, limits, certs, totals, crew),
         Err(fault) => refuse(alloc, fault, totals),
     }
 }
@@ -60,14 +59,13 @@ fn judge_position<C: Crew>(
     certs: bool,
     totals: &PositionTotals,
     crew: &mut C,
-    gate: &(dyn Gate + Sync),
 ) -> Result<LineBlock, NoMemory>
     requires room { LineRoom totals.now }
     requires ready { C.ready crew.old }
     ensures stays_ready { C.ready crew.new }
     ensures judged { IfOk result (JudgesLine limits.now certs (PositionLine position.now) totals.now) }
 {
-    let decision = decide_by(alloc, position, Color::White, limits, crew, gate)?;
+    let decision = decide_by(alloc, position, Color::White, limits, crew)?;
     let standing = state(position);
     let white = &decision.white;
     let black = &decision.black;

@@ -24,7 +24,7 @@ use flag_report::{
     GameTotals, Unreadable, changes_result, first_examined, game_block, ruling, unreadable_block,
 };
 use pgn_games::Game;
-use root_workers::{Crew, Gate};
+use root_workers::Crew;
 use std::alloc::Global;
 
 /// The block of a game, and the totals with it.
@@ -43,7 +43,6 @@ pub fn judge_game<C: Crew>(
     certs: bool,
     totals: &GameTotals,
     crew: &mut C,
-    gate: &(dyn Gate + Sync),
 ) -> Result<GameBlock, NoMemory>
     requires room { GameRoom totals.now }
     requires few { game.fault ≡ None → length game.words ≤ 12000 }
@@ -53,7 +52,7 @@ pub fn judge_game<C: Crew>(
 {
     match game.fault {
         Some(fault) => give_up(alloc, &Unreadable::Tokens(fault), totals),
-        None => judge_played(alloc, &game, limits, certs, totals, crew, gate),
+        None => judge_played(alloc, &game, limits, certs, totals, crew),
     }
 }
 
@@ -65,7 +64,6 @@ fn judge_played<C: Crew>(
     certs: bool,
     totals: &GameTotals,
     crew: &mut C,
-    gate: &(dyn Gate + Sync),
 ) -> Result<GameBlock, NoMemory>
     requires room { GameRoom totals.now }
     requires readable { game.now.fault ≡ None }
@@ -75,16 +73,7 @@ fn judge_played<C: Crew>(
     ensures judged { IfOk result (JudgesGame limits.now certs (played_item game.now (positions game.now.start game.now.words)) totals.now) }
 {
     match play(alloc, game) {
-        Ok(played) => judge_final(
-            alloc,
-            game,
-            played.items(),
-            limits,
-            certs,
-            totals,
-            crew,
-            gate,
-        ),
+        Ok(played) => judge_final(alloc, game, played.items(), limits, certs, totals, crew),
         Err(stop) => {
             if lacks_memory(stop.fault) {
                 return Err(NoMemory);
@@ -103,7 +92,6 @@ fn judge_final<C: Crew>(
     certs: bool,
     totals: &GameTotals,
     crew: &mut C,
-    gate: &(dyn Gate + Sync),
 ) -> Result<GameBlock, NoMemory>
     requires room { GameRoom totals.now }
     requires some { 0 < length positions.now }
@@ -114,8 +102,8 @@ fn judge_final<C: Crew>(
 {
     let first = first_examined(game.recorded);
     let last = &positions[positions.len() - 1];
-    let decision = decide_by(alloc, last, first, limits, crew, gate)?;
-    let scan = scan_by(alloc, positions, first, &decision, limits, crew, gate)?;
+    let decision = decide_by(alloc, last, first, limits, crew)?;
+    let scan = scan_by(alloc, positions, first, &decision, limits, crew)?;
     report(
         alloc,
         game,

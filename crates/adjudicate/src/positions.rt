@@ -13,7 +13,7 @@ use cha_limits::Limits;
 use cha_list::{Class, all_of};
 use cha_outside::{MOST_BYTES, Sink, Source, Wrote, read_all};
 use flag_report::{PositionTotals, position_summary};
-use root_workers::{Crew, Gate};
+use root_workers::Crew;
 use std::alloc::Global;
 
 /// Judges each line of a source that is not blank, and writes its block, and at the end the summary. It reads the whole
@@ -23,7 +23,6 @@ pub fn judge_positions<C: Crew, S: Source, K: Sink>(
     limits: &Limits,
     certs: bool,
     crew: &mut C,
-    gate: &(dyn Gate + Sync),
     source: &mut S,
     sink: &mut K,
 ) -> Status
@@ -32,7 +31,7 @@ pub fn judge_positions<C: Crew, S: Source, K: Sink>(
     ensures run { IsRun (JudgePositions limits.now certs) result (outside (S.left source.old) (S.faults source.old) (K.written sink.old) (K.faults sink.old)) (outside (S.left source.new) (S.faults source.new) (K.written sink.new) (K.faults sink.new)) }
 {
     match read_all(alloc, source, MOST_BYTES) {
-        Ok(bytes) => judge_lines(alloc, limits, certs, bytes.as_slice(), crew, gate, sink),
+        Ok(bytes) => judge_lines(alloc, limits, certs, bytes.as_slice(), crew, sink),
         Err(end) => Status::from(end),
     }
 }
@@ -44,7 +43,6 @@ fn judge_lines<C: Crew, K: Sink>(
     certs: bool,
     bytes: &[u8],
     crew: &mut C,
-    gate: &(dyn Gate + Sync),
     sink: &mut K,
 ) -> Status
     requires few { length bytes.now < 2 ^ 62 }
@@ -60,7 +58,7 @@ fn judge_lines<C: Crew, K: Sink>(
         if all_of(Class::Blank, line) {
             continue;
         }
-        let Ok(judged) = judge_line(alloc, line, limits, certs, &totals, crew, gate) else {
+        let Ok(judged) = judge_line(alloc, line, limits, certs, &totals, crew) else {
             return Status::NoMemory;
         };
         match put(sink, judged.block.items()) {

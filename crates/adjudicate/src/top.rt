@@ -100,6 +100,6 @@ fn by_threads<R: Threads + Wait + Sync, S: Source, K: Sink>(
     let Ok(mut workers) = crew(alloc, &table, &mut pass, limits.workers()) else {
         return Status::NoMemory;
     };
-    let mut many = Many::new(rt, &table, &mut workers);
-    carry_out(alloc, order, &mut many, gate, source, sink)
+    let mut many = Many::new(rt, &table, &mut workers, gate);
+    carry_out(alloc, order, &mut many, source, sink)
 }

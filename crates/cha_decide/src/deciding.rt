@@ -15,7 +15,7 @@ use cha_list::NoMemory;
 use cha_verdict::{Decision, Verdict, is_winnable};
 use mob_sets::Sets;
 use mob_solve::least;
-use root_workers::{Crew, Gate};
+use root_workers::Crew;
 use std::alloc::Global;
 
 /// The verdicts on both sides of a position, by a crew of workers. `first` is examined, and then the other side, unless
@@ -36,7 +36,6 @@ pub fn decide_by<C: Crew>(
     first: Color,
     limits: &Limits,
     crew: &mut C,
-    gate: &(dyn Gate + Sync),
 ) -> Result<Decision, NoMemory>
     requires ready { C.ready crew.old }
     ensures stays_ready { C.ready crew.new }
@@ -52,7 +51,7 @@ pub fn decide_by<C: Crew>(
 {
     position.known();
     let sets = least(alloc, position)?;
-    let examined = examine(alloc, position, first, &sets, limits, crew, gate)?;
+    let examined = examine(alloc, position, first, &sets, limits, crew)?;
     let other = examine_other(
         alloc,
         position,
@@ -61,7 +60,6 @@ pub fn decide_by<C: Crew>(
         &sets,
         limits,
         crew,
-        gate,
     )?;
     match first {
         Color::White => Ok(Decision {
@@ -84,7 +82,6 @@ fn examine_other<C: Crew>(
     sets: &Sets,
     limits: &Limits,
     crew: &mut C,
-    gate: &(dyn Gate + Sync),
 ) -> Result<Verdict, NoMemory>
     requires least { IsLeast position.now (sets_of sets.now) }
     requires ready { C.ready crew.old }
@@ -97,5 +94,5 @@ fn examine_other<C: Crew>(
     if is_winnable(first) {
         return Ok(Verdict::Skipped);
     }
-    examine(alloc, position, side, sets, limits, crew, gate)
+    examine(alloc, position, side, sets, limits, crew)
 }

@@ -11,7 +11,7 @@ use cha_board::{Color, Position};
 use cha_limits::Limits;
 use cha_list::NoMemory;
 use cha_verdict::{Decision, EarlierCerts, Edge, Scan, Verdict, are_dead, is_winnable};
-use root_workers::{Crew, Gate};
+use root_workers::Crew;
 use std::alloc::Global;
 
 /// What is found about a position before the last one.
@@ -80,14 +80,13 @@ fn look<C: Crew>(
     first: Color,
     limits: &Limits,
     crew: &mut C,
-    gate: &(dyn Gate + Sync),
 ) -> Result<Before, NoMemory>
     requires ready { C.ready crew.old }
     ensures stays_ready { C.ready crew.new }
     ensures found { IfOk result (IsFoundAt position.now first limits.now) }
     ensures calls { MadeSome C.made crew.old crew.new }
 {
-    let decision = decide_by(alloc, position, first, limits, crew, gate)?;
+    let decision = decide_by(alloc, position, first, limits, crew)?;
     let edge = edge_of(&decision.white, &decision.black);
     match certs_of(decision) {
         Some(certs) => Ok(Before::Dead(certs)),
@@ -114,7 +113,6 @@ fn go_back<C: Crew>(
     first: Color,
     limits: &Limits,
     crew: &mut C,
-    gate: &(dyn Gate + Sync),
 ) -> Result<Reached, NoMemory>
     requires some { 0 < length positions.now }
     requires few { length positions.now ≤ 12001 }
@@ -130,7 +128,7 @@ fn go_back<C: Crew>(
     };
     while dead.ply > 0 {
         let ply = sooner_than(dead.ply, last);
-        match look(alloc, &positions[ply], first, limits, crew, gate)? {
+        match look(alloc, &positions[ply], first, limits, crew)? {
             Before::Dead(certs) => {
                 dead = DeadPly {
                     ply,
@@ -166,7 +164,6 @@ fn narrow<C: Crew>(
     first: Color,
     limits: &Limits,
     crew: &mut C,
-    gate: &(dyn Gate + Sync),
 ) -> Result<Scan, NoMemory>
     requires few { length positions.now ≤ 12001 }
     requires dead { IsShownAt positions.now dead }
@@ -181,7 +178,7 @@ fn narrow<C: Crew>(
     let mut before = before;
     while before.ply + 1 < dead.ply {
         let ply = halfway(before.ply, dead.ply);
-        match look(alloc, &positions[ply], first, limits, crew, gate)? {
+        match look(alloc, &positions[ply], first, limits, crew)? {
             Before::Dead(certs) => {
                 dead = DeadPly {
                     ply,
@@ -212,7 +209,6 @@ pub fn scan_by<C: Crew>(
     last: &Decision,
     limits: &Limits,
     crew: &mut C,
-    gate: &(dyn Gate + Sync),
 ) -> Result<Option<Scan>, NoMemory>
     requires some { 0 < length positions.now }
     requires few { length positions.now ≤ 12001 }
@@ -225,10 +221,10 @@ pub fn scan_by<C: Crew>(
     if !are_dead(&last.white, &last.black) {
         return Ok(None);
     }
-    let Reached { dead, before } = go_back(alloc, positions, first, limits, crew, gate)?;
+    let Reached { dead, before } = go_back(alloc, positions, first, limits, crew)?;
     match before {
         Some(before) => {
-            let scan = narrow(alloc, positions, dead, before, first, limits, crew, gate)?;
+            let scan = narrow(alloc, positions, dead, before, first, limits, crew)?;
             Ok(Some(scan))
         }
         None => Ok(Some(Scan {

@@ -19,7 +19,7 @@ use cha_verdict::Verdict;
 use forced_graph::{Explored, explore_in};
 use helpmate::{RoundAnswer, round_in};
 use mate_hunt::hunt;
-use root_workers::{Crew, Gate, RoundsEnd, rounds_by};
+use root_workers::{Crew, RoundsEnd, rounds_by};
 use search_guide::Guide;
 use std::alloc::Global;
 
@@ -118,7 +118,6 @@ fn deepened<C: Crew>(
     winner: Color,
     limits: &Limits,
     crew: &mut C,
-    gate: &(dyn Gate + Sync),
 ) -> Result<Verdict, NoMemory>
     requires ready { C.ready crew.old }
     requires unmated { IsMated position.now (other_color winner) → ⊥ }
@@ -127,7 +126,7 @@ fn deepened<C: Crew>(
     ensures found { IfOk result (IsFound position.now winner limits.now) }
     ensures calls { MadeSome C.made crew.old crew.new }
 {
-    match rounds_by(alloc, position, winner, limits, crew, gate)?.end {
+    match rounds_by(alloc, position, winner, limits, crew)?.end {
         RoundsEnd::Mate(line) => Ok(Verdict::Winnable(moves_of(alloc, &line)?)),
         RoundsEnd::NoneWithin(depth) => explored(alloc, position, winner, limits, depth, crew),
     }
@@ -141,7 +140,6 @@ pub fn searched<C: Crew>(
     winner: Color,
     limits: &Limits,
     crew: &mut C,
-    gate: &(dyn Gate + Sync),
 ) -> Result<Verdict, NoMemory>
     requires ready { C.ready crew.old }
     requires unmated { IsMated position.now (other_color winner) → ⊥ }
@@ -154,7 +152,7 @@ pub fn searched<C: Crew>(
         RoundAnswer::Mate(line) => Ok(Verdict::Winnable(moves_of(alloc, &line)?)),
         _ => match hunted(alloc, position, winner, limits.budget())? {
             Some(moves) => Ok(Verdict::Winnable(moves)),
-            None => deepened(alloc, position, winner, limits, crew, gate),
+            None => deepened(alloc, position, winner, limits, crew),
         },
     }
 }

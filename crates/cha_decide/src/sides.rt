@@ -13,7 +13,7 @@ use cha_list::NoMemory;
 use cha_moves::{Moves, is_mate};
 use cha_verdict::Verdict;
 use mob_sets::Sets;
-use root_workers::{Crew, Gate};
+use root_workers::Crew;
 use std::alloc::Global;
 
 /// The verdict on a side, by the least closed sets of the position: a mate on the board, then the static verdict, then those of
@@ -25,7 +25,6 @@ pub fn examine<C: Crew>(
     sets: &Sets,
     limits: &Limits,
     crew: &mut C,
-    gate: &(dyn Gate + Sync),
 ) -> Result<Verdict, NoMemory>
     requires least { IsLeast position.now (sets_of sets.now) }
     requires ready { C.ready crew.old }
@@ -38,6 +37,6 @@ pub fn examine<C: Crew>(
     }
     match shown_at_once(alloc, position, winner, sets)? {
         Some(cert) => Ok(Verdict::Unwinnable(cert)),
-        None => searched(alloc, position, winner, limits, crew, gate),
+        None => searched(alloc, position, winner, limits, crew),
     }
 }

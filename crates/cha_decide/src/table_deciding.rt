@@ -28,7 +28,7 @@ pub fn decide<'x, R: Threads + Wait + Sync>(
     limits: &Limits,
     table: &'x Table,
     crew: &'x mut Vec<Worker>,
-    gate: &(dyn Gate + Sync),
+    gate: &'x (dyn Gate + Sync),
 ) -> Result<Decision, NoMemory>
     requires crew { IsCrew table.now crew.old.items }
     ensures crew { IsCrew table.now crew.new.items }
@@ -39,6 +39,6 @@ pub fn decide<'x, R: Threads + Wait + Sync>(
     ensures complete { IfOk result (λ decision. (winner : Side) → IsComplete position.now winner limits.now (verdict_on decision winner)) }
     ensures calls { Asked (CrewMakes 0) crew.old.items crew.new.items position.now result }
 {
-    let mut many = Many::new(rt, table, crew);
-    decide_by(alloc, position, first, limits, &mut many, gate)
+    let mut many = Many::new(rt, table, crew, gate);
+    decide_by(alloc, position, first, limits, &mut many)
 }

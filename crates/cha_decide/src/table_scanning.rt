@@ -27,7 +27,7 @@ pub fn scan_back<'x, R: Threads + Wait + Sync>(
     limits: &Limits,
     table: &'x Table,
     crew: &'x mut Vec<Worker>,
-    gate: &(dyn Gate + Sync),
+    gate: &'x (dyn Gate + Sync),
 ) -> Result<Option<Scan>, NoMemory>
     requires some { 0 < length positions.now }
     requires few { length positions.now ≤ 12001 }
@@ -38,14 +38,6 @@ pub fn scan_back<'x, R: Threads + Wait + Sync>(
     ensures printable { IfOk result (λ found. IfSome found (λ scan. IsPrintableScan scan.earlier)) }
     ensures calls { MadeSome (CrewMakes 0) crew.old.items crew.new.items }
 {
-    let mut many = Many::new(rt, table, crew);
-    scan_by(
-        alloc,
-        positions.items(),
-        first,
-        last,
-        limits,
-        &mut many,
-        gate,
-    )
+    let mut many = Many::new(rt, table, crew, gate);
+    scan_by(alloc, positions.items(), first, last, limits, &mut many)
 }

@@ -99,24 +99,10 @@ fn one_worker_alone_answers_the_same(rt: HostRuntime) -> Result<(), Fail> {
     let limits = Limits::new(10_000, 4, 1, 1024);
     let mut shard = Shard::new(alloc, 1024)?;
     let mut alone = Alone::new(alloc, &mut shard);
-    let done = rounds_by(
-        alloc,
-        &position,
-        Color::White,
-        &limits,
-        &mut alone,
-        &OpenGate,
-    )?;
+    let done = rounds_by(alloc, &position, Color::White, &limits, &mut alone)?;
     assert!(rt; is_line(&done, "g8h8", "d1d8"));
     assert!(rt; 0 < done.units);
-    let again = rounds_by(
-        alloc,
-        &position,
-        Color::White,
-        &limits,
-        &mut alone,
-        &OpenGate,
-    )?;
+    let again = rounds_by(alloc, &position, Color::White, &limits, &mut alone)?;
     assert_eq!(rt; again.units, 0);
     Ok(())
 }

@@ -2,7 +2,7 @@
 
 ghost use Rattle.std.specs.Prelude.{◌≡◌};
 
-use crate::gate::Gate;
+use crate::gate::OpenGate;
 use crate::share::share_of;
 use crate::task::Task;
 use crate::work::Work;
@@ -86,7 +86,7 @@ impl<'a, F: Facts> Crew for Alone<'a, F> {
         &self.work
     }
 
-    fn share_out(&mut self, alloc: Global, task: &Task, moves: &[Move], gate: &(dyn Gate + Sync)) {
-        self.work = share_of(alloc, task, moves, 0, 1, self.place, gate);
+    fn share_out(&mut self, alloc: Global, task: &Task, moves: &[Move]) {
+        self.work = share_of(alloc, task, moves, 0, 1, self.place, &OpenGate);
     }
 }

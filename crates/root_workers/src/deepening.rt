@@ -13,7 +13,6 @@ ghost use Rattle.root_workers.specs.RoundAnswers.{IsMateEnd, IsEnd, IsAmple, Rou
 ghost use Rattle.root_workers.specs.Deepens.{plies_of, IsFrom, CrewCalls, RoundSearches, DeepenCalls, KeepCalls, KeptCalls};
 
 use crate::answers::{RoundsDone, RoundsEnd};
-use crate::gate::Gate;
 use crate::gather::{gathered, units_of};
 use crate::task::Task;
 use crate::workers::Crew;
@@ -49,7 +48,6 @@ fn one_round<C: Crew>(
     task: &Task,
     moves: &[Move],
     crew: &mut C,
-    gate: &(dyn Gate + Sync),
 ) -> Result<RootDone, NoMemory>
     requires ready { C.ready crew.old }
     requires listed { moves.now ≡ legal_moves task.now.position }
@@ -65,7 +63,7 @@ fn one_round<C: Crew>(
     ensures searched { IfOk result (λ done. done.round ≡ RoundAnswer.NoneWithin → RoundSearches C.made_by crew.old crew.new task.now (C.count crew.old)) }
     ensures grow { AllGrow C.made_by crew.old crew.new (C.count crew.old) }
 {
-    crew.share_out(alloc, task, moves, gate);
+    crew.share_out(alloc, task, moves);
     let round = gathered(task, moves, crew)?;
     Ok(RootDone {
         round,
@@ -96,7 +94,6 @@ fn deepen<C: Crew>(
     limits: &Limits,
     from: u8,
     crew: &mut C,
-    gate: &(dyn Gate + Sync),
 ) -> Result<RoundsDone, NoMemory>
     requires ready { C.ready crew.old }
     requires none { HasNoMateWithin position.now winner from }
@@ -118,7 +115,7 @@ fn deepen<C: Crew>(
             depth: depth + 1,
             allowance: allowance_of(limits, depth + 1),
         };
-        let done = one_round(alloc, &task, &moves, crew, gate)?;
+        let done = one_round(alloc, &task, &moves, crew)?;
         units += done.units;
         match done.round {
             RoundAnswer::Mate(line) => {
@@ -151,7 +148,6 @@ fn deepen_and_keep<C: Crew>(
     limits: &Limits,
     from: u8,
     crew: &mut C,
-    gate: &(dyn Gate + Sync),
 ) -> Result<RoundsDone, NoMemory>
     requires ready { C.ready crew.old }
     requires none { HasNoMateWithin position.now winner from }
@@ -164,7 +160,7 @@ fn deepen_and_keep<C: Crew>(
     ensures calls { DeepenCalls C.made_by crew.old crew.new position.now winner from (C.count crew.old) result }
     ensures kept { KeptCalls C.made crew.old crew.new position.now winner result }
 {
-    let done = deepen(alloc, position, winner, limits, from, crew, gate)?;
+    let done = deepen(alloc, position, winner, limits, from, crew)?;
     keep(position, winner, &done.end, crew);
     Ok(done)
 }
@@ -191,15 +187,13 @@ fn known_plies(position: &Position, winner: Color, row: &Proved) -> u8
 /// The position is asked for first. Where what is found decides for the depth of the limits, that is the answer and nothing is
 /// expanded. In rounds of 1 and 2 plies as many positions are expanded as need be; from 3 on each worker expands at most the
 /// budget in a round, and where one has spent it and none has met a mate, the depth before is the answer. Of the mates that
-/// workers met the one with the lowest root move is the answer. What comes out is given to keep (this project). The gate is told
-/// of each root move before a worker searches it.
+/// workers met the one with the lowest root move is the answer. What comes out is given to keep (this project).
 pub fn rounds_by<C: Crew>(
     alloc: Global,
     position: &Position,
     winner: Color,
     limits: &Limits,
     crew: &mut C,
-    gate: &(dyn Gate + Sync),
 ) -> Result<RoundsDone, NoMemory>
     requires ready { C.ready crew.old }
     requires running { IsMated position.now (other_color winner) → ⊥ }
@@ -228,9 +222,9 @@ pub fn rounds_by<C: Crew>(
             Some(RoundAnswer::Spent) => unreachable!(),
             None => {
                 let from = known_plies(position, winner, &row);
-                deepen_and_keep(alloc, position, winner, limits, from, crew, gate)
+                deepen_and_keep(alloc, position, winner, limits, from, crew)
             }
         },
-        Probe::Miss => deepen_and_keep(alloc, position, winner, limits, 0, crew, gate),
+        Probe::Miss => deepen_and_keep(alloc, position, winner, limits, 0, crew),
     }
 }

@@ -31,16 +31,27 @@ pub struct Many<'a, R: Threads + Wait + Sync> {
     rt: &'a R,
     table: &'a Table,
     crew: &'a mut Vec<Worker>,
+    gate: &'a (dyn Gate + Sync),
 }
 
 impl<'a, R: Threads + Wait + Sync> Many<'a, R> {
-    /// These workers at this table.
-    pub fn new(rt: &'a R, table: &'a Table, crew: &'a mut Vec<Worker>) -> Many<'a, R>
+    /// These workers at this table. The gate is told of each root move before a worker searches it.
+    pub fn new(
+        rt: &'a R,
+        table: &'a Table,
+        crew: &'a mut Vec<Worker>,
+        gate: &'a (dyn Gate + Sync),
+    ) -> Many<'a, R>
         ensures same_crew { result.crew.ghost_name ≡ crew.entry.ghost_name }
         ensures state { result.crew.now ≡ crew.old }
         ensures table { result.table.now ≡ table.now }
     {
-        Many { rt, table, crew }
+        Many {
+            rt,
+            table,
+            crew,
+            gate,
+        }
     }
 }
 
@@ -212,7 +223,9 @@ impl<'a, R: Threads + Wait + Sync> Crew for Many<'a, R> {
         &self.crew[number as usize].work
     }
 
-    fn share_out(&mut self, alloc: Global, task: &Task, moves: &[Move], gate: &(dyn Gate + Sync)) {
-        hand_out(self.rt, alloc, self.table, task, moves, self.crew, gate);
+    fn share_out(&mut self, alloc: Global, task: &Task, moves: &[Move]) {
+        hand_out(
+            self.rt, alloc, self.table, task, moves, self.crew, self.gate,
+        );
     }
 }

@@ -34,7 +34,7 @@ pub fn rounds<'x, R: Threads + Wait + Sync>(
     limits: &Limits,
     table: &'x Table,
     crew: &'x mut Vec<Worker>,
-    gate: &(dyn Gate + Sync),
+    gate: &'x (dyn Gate + Sync),
 ) -> Result<RoundsDone, NoMemory>
     requires crew { IsCrew table.now crew.old.items }
     requires running { IsMated position.now (other_color winner) → ⊥ }
@@ -47,6 +47,6 @@ pub fn rounds<'x, R: Threads + Wait + Sync>(
     ensures none { IfOk result (λ done. IsAmple position.now limits.now → IsUnwinnable position.now winner → done.end ≡ RoundsEnd.NoneWithin limits.now.depth) }
     ensures calls { RoundsCalls (CrewMakes 0) CrewMakes (length crew.old.items) crew.old.items crew.new.items position.now winner limits.now result }
 {
-    let mut many = Many::new(rt, table, crew);
-    rounds_by(alloc, position, winner, limits, &mut many, gate)
+    let mut many = Many::new(rt, table, crew, gate);
+    rounds_by(alloc, position, winner, limits, &mut many)
 }

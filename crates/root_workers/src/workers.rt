@@ -7,7 +7,6 @@ ghost use Rattle.cha_board.specs.Men.{other_color};
 ghost use Rattle.cha_fact.specs.Entries.{Entry};
 ghost use Rattle.root_workers.specs.Shares.{IsShare, ShareCalls, AllGrow};
 
-use crate::gate::Gate;
 use crate::task::Task;
 use crate::work::Work;
 use cha_fact::Facts;
@@ -45,9 +44,8 @@ pub trait Crew: Facts {
         ensures left { leaves self.now number result.now }
         ensures only { (work : Work) → leaves self.now number work → work ≡ result.now };
 
-    /// Each worker searches its root moves: those whose number leaves its own as the rest by the count of workers. The gate is
-    /// told of each before it is searched.
-    fn share_out(&mut self, alloc: Global, task: &Task, moves: &[Move], gate: &(dyn Gate + Sync))
+    /// Each worker searches its root moves: those whose number leaves its own as the rest by the count of workers.
+    fn share_out(&mut self, alloc: Global, task: &Task, moves: &[Move])
         requires ready { Self.ready self.old }
         requires listed { moves.now ≡ legal_moves task.now.position }
         requires some { 1 ≤ task.now.depth }

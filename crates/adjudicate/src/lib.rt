@@ -25,5 +25,4 @@ pub use cha_decide::{decide, decide_by, scan_back, scan_by};
 pub use cha_verdict::{Decision, Limits};
 pub use cha_words::{Order, parse};
 pub use endings::Status;
-pub use root_workers::{Gate, OpenGate};
 pub use top::run;

@@ -21,7 +21,7 @@ use cha_outside::{MOST_BYTES, Sink, Source};
 use cha_verdict::sound_is_complete;
 use cha_words::{Order, games_are_some, mates_are_bounded, parse};
 use helpmate_list::InThreads;
-use root_workers::{Gate, Many, crew};
+use root_workers::{Many, crew};
 use shard_table::Table;
 use std::alloc::Global;
 use std::sync::Wait;
@@ -38,7 +38,6 @@ pub fn run<R: Threads + Wait + Sync, S: Source, K: Sink>(
     words: &[String],
     source: &mut S,
     sink: &mut K,
-    gate: &(dyn Gate + Sync),
 ) -> Status
     // The words are not in the language, and then nothing was read or written.
     ensures usage { (result ≡ Status.Usage) ↔ IsNone (order words.now) }
@@ -65,7 +64,7 @@ pub fn run<R: Threads + Wait + Sync, S: Source, K: Sink>(
     mates_are_bounded();
     match parse(words) {
         Some(order) => match order.limits() {
-            Some(limits) => by_threads(rt, alloc, &order, &limits, source, sink, gate),
+            Some(limits) => by_threads(rt, alloc, &order, &limits, source, sink),
             None => carry_out_plain(
                 alloc,
                 &order,
@@ -87,7 +86,6 @@ fn by_threads<R: Threads + Wait + Sync, S: Source, K: Sink>(
     limits: &Limits,
     source: &mut S,
     sink: &mut K,
-    gate: &(dyn Gate + Sync),
 ) -> Status
     requires searches { IsSome (limits_in order.now) }
     requires some { (spend : Bounds) (seed count : ℕ) → order.now ≡ GenGames spend seed count → (1 ≤ count) × (count ≤ 1000) }
@@ -100,6 +98,6 @@ fn by_threads<R: Threads + Wait + Sync, S: Source, K: Sink>(
     let Ok(mut workers) = crew(alloc, &table, &mut pass, limits.workers()) else {
         return Status::NoMemory;
     };
-    let mut many = Many::new(rt, &table, &mut workers, gate);
+    let mut many = Many::new(rt, &table, &mut workers);
     carry_out(alloc, order, &mut many, source, sink)
 }

@@ -1,6 +1,6 @@
 //! One run over bytes in memory.
 
-use adjudicate::{OpenGate, Status, run};
+use adjudicate::{Status, run};
 use cha_outside::{Bytes, Kept, Pieces, Source};
 use std::alloc::Global;
 use std::sync::Wait;
@@ -44,7 +44,7 @@ pub fn run_over<R: Threads + Wait + Sync, S: Source>(
 ) -> Result<Ran, Fail> {
     let words = words_of(alloc, line)?;
     let mut sink = Kept::new(alloc, room, fails)?;
-    let status = run(rt, alloc, words.as_slice(), source, &mut sink, &OpenGate);
+    let status = run(rt, alloc, words.as_slice(), source, &mut sink);
     let written = sink.bytes().to_vec(alloc)?;
     Ok(Ran { status, written })
 }

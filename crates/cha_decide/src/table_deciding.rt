@@ -12,7 +12,7 @@ use cha_board::{Color, Position};
 use cha_limits::Limits;
 use cha_list::NoMemory;
 use cha_verdict::Decision;
-use root_workers::{Gate, Many, Worker};
+use root_workers::{Many, Worker};
 use shard_table::Table;
 use std::alloc::Global;
 use std::sync::Wait;
@@ -28,7 +28,6 @@ pub fn decide<'x, R: Threads + Wait + Sync>(
     limits: &Limits,
     table: &'x Table,
     crew: &'x mut Vec<Worker>,
-    gate: &'x (dyn Gate + Sync),
 ) -> Result<Decision, NoMemory>
     requires crew { IsCrew table.now crew.old.items }
     ensures crew { IsCrew table.now crew.new.items }
@@ -39,6 +38,6 @@ pub fn decide<'x, R: Threads + Wait + Sync>(
     ensures complete { IfOk result (λ decision. (winner : Side) → IsComplete position.now winner limits.now (verdict_on decision winner)) }
     ensures calls { Asked (CrewMakes 0) crew.old.items crew.new.items position.now result }
 {
-    let mut many = Many::new(rt, table, crew, gate);
+    let mut many = Many::new(rt, table, crew);
     decide_by(alloc, position, first, limits, &mut many)
 }

@@ -11,7 +11,7 @@ use cha_limits::Limits;
 use cha_list::NoMemory;
 use cha_moves::Positions;
 use cha_verdict::{Decision, Scan};
-use root_workers::{Gate, Many, Worker};
+use root_workers::{Many, Worker};
 use shard_table::Table;
 use std::alloc::Global;
 use std::sync::Wait;
@@ -27,7 +27,6 @@ pub fn scan_back<'x, R: Threads + Wait + Sync>(
     limits: &Limits,
     table: &'x Table,
     crew: &'x mut Vec<Worker>,
-    gate: &'x (dyn Gate + Sync),
 ) -> Result<Option<Scan>, NoMemory>
     requires some { 0 < length positions.now }
     requires few { length positions.now ≤ 12001 }
@@ -38,6 +37,6 @@ pub fn scan_back<'x, R: Threads + Wait + Sync>(
     ensures printable { IfOk result (λ found. IfSome found (λ scan. IsPrintableScan scan.earlier)) }
     ensures calls { MadeSome (CrewMakes 0) crew.old.items crew.new.items }
 {
-    let mut many = Many::new(rt, table, crew, gate);
+    let mut many = Many::new(rt, table, crew);
     scan_by(alloc, positions.items(), first, last, limits, &mut many)
 }

@@ -1,7 +1,7 @@
 //! The program `cha`: the call `run` over standard input and standard output.
 #![tactic(auto)]
 
-use adjudicate::{OpenGate, Status, run};
+use adjudicate::{Status, run};
 use cha_outside::{ReadFrom, WriteTo};
 use cha_words::{Setting, UsageFault, least, most, usage_fault};
 use std::env;
@@ -83,14 +83,7 @@ fn main(rt: HostRuntime) -> ExitCode {
                 if let Some(fault) = usage_fault(words.as_slice()) {
                     say_fault(&rt, fault);
                 }
-                run(
-                    &rt,
-                    alloc,
-                    words.as_slice(),
-                    &mut source,
-                    &mut sink,
-                    &OpenGate,
-                )
+                run(&rt, alloc, words.as_slice(), &mut source, &mut sink)
             }
             Err(_) => Status::NoMemory,
         },

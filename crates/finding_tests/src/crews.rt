@@ -1,41 +1,15 @@
-//! A mate in two plies by crews of all sizes, and two workers that search at one time.
+//! A mate in two plies by crews of all sizes, and a mate that two workers find.
 
 use crate::from_fen::place;
 use cha_board::Color;
 use cha_moves::{is_mate, move_text, replays};
-use root_workers::{Alone, Gate, Limits, OpenGate, RoundsDone, RoundsEnd, crew, rounds, rounds_by};
+use root_workers::{Alone, Limits, RoundsDone, RoundsEnd, crew, rounds, rounds_by};
 use shard_table::{Shard, Table};
-use std::sync::atomic::{AtomicU64, Ordering};
 use std::test::Fail;
 
 const BACK_RANK: &str = "6k1/5ppp/8/8/8/8/5PPP/3R2K1 b - -";
 
 const SCHOLARS: &str = "r1bqkbnr/pppp1ppp/2n5/4p2Q/2B1P3/8/PPPP1PPP/RNB1K1NR b KQkq -";
-
-/// Holds worker 0 up until worker 1 has come.
-#[derive(Drop)]
-struct Meeting {
-    came: AtomicU64,
-    turns: AtomicU64,
-}
-
-/// The turns of the loop after which the other worker comes no more.
-const MOST: u64 = 100_000_000;
-
-impl Gate for Meeting {
-    fn enter(&self, worker: u32, _root_move: u32) {
-        if worker == 1 {
-            self.came.store(1, Ordering::SeqCst);
-            return;
-        }
-        for turn in 0..MOST {
-            if self.came.load(Ordering::SeqCst) == 1 {
-                return;
-            }
-            self.turns.store(turn + 1, Ordering::SeqCst);
-        }
-    }
-}
 
 /// Whether the answer is the mate of these two moves.
 fn is_line(done: &RoundsDone, first: &str, second: &str) -> bool {
@@ -69,7 +43,6 @@ fn crews_of_all_sizes_answer_one_line(rt: HostRuntime) -> Result<(), Fail> {
             &limits,
             &table,
             &mut workers,
-            &OpenGate,
         )?;
         assert!(rt; is_line(&done, "g8h8", "d1d8"), "{count}");
         assert!(rt; 0 < done.units);
@@ -81,7 +54,6 @@ fn crews_of_all_sizes_answer_one_line(rt: HostRuntime) -> Result<(), Fail> {
             &limits,
             &table,
             &mut workers,
-            &OpenGate,
         )?;
         assert!(rt; is_line(&again, "g8h8", "d1d8"), "{count}");
         assert_eq!(rt; again.units, 0);
@@ -108,7 +80,7 @@ fn one_worker_alone_answers_the_same(rt: HostRuntime) -> Result<(), Fail> {
 }
 
 #[test]
-fn two_workers_search_at_one_time(rt: HostRuntime) -> Result<(), Fail> {
+fn two_workers_find_a_mate(rt: HostRuntime) -> Result<(), Fail> {
     let alloc = rt.alloc();
     let position = place(SCHOLARS)?;
     if is_mate(&position, Color::White) {
@@ -117,10 +89,6 @@ fn two_workers_search_at_one_time(rt: HostRuntime) -> Result<(), Fail> {
     let limits = Limits::new(10_000, 4, 2, 1024);
     let (table, mut pass) = Table::new(alloc, 1024)?;
     let mut workers = crew(alloc, &table, &mut pass, 2)?;
-    let gate = Meeting {
-        came: AtomicU64::new(0),
-        turns: AtomicU64::new(0),
-    };
     let done = rounds(
         &rt,
         alloc,
@@ -129,9 +97,7 @@ fn two_workers_search_at_one_time(rt: HostRuntime) -> Result<(), Fail> {
         &limits,
         &table,
         &mut workers,
-        &gate,
     )?;
-    assert!(rt; gate.turns.load(Ordering::SeqCst) < MOST);
     match &done.end {
         RoundsEnd::Mate(line) => assert!(rt; replays(&position, Color::White, line.moves())),
         RoundsEnd::NoneWithin(_) => panic!(rt; "no mate"),

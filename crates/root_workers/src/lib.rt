@@ -22,7 +22,6 @@ pub use alone::Alone;
 pub use answers::{RoundsDone, RoundsEnd};
 pub use cha_limits::Limits;
 pub use deepening::rounds_by;
-pub use gate::{Gate, OpenGate};
 pub use gather::gathered;
 pub use many::{Many, crew};
 pub use table_rounds::rounds;

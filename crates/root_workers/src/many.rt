@@ -11,7 +11,7 @@ ghost use Rattle.root_workers.specs.Shares.{IsShare, ShareCalls};
 ghost use Rattle.root_workers.specs.Crews.{IsCrew, CrewMakes, WorkerDone};
 ghost use Rattle.root_workers.specs.Splits.{OnlySplits, AreFresh};
 
-use crate::gate::Gate;
+use crate::gate::{Gate, OpenGate};
 use crate::share::share_of;
 use crate::task::Task;
 use crate::work::{Work, Worker};
@@ -31,27 +31,16 @@ pub struct Many<'a, R: Threads + Wait + Sync> {
     rt: &'a R,
     table: &'a Table,
     crew: &'a mut Vec<Worker>,
-    gate: &'a (dyn Gate + Sync),
 }
 
 impl<'a, R: Threads + Wait + Sync> Many<'a, R> {
-    /// These workers at this table. The gate is told of each root move before a worker searches it.
-    pub fn new(
-        rt: &'a R,
-        table: &'a Table,
-        crew: &'a mut Vec<Worker>,
-        gate: &'a (dyn Gate + Sync),
-    ) -> Many<'a, R>
+    /// These workers at this table.
+    pub fn new(rt: &'a R, table: &'a Table, crew: &'a mut Vec<Worker>) -> Many<'a, R>
         ensures same_crew { result.crew.ghost_name ≡ crew.entry.ghost_name }
         ensures state { result.crew.now ≡ crew.old }
         ensures table { result.table.now ≡ table.now }
     {
-        Many {
-            rt,
-            table,
-            crew,
-            gate,
-        }
+        Many { rt, table, crew }
     }
 }
 
@@ -225,7 +214,7 @@ impl<'a, R: Threads + Wait + Sync> Crew for Many<'a, R> {
 
     fn share_out(&mut self, alloc: Global, task: &Task, moves: &[Move]) {
         hand_out(
-            self.rt, alloc, self.table, task, moves, self.crew, self.gate,
+            self.rt, alloc, self.table, task, moves, self.crew, &OpenGate,
         );
     }
 }

@@ -9,7 +9,6 @@ ghost use Rattle.root_workers.specs.RoundAnswers.{IsMateEnd, IsEnd, IsAmple, Rou
 
 use crate::answers::{RoundsDone, RoundsEnd};
 use crate::deepening::rounds_by;
-use crate::gate::Gate;
 use crate::many::Many;
 use crate::work::Worker;
 use cha_board::{Color, Position};
@@ -24,8 +23,7 @@ use std::thread::Threads;
 /// share out the root moves. The position is no mate for the side.
 ///
 /// It answers what `rounds_by` answers with the same crew. Each call of a worker is a turn at the table and may wait for others
-/// there; the first worker asks for the position and stores the answer. The gate is told of each root move before a worker
-/// searches it. `NoMemory` means that memory ran out; the crew is a crew still (this project).
+/// there; the first worker asks for the position and stores the answer. `NoMemory` means that memory ran out; the crew is a crew still (this project).
 pub fn rounds<'x, R: Threads + Wait + Sync>(
     rt: &'x R,
     alloc: Global,
@@ -34,7 +32,6 @@ pub fn rounds<'x, R: Threads + Wait + Sync>(
     limits: &Limits,
     table: &'x Table,
     crew: &'x mut Vec<Worker>,
-    gate: &'x (dyn Gate + Sync),
 ) -> Result<RoundsDone, NoMemory>
     requires crew { IsCrew table.now crew.old.items }
     requires running { IsMated position.now (other_color winner) → ⊥ }
@@ -47,6 +44,6 @@ pub fn rounds<'x, R: Threads + Wait + Sync>(
     ensures none { IfOk result (λ done. IsAmple position.now limits.now → IsUnwinnable position.now winner → done.end ≡ RoundsEnd.NoneWithin limits.now.depth) }
     ensures calls { RoundsCalls (CrewMakes 0) CrewMakes (length crew.old.items) crew.old.items crew.new.items position.now winner limits.now result }
 {
-    let mut many = Many::new(rt, table, crew, gate);
+    let mut many = Many::new(rt, table, crew);
     rounds_by(alloc, position, winner, limits, &mut many)
 }

@@ -31,7 +31,7 @@ fault() {
     mapfile -t lines <<< "$text"
     first=$(sed -n '/^nodes /{n;p;q;}' <<< "$text")
     [ "${lines[1]-}" = "winner ${side:0:1}" ] || { echo "for another side: ${lines[1]-}"; return; }
-    case $first in "inner $fen" | "small $fen" | leaf\ *\ "$fen") ;; *) echo "of another position: $first"; return ;; esac
+    case $first in "inner $fen" | "small $fen" | "lone $fen" | leaf\ *\ "$fen") ;; *) echo "of another position: $first"; return ;; esac
     answer=$(printf %s "$text" | "$program" check)
     status=$?
     [ "$status $answer" = "0 accepted ${side:0:1}" ] || echo "${answer:-no answer}, status $status"
@@ -42,7 +42,7 @@ while IFS= read -r line; do
         text+=$line$'\n'
         case $early$line in
             whiteleaf\ *) [ -n "$fen" ] || { fen=${line#* } && fen=${fen#* }; } ;;
-            whiteinner\ * | whitesmall\ *) [ -n "$fen" ] || fen=${line#* } ;;
+            whiteinner\ * | whitesmall\ * | whitelone\ *) [ -n "$fen" ] || fen=${line#* } ;;
         esac
         if [ "$line" = end ]; then
             count_one "$(fault)"

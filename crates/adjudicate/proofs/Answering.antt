@@ -5,13 +5,13 @@ use Rattle.cha_list.specs.declared.memory.NoMemory.{NoMemory}
 use Rattle.cert_text.specs.declared.reader.Certificate.{Certificate}
 use Rattle.cert_text.specs.Versions.{any_cert_of}
 use Rattle.adjudicate.specs.declared.checking.Answer.{Answer}
-use Rattle.cha_words.specs.declared.orders.Order.TheVariants.{CheckCert}
 use Rattle.adjudicate.specs.CertFindings.{IsAnswerTo, IsReadAs}
-use Rattle.adjudicate.specs.Report.{HasBegun}
+use Rattle.adjudicate.specs.Report.{IsFront}
 use Rattle.adjudicate.specs.Runs.{Grew}
 
 -- the line is written in part
-pub cut_answer : (bytes line shown : List ℕ) (old new : Option (List ℕ)) (n : ℕ) → IsAnswerTo (any_cert_of bytes) line → shown ≡ line → Appends old new (take n shown) → Grew old new (HasBegun CheckCert bytes)
+pub cut_answer : (bytes line shown : List ℕ) (old new : Option (List ℕ)) (n : ℕ) → IsAnswerTo (any_cert_of bytes) line → shown ≡ line → Appends old new (take n shown)
+    → Grew old new (λ out. (whole : List ℕ) × IsAnswerTo (any_cert_of bytes) whole × IsFront out whole)
 cut_answer bytes line shown old new n is same added =
     (take n line, subst (λ x. Appends old new (take n x)) same added, (line, is, (drop n line, sym (take-append-drop n line))))
 

@@ -3,8 +3,5 @@ pub mod LineEnds
 pub mod Progress
 pub mod RunEndings
 pub mod Answering
-pub mod PlayedGames
-pub mod Scanned
-pub mod GameLoop
-pub mod LineLoop
-pub mod MatesLoop
+pub mod GivenGames
+pub mod ReportLoop

@@ -1,5 +1,5 @@
 -- What is found about the text of a certificate (this project).
-use Rattle.std.specs.Prelude.{◌≡◌, ℕ, List, Result, Ok, Err, ⊤}
+use Rattle.std.specs.Prelude.{◌≡◌, ℕ, List, Result, Ok, Err}
 use Rattle.cha_board.specs.declared.men.Color.{Color}
 use Rattle.cha_board.specs.Board.{Board, IsValid}
 use Rattle.cha_moves.specs.Ends.{IsUnwinnable}
@@ -10,8 +10,6 @@ use Rattle.cert_text.specs.declared.faults.CertFault.{CertFault}
 use Rattle.cert_text.specs.declared.reader.Certificate.{Certificate}
 use Rattle.cert_text.specs.Versions.{any_cert_of, IsAnyText}
 use Rattle.flag_report.specs.CertReports.{accepted_text, misfit_text, failing_text}
-use Rattle.cha_words.specs.declared.orders.Order.{Order}
-use Rattle.cha_words.specs.declared.orders.Order.TheVariants.{AdjudicateGames, JudgePositions, CheckCert, GenGames, ListMates}
 
 -- the line on what a check of a certificate answers
 abbrev pub checked_text : Color → Checked → List ℕ
@@ -40,12 +38,3 @@ IsTextOf P bytes = (c : Certificate) × IsAnyText c.winner c.cert bytes × P c
 -- the bytes are read as a certificate that is such: of version 2 as the expansion of what they spell
 abbrev pub IsReadAs : (Certificate → Type 0) → List ℕ → Type 0
 IsReadAs P bytes = (c : Certificate) × (any_cert_of bytes ≡ Ok c) × P c
-
--- What an order asks of its input: of a certificate that the bytes are read as one and that it is valid. Of games and positions
--- nothing is asked.
-abbrev pub IsAccepted : Order → List ℕ → Type 0
-IsAccepted (AdjudicateGames limits certs) bytes = ⊤
-IsAccepted (JudgePositions limits certs) bytes = ⊤
-IsAccepted CheckCert bytes = IsReadAs IsValidAtFirst bytes
-IsAccepted (GenGames limits seed count) bytes = ⊤
-IsAccepted (ListMates side workers depth) bytes = ⊤

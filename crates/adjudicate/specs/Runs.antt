@@ -1,15 +1,13 @@
 -- What is true of a whole run.
-use Rattle.std.specs.Prelude.{◌≡◌, ◌≢◌, ℕ, ◌+◌, ◌<◌, ◌≤◌, List, length, Some, ◌⊎◌, ⊤, []}
+use Rattle.std.specs.Prelude.{◌≡◌, ◌≢◌, ℕ, ◌+◌, ◌<◌, ◌≤◌, Bool, true, false, List, length, Some, ◌⊎◌, ⊤, []}
 use Rattle.std.specs.declared.option.Option.{Option}
 use Rattle.std.specs.Io.KnownBytes.{Appends, Consumes, IsAtEnd}
 use Rattle.cha_outside.specs.Faults.{Rose}
 use Rattle.cha_outside.specs.Gathering.{Took}
 use Rattle.cha_words.specs.declared.orders.Order.{Order}
-use Rattle.cha_words.specs.declared.orders.Order.TheVariants.{AdjudicateGames, JudgePositions, CheckCert, GenGames, ListMates}
 use Rattle.adjudicate.specs.declared.endings.Status.{Status}
 use Rattle.adjudicate.specs.declared.endings.Status.TheVariants.{Done, Usage, ReadFault, WriteFault, TooLong, NoMemory, NotAccepted}
-use Rattle.adjudicate.specs.CertFindings.{IsAccepted}
-use Rattle.adjudicate.specs.Report.{IsReport, HasBegun, HasWholeBlocks, HasDueBlocks}
+use Rattle.adjudicate.specs.Report.{Demand, demand, IsFront}
 
 -- A source and a sink at one moment: the bytes that the source still gives and those that the sink took, where they tell them,
 -- and how often each has failed.
@@ -27,84 +25,60 @@ outside left read_faults written write_faults =
 abbrev pub Grew : Option (List ℕ) → Option (List ℕ) → (List ℕ → Type 0) → Type 0
 Grew old new P = (out : List ℕ) × Appends old new out × P out
 
--- an order reads the source, unless its games are made
-abbrev pub Reads : Order → Type 0
-Reads (AdjudicateGames limits certs) = ⊤
-Reads (JudgePositions limits certs) = ⊤
-Reads CheckCert = ⊤
-Reads (GenGames limits seed count) = ⊥
-Reads (ListMates side workers depth) = ⊤
+-- these bytes were taken of the source; where nothing is read there are none, and the source is as it was
+abbrev pub Takes : Bool → Outside → Outside → List ℕ → Type 0
+Takes true before now bytes = Consumes before.left now.left bytes
+Takes false before now bytes = (bytes ≡ []) × (now.left ≡ before.left) × (now.read_faults ≡ before.read_faults)
 
--- an order reads the whole source before it judges any of it
-abbrev pub ReadsAtOnce : Order → Type 0
-ReadsAtOnce (AdjudicateGames limits certs) = ⊥
-ReadsAtOnce (JudgePositions limits certs) = ⊤
-ReadsAtOnce CheckCert = ⊤
-ReadsAtOnce (GenGames limits seed count) = ⊥
-ReadsAtOnce (ListMates side workers depth) = ⊤
+-- nothing is left of what is read
+abbrev pub HasReadAll : Bool → Outside → Type 0
+HasReadAll true now = IsAtEnd now.left
+HasReadAll false now = ⊤
 
--- these bytes were taken of the source; where games are made there are none, and the source is as it was
-abbrev pub Takes : Order → Outside → Outside → List ℕ → Type 0
-Takes (AdjudicateGames limits certs) before now bytes = Consumes before.left now.left bytes
-Takes (JudgePositions limits certs) before now bytes = Consumes before.left now.left bytes
-Takes CheckCert before now bytes = Consumes before.left now.left bytes
-Takes (ListMates side workers depth) before now bytes = Consumes before.left now.left bytes
-Takes (GenGames limits seed count) before now bytes = (bytes ≡ []) × (now.left ≡ before.left) × (now.read_faults ≡ before.read_faults)
+-- the whole input was taken, it is what is asked for, and its report was written
+abbrev pub Reports : Demand → Outside → Outside → Type 0
+Reports d before now =
+    (bytes : List ℕ) × Takes d.reads before now bytes × HasReadAll d.reads now × d.accepted bytes × Grew before.written now.written (d.report bytes)
 
--- nothing is left of what an order reads
-abbrev pub HasReadAll : Order → Outside → Type 0
-HasReadAll (AdjudicateGames limits certs) now = IsAtEnd now.left
-HasReadAll (JudgePositions limits certs) now = IsAtEnd now.left
-HasReadAll CheckCert now = IsAtEnd now.left
-HasReadAll (GenGames limits seed count) now = ⊤
-HasReadAll (ListMates side workers depth) now = IsAtEnd now.left
+-- the whole input was taken, it is not what is asked for, and its report was written; of games and positions nothing is asked, so this
+-- is never said of them
+abbrev pub Refuses : Demand → Outside → Outside → Type 0
+Refuses d before now =
+    (bytes : List ℕ) × Takes d.reads before now bytes × HasReadAll d.reads now × (d.accepted bytes → ⊥) × Grew before.written now.written (d.report bytes)
 
--- the whole input was taken, it is what its order asks for, and its report was written
-abbrev pub Reports : Order → Outside → Outside → Type 0
-Reports order before now =
-    (bytes : List ℕ) × Takes order before now bytes × HasReadAll order now × IsAccepted order bytes × Grew before.written now.written (IsReport order bytes)
+-- some bytes were taken, and their report was begun: it was cut in a block, or somewhere once all was read
+abbrev pub Begins : Demand → Outside → Outside → Type 0
+Begins d before now =
+    (bytes : List ℕ) × Takes d.reads before now bytes
+    × Grew before.written now.written (λ out. d.cut bytes out ⊎ (HasReadAll d.reads now × ((whole : List ℕ) × d.report bytes whole × IsFront out whole)))
 
--- the whole input was taken, it is not what its order asks for, and its report was written; of games and positions nothing is
--- asked, so this is never said of them
-abbrev pub Refuses : Order → Outside → Outside → Type 0
-Refuses order before now =
-    (bytes : List ℕ) × Takes order before now bytes × HasReadAll order now × (IsAccepted order bytes → ⊥) × Grew before.written now.written (IsReport order bytes)
-
--- some bytes were taken, and their report was begun
-abbrev pub Begins : Order → Outside → Outside → Type 0
-Begins order before now = (bytes : List ℕ) × Takes order before now bytes × Grew before.written now.written (HasBegun order bytes)
-
--- the same with whole blocks alone
-abbrev pub BeginsWhole : Order → Outside → Outside → Type 0
-BeginsWhole order before now = (bytes : List ℕ) × Takes order before now bytes × Grew before.written now.written (HasWholeBlocks order bytes)
-
--- the same, and each game that is settled in the bytes has its block
-abbrev pub BeginsDue : Order → Outside → Outside → Type 0
-BeginsDue order before now = (bytes : List ℕ) × Takes order before now bytes × Grew before.written now.written (HasDueBlocks order bytes)
+-- some bytes were taken, and whole blocks alone were written: so many as are due, or any
+abbrev pub BeginsWhole : Demand → (List ℕ → ℕ) → Outside → Outside → Type 0
+BeginsWhole d least before now = (bytes : List ℕ) × Takes d.reads before now bytes × Grew before.written now.written (d.blocks (least bytes) bytes)
 
 -- What was read and written for an order, by the status of the run: its whole report on Done and NotAccepted, a front of it where
 -- the sink failed, and whole blocks of it where anything else failed. Where the source failed, no game that is settled is left out.
 -- Words that order something never end in Usage.
-abbrev pub Ended : Order → Status → Outside → Outside → Type 0
-Ended order Done before now = Reports order before now
-Ended order NotAccepted before now = Refuses order before now
-Ended order WriteFault before now = Begins order before now
-Ended order ReadFault before now = BeginsDue order before now
-Ended order TooLong before now = BeginsWhole order before now
-Ended order NoMemory before now = BeginsWhole order before now
-Ended order Usage before now = ⊥
+abbrev pub Ended : Demand → Status → Outside → Outside → Type 0
+Ended d Done before now = Reports d before now
+Ended d NotAccepted before now = Refuses d before now
+Ended d WriteFault before now = Begins d before now
+Ended d ReadFault before now = BeginsWhole d d.due before now
+Ended d TooLong before now = BeginsWhole d (λ _. 0) before now
+Ended d NoMemory before now = BeginsWhole d (λ _. 0) before now
+Ended d Usage before now = ⊥
 
 -- the most bytes that an input may have
 abbrev pub most_bytes : ℕ
 most_bytes = 268435456
 
--- What is true of a run for an order: what was read and written; that a reading that fails or is too long comes only where the
+-- What is true of a run, by what its order asks: what was read and written; that a reading that fails or is too long comes only where the
 -- order reads; that a fault comes only where its object failed in this run;
 -- that a run is too long exactly where more bytes were taken than an input may have, which is then by at most 4,096, and never
 -- where the source has no more to give; and that counts of faults never fall.
-pub record IsRun (order : Order) (status : Status) (before now : Outside) : Type 0 where
-  pub ended : Ended order status before now
-  pub reads : (status ≡ ReadFault) ⊎ (status ≡ TooLong) → Reads order
+pub record IsRunOf (d : Demand) (status : Status) (before now : Outside) : Type 0 where
+  pub ended : Ended d status before now
+  pub reads : (status ≡ ReadFault) ⊎ (status ≡ TooLong) → d.reads ≡ true
   pub read_fault : status ≡ ReadFault → Rose before.read_faults now.read_faults
   pub write_fault : status ≡ WriteFault → Rose before.write_faults now.write_faults
   pub too_long : status ≡ TooLong → Took before.left now.left (λ taken. (most_bytes < length taken) × (length taken ≤ most_bytes + 4096))
@@ -112,3 +86,6 @@ pub record IsRun (order : Order) (status : Status) (before now : Outside) : Type
   pub never_too_long : (bytes : List ℕ) → before.left ≡ Some bytes → length bytes ≤ most_bytes → status ≢ TooLong
   pub source_later : before.read_faults ≤ now.read_faults
   pub sink_later : before.write_faults ≤ now.write_faults
+
+abbrev pub IsRun : Order → Status → Outside → Outside → Type 0
+IsRun order status before now = IsRunOf (demand order) status before now

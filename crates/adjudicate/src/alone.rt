@@ -59,7 +59,7 @@ pub fn run_alone<S: Source, K: Sink>(
     match parse(words) {
         Some(order) => match order.limits() {
             Some(limits) => by_itself(alloc, &order, &limits, source, sink),
-            None => carry_out_plain(alloc, &order, &InTurn, &OneThread, source, sink),
+            None => carry_out_plain(alloc, &order, InTurn, &OneThread, source, sink),
         },
         None => Status::Usage,
     }
@@ -80,6 +80,6 @@ fn by_itself<S: Source, K: Sink>(
     let Ok(mut shard) = Shard::new(alloc, limits.entries()) else {
         return Status::NoMemory;
     };
-    let mut alone = Alone::new(alloc, &mut shard);
-    carry_out(alloc, order, &mut alone, source, sink)
+    let alone = Alone::new(alloc, &mut shard);
+    carry_out(alloc, order, alone, source, sink)
 }

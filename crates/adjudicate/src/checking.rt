@@ -5,8 +5,9 @@ ghost use Rattle.cha_cert.specs.Shared.{expansion};
 ghost use Rattle.cert_text.specs.Versions.{any_cert_of};
 ghost use Rattle.cha_words.specs.declared.orders.Order.TheVariants.{CheckCert};
 ghost use Rattle.adjudicate.specs.CertFindings.{IsAnswerTo, IsReadAs, IsValidAtFirst};
+ghost use Rattle.adjudicate.specs.Report.{demand};
 ghost use Rattle.adjudicate.specs.Runs.{IsRun, outside};
-ghost use Rattle.adjudicate.specs.ItemSteps.{IsWritten, ended_by};
+ghost use Rattle.adjudicate.specs.Steps.{IsWritten, ended_by};
 
 use crate::endings::Status;
 use crate::writing::put;
@@ -43,7 +44,7 @@ fn write_answer<C: Checker, K: Sink>(
     sink: &mut K,
 ) -> Status
     requires ready { C.ready checker.now }
-    ensures { IsWritten CheckCert bytes.items result (K.written sink.old) (K.faults sink.old) (K.written sink.new) (K.faults sink.new) }
+    ensures { IsWritten (demand CheckCert) bytes.items result (K.written sink.old) (K.faults sink.old) (K.written sink.new) (K.faults sink.new) }
 {
     let Ok(answer) = answer_to(alloc, checker, bytes) else {
         return Status::NoMemory;

@@ -9,58 +9,77 @@ ghost use Rattle.adjudicate.specs.Runs.{IsRun, outside};
 
 use crate::checking::check_cert;
 use crate::endings::Status;
-use crate::games::adjudicate_games;
-use crate::generated::adjudicate_generated;
-use crate::mates::list_mates;
-use crate::positions::judge_positions;
+use crate::jobs::{report_games, report_lines, report_made};
+use crate::reports::Form;
 use cert_par::Checker;
+use cha_judge::{MatesJudge, VerdictsJudge};
 use cha_outside::{Sink, Source};
 use cha_words::Order;
+use flag_report::{Style, Subject};
 use helpmate_list::Spread;
 use root_workers::Crew;
 use std::alloc::Global;
 
 /// Reads a source to its end, and writes the report that an order asks for, with a crew of workers that searches.
-pub fn carry_out<C: Crew, S: Source, K: Sink>(
+pub fn carry_out<C: Crew + Drop, S: Source, K: Sink>(
     alloc: Global,
     order: &Order,
-    crew: &mut C,
+    crew: C,
     source: &mut S,
     sink: &mut K,
 ) -> Status
-    requires ready { C.ready crew.old }
+    requires ready { C.ready crew }
     requires searches { IsSome (limits_in order.now) }
     requires some { (spend : Bounds) (seed count : ℕ) → order.now ≡ GenGames spend seed count → (1 ≤ count) × (count ≤ 1000) }
     ensures { IsRun order.now result (outside (S.left source.old) (S.faults source.old) (K.written sink.old) (K.faults sink.old)) (outside (S.left source.new) (S.faults source.new) (K.written sink.new) (K.faults sink.new)) }
 {
     match order {
         Order::AdjudicateGames { limits, certs } => {
-            adjudicate_games(alloc, limits, *certs, crew, source, sink)
+            let mut judge = VerdictsJudge {
+                limits: *limits,
+                crew,
+            };
+            let style = Style::Blocks { certs: *certs };
+            report_games(alloc, style, &mut judge, source, sink)
         }
         Order::JudgePositions { limits, certs } => {
-            judge_positions(alloc, limits, *certs, crew, source, sink)
+            let mut judge = VerdictsJudge {
+                limits: *limits,
+                crew,
+            };
+            let form = Form {
+                style: Style::Blocks { certs: *certs },
+                subject: Subject::Positions,
+            };
+            report_lines(alloc, form, &mut judge, source, sink)
         }
-        Order::CheckCert => unreachable!(),
-        Order::ListMates { .. } => unreachable!(),
         Order::GenGames {
             limits,
             seed,
             count,
-        } => adjudicate_generated(alloc, limits, *seed, *count, crew, sink),
+        } => {
+            let mut judge = VerdictsJudge {
+                limits: *limits,
+                crew,
+            };
+            report_made(alloc, *seed, *count, &mut judge, sink)
+        }
+        Order::CheckCert => unreachable!(),
+        Order::ListMates { .. } => unreachable!(),
     }
 }
 
 /// Reads a source to its end, and writes what an order asks for that needs no search for verdicts: the answer on a certificate,
 /// or the shortest mates of each line.
-pub fn carry_out_plain<P: Spread, C: Checker, S: Source, K: Sink>(
+pub fn carry_out_plain<P: Spread + Drop, C: Checker, S: Source, K: Sink>(
     alloc: Global,
     order: &Order,
-    spread: &P,
+    spread: P,
     checker: &C,
     source: &mut S,
     sink: &mut K,
 ) -> Status
-    requires ready { P.ready spread.now }
+    requires ready { P.ready spread }
     requires checks { C.ready checker.now }
     requires no_search { limits_in order.now ≡ None }
     requires bounded { (side : Side) (workers depth : ℕ) → order.now ≡ ListMates side workers depth → ((1 ≤ workers) × (workers ≤ 16)) × ((1 ≤ depth) × (depth ≤ 6)) }
@@ -72,7 +91,19 @@ pub fn carry_out_plain<P: Spread, C: Checker, S: Source, K: Sink>(
             side,
             workers,
             depth,
-        } => list_mates(alloc, *side, *workers, *depth, spread, source, sink),
+        } => {
+            let mut judge = MatesJudge {
+                side: *side,
+                depth: *depth,
+                workers: *workers,
+                spread,
+            };
+            let form = Form {
+                style: Style::Blocks { certs: false },
+                subject: Subject::Mates,
+            };
+            report_lines(alloc, form, &mut judge, source, sink)
+        }
         Order::AdjudicateGames { .. } => unreachable!(),
         Order::JudgePositions { .. } => unreachable!(),
         Order::GenGames { .. } => unreachable!(),

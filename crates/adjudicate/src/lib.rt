@@ -1,21 +1,19 @@
 //! The one call that reads an input, judges its items and writes the report.
 //!
-//! `endings` has how a run ends, `splitting` the lines of a text, `judging` and `playing` what is found about one line and one
-//! game, `writing` how its block goes out, `positions` and `games` whole inputs, `generated` games that are made of numbers, `mates` positions whose shortest mates are listed,
-//! `checking` the check of a certificate, `commands` what each order does, `top` the call `run`, and `alone` the same call
-//! without a runtime.
+//! `endings` has how a run ends, `splitting` the lines of a text, `lines` and `readers` the items of an input, one at a time,
+//! `writing` how what is printed goes out, `reports` the one loop over items, `jobs` where the items of each job come from,
+//! `checking` the check of a certificate, `commands` what each order does, `top` the call `run`, and `alone` the same call without a
+//! runtime.
 #![tactic(auto)]
 
 mod alone;
 mod checking;
 mod commands;
 mod endings;
-mod games;
-mod generated;
-mod judging;
-mod mates;
-mod playing;
-mod positions;
+mod jobs;
+mod lines;
+mod readers;
+mod reports;
 mod splitting;
 mod top;
 mod writing;

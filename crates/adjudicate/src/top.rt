@@ -68,7 +68,7 @@ pub fn run<R: Threads + Wait + Sync, S: Source, K: Sink>(
             None => carry_out_plain(
                 alloc,
                 &order,
-                &InThreads::new(rt),
+                InThreads::new(rt),
                 &SeveralThreads::new(rt),
                 source,
                 sink,
@@ -98,6 +98,6 @@ fn by_threads<R: Threads + Wait + Sync, S: Source, K: Sink>(
     let Ok(mut workers) = crew(alloc, &table, &mut pass, limits.workers()) else {
         return Status::NoMemory;
     };
-    let mut many = Many::new(rt, &table, &mut workers);
-    carry_out(alloc, order, &mut many, source, sink)
+    let many = Many::new(rt, &table, &mut workers);
+    carry_out(alloc, order, many, source, sink)
 }

@@ -8,7 +8,7 @@ use Rattle.cha_words.specs.declared.orders.Order.TheVariants.{CheckCert}
 use Rattle.cha_words.specs.Language.{order, order_of, order_by, command_named}
 use Rattle.adjudicate.specs.declared.endings.Status.{Status}
 use Rattle.adjudicate.specs.declared.endings.Status.TheVariants.{Done, Usage, ReadFault, WriteFault, TooLong, NoMemory, NotAccepted}
-use Rattle.adjudicate.specs.CertFindings.{IsAccepted}
+use Rattle.adjudicate.specs.Report.{IsAccepted, demand}
 use Rattle.adjudicate.specs.Runs.{IsRun, Ended, outside, most_bytes}
 
 -- the word orders a check
@@ -29,8 +29,8 @@ module _ (words : List (String Global)) (text source left : List ℕ) (old new :
   run : IsRun CheckCert status (outside (Some source) 0 old faults) (outside (Some left) 0 new faults')
   run = subst (λ o. IfSome o (λ o. IsRun o status (outside (Some source) 0 old faults) (outside (Some left) 0 new faults'))) ordered ran
 
-  ended : (s : Status) → status ≡ s → Ended CheckCert s (outside (Some source) 0 old faults) (outside (Some left) 0 new faults')
-  ended s is = subst (λ s. Ended CheckCert s (outside (Some source) 0 old faults) (outside (Some left) 0 new faults')) is run.ended
+  ended : (s : Status) → status ≡ s → Ended (demand CheckCert) s (outside (Some source) 0 old faults) (outside (Some left) 0 new faults')
+  ended s is = subst (λ s. Ended (demand CheckCert) s (outside (Some source) 0 old faults) (outside (Some left) 0 new faults')) is run.ended
 
   pub accepted : status ≡ Done → IsAccepted CheckCert text
   accepted done = let e = ended Done done in subst (IsAccepted CheckCert) (taken_whole source left e.0 e.1 e.2 ∙ same) e.3

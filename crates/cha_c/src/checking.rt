@@ -1,7 +1,8 @@
 //! The check of a certificate, as a run.
 
 ghost use Rattle.std.specs.Prelude.{◌≡◌, ◌≢◌, ◌<◌, ◌⊎◌, [], ◌∷◌, length, map, codes, string_bytes, IfOk};
-ghost use Rattle.adjudicate.specs.CertFindings.{IsAccepted, IsTextOf, IsUnwinnableAtFirst};
+ghost use Rattle.adjudicate.specs.CertFindings.{IsTextOf, IsUnwinnableAtFirst};
+ghost use Rattle.adjudicate.specs.Report.{IsAccepted};
 ghost use Rattle.adjudicate.specs.Runs.{most_bytes};
 ghost use Rattle.cha_words.specs.declared.orders.Order.TheVariants.{CheckCert};
 

@@ -1,96 +1,29 @@
--- The texts that are printed for positions (this project).
-use Rattle.std.specs.Prelude.{ℕ, Bool, true, false, ◌||◌, if◌then◌else◌, List, [], ◌∷◌, ◌++◌, length, codes, decimal}
-use Rattle.cha_board.specs.declared.men.Color.{Color}
-use Rattle.cha_board.specs.declared.men.Color.TheVariants.{White, Black}
-use Rattle.cha_board.specs.Board.{Board}
-use Rattle.cha_fen.specs.declared.faults.FenFault.{FenFault}
-use Rattle.cha_fen.specs.Written.{fen_text}
-use Rattle.cha_moves.specs.Step.{Move}
-use Rattle.cha_moves.specs.Texts.{move_bytes}
-use Rattle.cha_moves.specs.declared.ends.Standing.{Standing}
-use Rattle.cha_moves.specs.declared.ends.Standing.TheVariants.{Mate, Stalemate, Running}
-use Rattle.cha_cert.specs.Shared.{shared_of}
-use Rattle.cert_text.specs.SharedSpelled.{shared_text}
-use Rattle.cha_verdict.specs.declared.verdicts.Verdict.{Verdict}
-use Rattle.cha_verdict.specs.declared.verdicts.Verdict.TheVariants.{Winnable, Unwinnable, Undecided, Skipped}
-use Rattle.cha_verdict.specs.Verdicts.{is_winnable, are_dead}
-use Rattle.flag_report.specs.declared.status.PositionStatus.{PositionStatus}
-use Rattle.flag_report.specs.declared.status.PositionStatus.TheVariants.{Checkmate, Stalemate as Stalemated, Dead, Live, Unclear}
-use Rattle.flag_report.specs.Reasons.{fen_fault_text}
+-- The block of an outcome (this project).
+use Rattle.std.specs.Prelude.{ℕ, Bool, List, ◌++◌, codes}
+use Rattle.cha_outcome.specs.declared.outcomes.Outcome.{Outcome}
+use Rattle.cha_outcome.specs.declared.outcomes.Outcome.TheVariants.{JudgedPosition, JudgedGame, ListedMates, RefusedLine, UnreadableGame}
+use Rattle.flag_report.specs.Reasons.{fen_fault_text, reason_text}
+use Rattle.flag_report.specs.Findings.{line, count_text, fen_line, findings_text}
+use Rattle.flag_report.specs.Scans.{scan_part}
+use Rattle.flag_report.specs.Games.{result_line}
+use Rattle.flag_report.specs.Mates.{mates_text}
 
--- a line
-abbrev pub line : List ℕ → List ℕ
-line text = text ++ 10 ∷ []
+-- the word in front of the number: a line is a position, and all else a game
+unfoldable pub label : Outcome → List ℕ
+label (JudgedPosition q d status) = codes "position "
+label (JudgedGame game d scan status judgment) = codes "game "
+label (ListedMates q depth found) = codes "position "
+label (RefusedLine fault) = codes "position "
+label (UnreadableGame why) = codes "game "
 
--- a count behind its label
-abbrev pub count_text : List ℕ → ℕ → List ℕ
-count_text label count = label ++ decimal count
+-- the lines behind the first, with or without certificates
+unfoldable pub body : Bool → Outcome → List ℕ
+body certs (JudgedPosition q d status) = findings_text q d status certs
+body certs (JudgedGame game d scan status judgment) = findings_text game.last d status certs ++ scan_part scan certs ++ result_line game.recorded judgment
+body certs (ListedMates q depth found) = fen_line q ++ mates_text depth found
+body certs (RefusedLine fault) = line (codes "refused: " ++ fen_fault_text fault)
+body certs (UnreadableGame why) = line (codes "unreadable: " ++ reason_text why)
 
--- the texts of moves, each behind a space
-unfoldable pub moves_text : List Move → List ℕ
-moves_text [] = []
-moves_text (m ∷ ms) = 32 ∷ move_bytes m ++ moves_text ms
-
--- the text of a line of moves that mates
-unfoldable pub winnable_text : List Move → List ℕ
-winnable_text [] = codes "winnable in 0"
-winnable_text (m ∷ ms) = codes "winnable in " ++ decimal (length (m ∷ ms)) ++ codes ":" ++ moves_text (m ∷ ms)
-
--- the text of a search that spent its budget: the positions expanded, and the plies within which there is no mate
-unfoldable pub undecided_text : ℕ → ℕ → List ℕ
-undecided_text units depth = count_text (codes "undecided after ") units ++ count_text (codes " positions, depth ") depth
-
--- the text of a verdict
-unfoldable pub verdict_text : Verdict → List ℕ
-verdict_text (Winnable moves) = winnable_text moves
-verdict_text (Unwinnable cert) = codes "unwinnable"
-verdict_text (Undecided units depth) = undecided_text units depth
-verdict_text Skipped = codes "skipped"
-
--- the certificate of a side that cannot mate, its equal sets written once, where certificates are printed
-unfoldable pub cert_part : Bool → Color → Verdict → List ℕ
-cert_part certs winner (Winnable moves) = []
-cert_part certs winner (Unwinnable cert) = if certs then shared_text winner (shared_of cert) else []
-cert_part certs winner (Undecided units depth) = []
-cert_part certs winner Skipped = []
-
--- the line with the verdict on a side behind its label, and the certificate behind the line
-abbrev pub side_text : List ℕ → Color → Verdict → Bool → List ℕ
-side_text label winner verdict certs = line (label ++ verdict_text verdict) ++ cert_part certs winner verdict
-
--- the status of a position: the first that fits of checkmate, stalemate, dead, live and unclear
-unfoldable pub status_of : Standing → Verdict → Verdict → PositionStatus
-status_of (Mate winner) white black = Checkmate
-status_of Stalemate white black = Stalemated
-status_of Running white black = if are_dead white black then Dead else (if is_winnable white || is_winnable black then Live else Unclear)
-
--- its word
-unfoldable pub status_text : PositionStatus → List ℕ
-status_text Checkmate = codes "checkmate"
-status_text Stalemated = codes "stalemate"
-status_text Dead = codes "dead"
-status_text Live = codes "live"
-status_text Unclear = codes "unclear"
-
--- neither mate nor stalemate, and neither side can mate
-unfoldable pub is_dead : PositionStatus → Bool
-is_dead Dead = true
-is_dead _ = false
-
--- the four lines on a position that positions and games share, with the certificates of the sides between them
-unfoldable pub findings_text : Board → Standing → Verdict → Verdict → Bool → List ℕ
-findings_text q standing white black certs =
-    line (codes "fen: " ++ fen_text q) ++ side_text (codes "white: ") White white certs ++ side_text (codes "black: ") Black black certs
-    ++ line (codes "status: " ++ status_text (status_of standing white black))
-
--- the first line of the block of a position
-abbrev pub position_heading : ℕ → List ℕ
-position_heading number = line (count_text (codes "position ") number)
-
--- the block of a position
-unfoldable pub position_text : ℕ → Board → Standing → Verdict → Verdict → Bool → List ℕ
-position_text number q standing white black certs = position_heading number ++ findings_text q standing white black certs
-
--- the block of a line that is no position
-unfoldable pub refused_text : ℕ → FenFault → List ℕ
-refused_text number fault = position_heading number ++ line (codes "refused: " ++ fen_fault_text fault)
+-- the block of an outcome under a number
+abbrev pub block_text : Bool → ℕ → Outcome → List ℕ
+block_text certs number o = line (count_text (label o) number) ++ body certs o

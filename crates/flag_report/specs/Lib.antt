@@ -1,8 +1,9 @@
-pub mod Rulings
 pub mod Reasons
-pub mod Blocks
+pub mod Findings
 pub mod Scans
 pub mod Games
-pub mod CertReports
-pub mod Totals
 pub mod Mates
+pub mod Blocks
+pub mod Totals
+pub mod Styles
+pub mod CertReports

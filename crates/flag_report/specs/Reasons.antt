@@ -1,13 +1,13 @@
 -- Why a line is no position, or a game cannot be read, in words (this project).
-use Rattle.std.specs.Prelude.{◌≡◌, ℕ, List, [], ◌++◌, codes, decimal, ⊤}
+use Rattle.std.specs.Prelude.{ℕ, List, [], ◌++◌, codes, decimal}
 use Rattle.cha_fen.specs.declared.faults.FenFault.{FenFault}
 use Rattle.cha_fen.specs.declared.faults.FenFault.TheVariants.{Shape, Kings, PawnRank, OpponentInCheck}
 use Rattle.pgn_games.specs.declared.faults.GameFault.{GameFault}
 use Rattle.pgn_games.specs.declared.faults.GameFault.TheVariants.{BadToken, Unclosed, ValueTooLong, Variant, BadStart, TooManyPlies}
 use Rattle.cha_san.specs.declared.faults.SanFault.{SanFault}
 use Rattle.cha_san.specs.declared.faults.SanFault.TheVariants.{NotSan, NoSuchMove, Ambiguous, NoMemory}
-use Rattle.flag_report.specs.declared.reasons.Unreadable.{Unreadable}
-use Rattle.flag_report.specs.declared.reasons.Unreadable.TheVariants.{Tokens, Moves}
+use Rattle.cha_outcome.specs.declared.unreadable.Unreadable.{Unreadable}
+use Rattle.cha_outcome.specs.declared.unreadable.Unreadable.TheVariants.{Tokens, Moves}
 
 -- the name of a fault of FEN
 unfoldable pub fen_fault_text : FenFault → List ℕ
@@ -31,15 +31,6 @@ word_fault_text NotSan = codes "not SAN"
 word_fault_text NoSuchMove = codes "no such move"
 word_fault_text Ambiguous = codes "ambiguous"
 word_fault_text NoMemory = []
-
--- a fault of a word that is not want of memory
-abbrev pub IsNotWantOfMemory : SanFault → Type 0
-IsNotWantOfMemory fault = fault ≡ NoMemory → ⊥
-
--- why a game cannot be read: want of memory is no reason
-abbrev pub IsReason : Unreadable → Type 0
-IsReason (Tokens fault) = ⊤
-IsReason (Moves ply word fault) = IsNotWantOfMemory fault
 
 -- why a game cannot be read
 unfoldable pub reason_text : Unreadable → List ℕ

@@ -1,13 +1,12 @@
 -- The text that says from where on a game was dead (this project).
-use Rattle.std.specs.Prelude.{◌≡◌, ℕ, ◌-◌, ◌≤◌, Bool, List, [], ◌++◌, Option, Some, None, codes}
+use Rattle.std.specs.Prelude.{ℕ, ◌-◌, Bool, List, [], ◌++◌, Option, Some, None, codes}
 use Rattle.cha_board.specs.declared.men.Color.TheVariants.{White, Black}
 use Rattle.cha_verdict.specs.declared.verdicts.Verdict.TheVariants.{Unwinnable}
 use Rattle.cha_verdict.specs.declared.scans.Edge.{Edge}
 use Rattle.cha_verdict.specs.declared.scans.Edge.TheVariants.{Start, Live, Unclear}
 use Rattle.cha_verdict.specs.declared.scans.EarlierCerts.{EarlierCerts}
 use Rattle.cha_verdict.specs.declared.scans.Scan.{Scan}
-use Rattle.cha_verdict.specs.Scans.{IsPrintableScan}
-use Rattle.flag_report.specs.Blocks.{line, count_text, cert_part}
+use Rattle.flag_report.specs.Findings.{line, count_text, cert_part}
 
 -- where nothing was shown about the ply before, that it may have been earlier
 unfoldable pub edge_text : Edge → ℕ → List ℕ
@@ -28,8 +27,3 @@ scan_text scan certs = line (count_text (codes "dead from: ply ") scan.ply ++ ed
 unfoldable pub scan_part : Option Scan → Bool → List ℕ
 scan_part None certs = []
 scan_part (Some scan) certs = scan_text scan certs
-
--- the text of a scan can be written: its certificates can, and the ply before it has a number
-pub record CanBeTold (scan : Scan) : Type 0 where
-  pub printable : IsPrintableScan scan.earlier
-  pub before : scan.edge ≡ Unclear → 1 ≤ scan.ply

@@ -4,7 +4,7 @@ ghost use Rattle.std.specs.Prelude.{◌≡◌, ◌≢◌, ◌++◌, OnOk, IfOk};
 ghost use Rattle.cert_text.specs.declared.faults.CertKind.TheVariants as kinds;
 ghost use Rattle.flag_report.specs.CertReports.{accepted_text, kind_text, misfit_text, failing_text};
 
-use crate::shared_texts::{put_count, put_count_line};
+use crate::findings::{put_count, put_count_line};
 use cert_text::{CertFault, CertKind};
 use cha_board::Color;
 use cha_list::{NoMemory, Text};

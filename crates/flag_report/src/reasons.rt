@@ -1,30 +1,15 @@
 //! Why a line is no position, or a game cannot be read, in words.
 
 ghost use Rattle.std.specs.Prelude.{◌≡◌, ◌++◌, OnOk, codes, decimal};
-ghost use Rattle.flag_report.specs.Reasons.{fen_fault_text, game_fault_text, word_fault_text, reason_text, IsNotWantOfMemory, IsReason};
+ghost use Rattle.flag_report.specs.Reasons.{fen_fault_text, game_fault_text, word_fault_text, reason_text};
 
-use crate::shared_texts::put_count;
+use crate::findings::put_count;
 use cha_fen::FenFault;
 use cha_list::{NoMemory, Text};
+use cha_outcome::Unreadable;
 use cha_san::SanFault;
 use pgn_games::GameFault;
 use std::alloc::Global;
-
-/// Why a game cannot be read.
-#[derive(Drop)]
-pub enum Unreadable {
-    /// Its text is no game.
-    Tokens(GameFault),
-    /// A word names no move.
-    Moves {
-        /// The number of the word in the game, from 1.
-        ply: u32,
-        /// The word.
-        word: Text,
-        /// What is wrong with the word.
-        fault: SanFault,
-    },
-}
 
 /// Appends the name of a fault of FEN.
 #[tactic(auto, unfolding(crate::specs::Reasons::fen_fault_text))]
@@ -66,14 +51,14 @@ fn put_game_fault(alloc: Global, fault: GameFault, text: &mut Text) -> Result<()
 /// Appends the name of a fault of a move word.
 #[tactic(auto, unfolding(crate::specs::Reasons::word_fault_text))]
 fn put_word_fault(fault: SanFault, text: &mut Text) -> Result<(), NoMemory>
-    requires { IsNotWantOfMemory fault }
     ensures { OnOk result (text.new ≡ text.old ++ word_fault_text fault) }
 {
     match fault {
         SanFault::NotSan => text.append(b"not SAN"),
         SanFault::NoSuchMove => text.append(b"no such move"),
         SanFault::Ambiguous => text.append(b"ambiguous"),
-        SanFault::NoMemory => unreachable!(),
+        // Want of memory says nothing of a word.
+        SanFault::NoMemory => Ok(()),
     }
 }
 
@@ -93,7 +78,6 @@ fn put_word(
     fault: SanFault,
     text: &mut Text,
 ) -> Result<(), NoMemory>
-    requires { IsNotWantOfMemory fault }
     ensures { OnOk result (text.new ≡ text.old ++ (codes "move " ++ decimal ply ++ codes " " ++ word.now ++ codes ": " ++ word_fault_text fault)) }
 {
     put_ply(alloc, ply, text)?;
@@ -107,7 +91,6 @@ fn put_word(
 /// Appends why a game cannot be read.
 #[tactic(auto, unfolding(crate::specs::Reasons::reason_text))]
 pub fn put_reason(alloc: Global, why: &Unreadable, text: &mut Text) -> Result<(), NoMemory>
-    requires { IsReason why.now }
     ensures { OnOk result (text.new ≡ text.old ++ reason_text why.now) }
 {
     match why {

@@ -1,0 +1,114 @@
+-- Games that are given.
+use Rattle.std.proofs.Common.{◌≡◌, ℕ, zero, suc, ◌+◌, ◌*◌, ◌<◌, ◌≤◌, ◌⊎◌, Bool, true, false, if◌then◌else◌, List, [], ◌∷◌, length, map, take, drop, Option, Some, None, Result, Err, nat_lt, slice_get, refl, sym, ap, ◌∙◌, arith, length-append, length-drop, length-take, codes, not, min, inl, inr, subst}
+use Rattle.std.specs.List.{list_any}
+use Rattle.std.specs.Option.{option_map, option_or}
+use Rattle.std.proofs.lemmas.Bool.Decides.{nat_tests}
+use Rattle.std.proofs.lemmas.List.{length-map, take-map}
+use Rattle.cha_list.specs.declared.classes.Class.TheVariants.{InLine}
+use Rattle.cha_list.specs.Bytes.{in_class}
+use Rattle.pgn_lex.specs.declared.kinds.Placed.{Placed}
+use Rattle.pgn_lex.specs.Tokens.{piece, placed, tokens_after, has_mark, tokens}
+use Rattle.pgn_lex.proofs.Fed.{placed_one}
+use Rattle.pgn_games.specs.declared.faults.GameFault.{GameFault}
+use Rattle.pgn_games.specs.declared.faults.GameFault.TheVariants.{BadToken, Unclosed, ValueTooLong, Variant, TooManyPlies}
+use Rattle.pgn_games.specs.declared.played.Game.{Game}
+use Rattle.pgn_games.specs.declared.token_turns.Place.{Place}
+use Rattle.pgn_games.specs.declared.token_turns.Place.TheVariants.{Before, Tags, Moves}
+use Rattle.pgn_games.specs.declared.token_turns.Turn.{Turn}
+use Rattle.pgn_games.specs.declared.token_turns.Turn.TheVariants.{Stays, Ends, Begins}
+use Rattle.pgn_games.specs.Cutting.{cut, turn, place_after, onto, put}
+use Rattle.pgn_games.specs.Fields.{move_words, first_bad, is_cut, passes, says_chess, tag_value}
+use Rattle.cha_outcome.specs.Items.{game_item}
+use Rattle.pgn_games.specs.Games.{games, game_of, fault_of, fault_if, is_open, start_fault}
+
+-- a game without a fault has few words
+faultless : (a b c d e : Option GameFault) (many : Bool) → option_or a (option_or b (option_or c (option_or d (option_or e (fault_if many TooManyPlies))))) ≡ None → many ≡ false
+faultless (Some x) b c d e many h = cc
+faultless None (Some x) c d e many h = cc
+faultless None None (Some x) d e many h = cc
+faultless None None None (Some x) e many h = cc
+faultless None None None None (Some x) many h = cc
+faultless None None None None None true h = cc
+faultless None None None None None false h = refl
+
+not_many : (n : ℕ) → nat_lt 12000 n ≡ false → n ≤ 12000
+not_many n h = grind (arith, nat_tests)
+
+few_of_slice : (slice : List Placed) → (game_of slice).fault ≡ None → length (game_of slice).words ≤ 12000
+unfolding game_of fault_of
+few_of_slice slice none =
+    let few : nat_lt 12000 (length (move_words slice)) ≡ false =
+    faultless (option_map BadToken (first_bad slice)) (fault_if (is_open slice) Unclosed) (fault_if (list_any (λ t. is_cut t.token) slice) ValueTooLong)
+    (fault_if (passes (λ value. not (says_chess value)) (tag_value (codes "Variant") slice)) Variant) (start_fault (tag_value (codes "FEN") slice)) (nat_lt 12000 (length (move_words slice))) none in
+    let bound : length (move_words slice) ≤ 12000 = not_many _ few in
+    let kept : length (game_of slice).words ≡ min 12001 (length (move_words slice)) = length-take 12001 (move_words slice) in
+    omega arith
+
+few_at : (slices : List (List Placed)) (n : ℕ) (game : Game) → slice_get (map game_of slices) n ≡ Some game → game.fault ≡ None → length game.words ≤ 12000
+few_at [] n game e none = cc
+few_at (slice ∷ slices) zero game e none =
+    let same : game_of slice ≡ game = cc in
+    subst (λ g. length g.words ≤ 12000) same (few_of_slice slice (ap (λ g. g.fault) same ∙ none))
+few_at (slice ∷ slices) (suc n) game e none = few_at slices n game e none
+
+pub few_words : (bytes : List ℕ) (n : ℕ) (game : Game) → slice_get (games bytes) n ≡ Some game → game.fault ≡ None → length game.words ≤ 12000
+unfolding games
+few_words bytes n game e none = few_at (cut Before (tokens bytes)) n game e none
+
+-- a text has at most as many tokens as bytes, and at most one game more than tokens
+tokens_after_few : (pass at : ℕ) (first : Bool) (bs : List ℕ) → length (tokens_after pass at first bs) ≤ length bs
+unfolding tokens_after
+tokens_after_few pass at first [] = omega arith
+tokens_after_few (suc pass) at first (b ∷ bs) = omega (arith, tokens_after_few pass (at + 1) (not (in_class InLine b)) bs)
+tokens_after_few zero at first (b ∷ bs) =
+    let p = piece first b bs in
+    omega (arith, length-append (placed at p.token) (tokens_after p.more (at + 1) (not (in_class InLine b)) bs), placed_one at p.token, tokens_after_few p.more (at + 1) (not (in_class InLine b)) bs)
+
+tokens_few_if : (v : Bool) (bytes : List ℕ) → length (if v then tokens_after 0 3 true (drop 3 bytes) else tokens_after 0 0 true bytes) ≤ length bytes
+tokens_few_if true bytes = omega (arith, tokens_after_few 0 3 true (drop 3 bytes), length-drop 3 bytes)
+tokens_few_if false bytes = tokens_after_few 0 0 true bytes
+
+tokens_few : (bytes : List ℕ) → length (tokens bytes) ≤ length bytes
+unfolding tokens
+tokens_few bytes = tokens_few_if (has_mark bytes) bytes
+
+onto_few : (t : Placed) (gs : List (List Placed)) → length (onto t gs) ≤ length gs + 1
+onto_few t [] = omega arith
+onto_few t (g ∷ gs) = omega arith
+
+put_few : (now : Turn) (t : Placed) (gs : List (List Placed)) → length (put now t gs) ≤ length gs + 2
+put_few (Stays place) t gs = omega (arith, onto_few t gs)
+put_few Ends t gs = omega arith
+put_few Begins t gs = omega (arith, onto_few t gs)
+
+cut_few : (place : Place) (ts : List Placed) → length (cut place ts) ≤ 2 * length ts + 1
+unfolding cut
+cut_few Before [] = omega arith
+cut_few Tags [] = omega arith
+cut_few (Moves depth) [] = omega arith
+cut_few Before (t ∷ ts) = let now = turn Before t.token in omega (arith, put_few now t (cut (place_after now) ts), cut_few (place_after now) ts)
+cut_few Tags (t ∷ ts) = let now = turn Tags t.token in omega (arith, put_few now t (cut (place_after now) ts), cut_few (place_after now) ts)
+cut_few (Moves depth) (t ∷ ts) = let now = turn (Moves depth) t.token in omega (arith, put_few now t (cut (place_after now) ts), cut_few (place_after now) ts)
+
+games_few : (bytes : List ℕ) → length (games bytes) ≤ 2 * length bytes + 1
+unfolding games
+games_few bytes = omega (arith, length-map (cut Before (tokens bytes)) game_of, cut_few Before (tokens bytes), tokens_few bytes)
+
+-- a game that was given is one of the games
+pub given_few : (bytes : List ℕ) (n : ℕ) (game : Game) → slice_get (games bytes) n ≡ Some game → n < 2 * length bytes + 1
+given_few bytes n game e = omega (arith, there (games bytes) n game e, games_few bytes)
+  where
+    there : (gs : List Game) (n : ℕ) (game : Game) → slice_get gs n ≡ Some game → n < length gs
+    there [] n game e = cc
+    there (g ∷ gs) zero game e = omega arith
+    there (g ∷ gs) (suc n) game e = omega (arith, there gs n game e)
+
+-- the item of the game at a place
+pub item_at : (gs : List Game) (n : ℕ) (game : Game) → slice_get gs n ≡ Some game → slice_get (map game_item gs) n ≡ Some (game_item game)
+item_at [] n game e = cc
+item_at (g ∷ gs) zero game e = let same : g ≡ game = cc in ap (λ x. Some (game_item x)) same
+item_at (g ∷ gs) (suc n) game e = item_at gs n game e
+
+-- the first items are those of the first games
+pub items_first : (n : ℕ) (now before : List ℕ) → take n (games now) ≡ take n (games before) → take n (map game_item (games now)) ≡ take n (map game_item (games before))
+items_first n now before same = take-map game_item n (games now) ∙ ap (map game_item) same ∙ sym (take-map game_item n (games before))

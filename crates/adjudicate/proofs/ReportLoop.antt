@@ -1,0 +1,169 @@
+-- The one loop over items: what was judged and written so far, and how a run ends.
+use Rattle.std.proofs.Common.{◌≡◌, ◌≢◌, ◌↔◌, ◌⊎◌, inl, inr, ℕ, zero, suc, ◌+◌, ◌^◌, ◌<◌, ◌≤◌, Bool, true, List, [], ◌∷◌, ◌++◌, length, map, take, drop, Option, Some, slice_get, refl, sym, ap, ◌∙◌, arith, subst, take-append-drop, append_assoc}
+use Rattle.std.specs.Io.KnownBytes.{Appends, Consumes, IsAtEnd}
+use Rattle.std.proofs.lemmas.List.{length-map, drop_all}
+use Rattle.std.proofs.Math.Seq.{take-append_seam}
+use Rattle.std.proofs.KnownBytes.{Consumes-trans}
+use Rattle.cha_outside.proofs.Gathered.{gathered_front}
+use Rattle.cha_outside.specs.Faults.{Rose}
+use Rattle.cha_outside.specs.Gathering.{Gathers}
+use Rattle.cha_outside.specs.declared.gathering.ReadEnd.{ReadEnd}
+use Rattle.cha_outside.specs.declared.gathering.ReadEnd.TheVariants as ends
+use Rattle.cha_outcome.specs.declared.items.Item.{Item}
+use Rattle.cha_outcome.specs.declared.outcomes.Outcome.{Outcome}
+use Rattle.cha_outcome.specs.declared.questions.Question.{Question}
+use Rattle.cha_outcome.specs.declared.totals.Totals.{Totals}
+use Rattle.cha_outcome.specs.Outcomes.{item_of, Answers}
+use Rattle.cha_outcome.specs.Totals.{totals_of, counted, HasRoom}
+use Rattle.flag_report.specs.Styles.{block, summary}
+use Rattle.adjudicate.specs.declared.endings.Status.{Status}
+use Rattle.adjudicate.specs.declared.endings.Status.TheVariants.{Done, ReadFault, WriteFault, TooLong, NoMemory}
+use Rattle.adjudicate.specs.declared.reports.Form.{Form}
+use Rattle.adjudicate.specs.Statuses.{status_of_end}
+use Rattle.adjudicate.specs.Jobs.{Job}
+use Rattle.adjudicate.specs.Report.{Demand, demand_by, HasBlocks}
+use Rattle.adjudicate.specs.Runs.{Grew, outside, BeginsWhole, IsRunOf}
+use Rattle.adjudicate.specs.Readers.{items_by, settled_by, IsAskedOf, job_on}
+use Rattle.adjudicate.proofs.RunEndings.{short_run, long_run}
+use Rattle.adjudicate.proofs.Progress.{WroteUpTo, nothing_written, one_more, cut_block, whole_blocks, finished, cut_summary, room}
+
+-- So many items of the bytes taken were judged, and what is printed of them was written; these are the totals.
+pub record IsAt (j : Job) (old now : Option (List ℕ)) (taken : List ℕ) (given : ℕ) (s : Totals) : Type 0 where
+  pub written : WroteUpTo j (j.items taken) (drop given (j.items taken)) old now s
+  pub number : s.items ≡ given
+
+-- the item at a place, and those behind it
+next_is : (items : List Item) (n : ℕ) (item : Item) → slice_get items n ≡ Some item → drop n items ≡ item ∷ drop (n + 1) items
+next_is [] n item e = cc
+next_is (first ∷ items) zero item e = let same : first ≡ item = cc in ap (λ x. x ∷ items) same
+next_is (first ∷ items) (suc n) item e = let more : suc n + 1 ≡ suc (n + 1) = omega arith in rw more (next_is items n item e)
+
+-- more bytes may be taken
+pub retook : (j : Job) (old now : Option (List ℕ)) (taken taken' : List ℕ) (given : ℕ) (s : Totals) → IsAt j old now taken given s → take given (j.items taken') ≡ take given (j.items taken) → IsAt j old now taken' given s
+retook j old now taken taken' given s at same =
+    let w = at.written in
+    let done = w.0 in
+    let all = j.items taken in
+    let all' = j.items taken' in
+    let size : length done ≡ given = sym (ap length w.2.1) ∙ length-map w.2.0 item_of ∙ sym (ap (λ t. t.items) w.2.4) ∙ at.number in
+    let front : take given all ≡ done = ap (take given) w.1 ∙ ap (λ n. take n (done ++ drop given all)) (sym size) ∙ take-append_seam done (drop given all) in
+    record {
+      written = (done, sym (take-append-drop given all') ∙ ap (λ x. x ++ drop given all') (same ∙ front), w.2);
+      number = at.number;
+    }
+
+pub at_first : (j : Job) (old : Option (List ℕ)) (taken : List ℕ) (given : ℕ) (s : Totals) → given ≡ 0 → s ≡ totals_of [] → IsAt j old old taken given s
+at_first j old taken given s none e = record {
+  written = subst (λ n. WroteUpTo j (j.items taken) (drop n (j.items taken)) old old s) (sym none) (subst (λ t. WroteUpTo j (j.items taken) (j.items taken) old old t) (sym e) (nothing_written j (j.items taken) old));
+  number = ap (λ t. t.items) e ∙ sym none;
+}
+
+-- the next item is judged, and what is printed of its outcome is written
+pub gave : (j : Job) (old now next : Option (List ℕ)) (taken : List ℕ) (given given' : ℕ) (s : Totals) (item : Item) (o : Outcome) (text : List ℕ) → IsAt j old now taken given s → slice_get (j.items taken) given ≡ Some item
+    → Answers j.question item o → text ≡ block j.style (s.items + 1) o → Appends now next text → given' ≡ given + 1 → IsAt j old next taken given' (counted s o)
+gave j old now next taken given given' s item o text at found answers text_is added e = record {
+  written = subst (λ n. WroteUpTo j (j.items taken) (drop n (j.items taken)) old next (counted s o)) (sym e)
+      (one_more j (j.items taken) (drop given (j.items taken)) (drop (given + 1) (j.items taken)) item o old now next s text at.written (next_is (j.items taken) given item found) answers text_is added);
+  number = ap (λ n. n + 1) at.number ∙ sym e;
+}
+
+pub room_at : (j : Job) (old now : Option (List ℕ)) (taken : List ℕ) (given : ℕ) (s : Totals) → IsAt j old now taken given s → given < 2 ^ 62 → HasRoom s
+room_at j old now taken given s at few = room j (j.items taken) (drop given (j.items taken)) old now s at.written (omega (arith, at.number, few))
+
+-- what is said of items of one kind, where the kinds are the same
+pub same_first : (k k' : Bool) (n : ℕ) (x y : List ℕ) → k' ≡ k → take n (items_by k' x) ≡ take n (items_by k' y) → take n (items_by k x) ≡ take n (items_by k y)
+same_first k k' n x y e h = subst (λ b. take n (items_by b x) ≡ take n (items_by b y)) e h
+
+pub same_item : (k k' : Bool) (x : List ℕ) (n : ℕ) (item : Item) → k' ≡ k → slice_get (items_by k' x) n ≡ Some item → slice_get (items_by k x) n ≡ Some item
+same_item k k' x n item e h = subst (λ b. slice_get (items_by b x) n ≡ Some item) e h
+
+pub same_settled : (k k' : Bool) (x : List ℕ) (n : ℕ) → k' ≡ k → settled_by k' x ≤ n → settled_by k x ≤ n
+same_settled k k' x n e h = subst (λ b. settled_by b x ≤ n) e h
+
+pub same_count : (k k' : Bool) (x : List ℕ) (n : ℕ) → k' ≡ k → length (items_by k' x) ≤ n → length (items_by k x) ≤ n
+same_count k k' x n e h = subst (λ b. length (items_by b x) ≤ n) e h
+
+pub still_asked : (k k' : Bool) (question question' : Question) → k' ≡ k → question' ≡ question → IsAskedOf k question → IsAskedOf k' question'
+still_asked k k' question question' e same h = subst (λ b. IsAskedOf b question') (sym e) (subst (λ q. IsAskedOf k q) (sym same) h)
+
+pub same_answers : (question question' : Question) (item : Item) (o : Outcome) → question' ≡ question → Answers question' item o → Answers question item o
+same_answers question question' item o same h = subst (λ q. Answers q item o) same h
+
+pub not_more : (n most : ℕ) → (most < n → ⊥) → n ≤ most
+not_more n most h = omega arith
+
+-- what was taken in all
+pub all_taken : (a b c : Option (List ℕ)) (taken taken' : List ℕ) → Consumes a b taken → Gathers b c taken taken' → Consumes a c taken'
+all_taken a b c taken taken' consumed more = subst (Consumes a c) (sym more.2) (Consumes-trans a b c taken more.0 consumed more.1)
+
+pub gathered : (a b c : Option (List ℕ)) (x y z : List ℕ) → Gathers a b x y → Gathers b c y z → Gathers a c x z
+gathered a b c x y z one two =
+    (one.0 ++ two.0, Consumes-trans a b c one.0 two.0 one.1 two.1, two.2 ∙ ap (λ t. t ++ two.0) one.2 ∙ append_assoc x one.0 two.0)
+
+abbrev pub of_job : Bool → Question → Form → Demand
+of_job k question form = demand_by (Some (job_on k question form))
+
+-- How a run ends, where so many items were judged: what was taken is no more than an input may have, but where it was too long.
+module _ (k : Bool) (question : Question) (form : Form) (old now : Option (List ℕ)) (g g' : ℕ) (taken : List ℕ) (given : ℕ) (s : Totals) (at : IsAt (job_on k question form) old now taken given s)
+    (left left' : Option (List ℕ)) (f f' : ℕ) (consumed : Consumes left left' taken) (source_later : f ≤ f') where
+  -- so far whole blocks were written
+  whole : (least : ℕ) → least ≤ given → Grew old now (HasBlocks (job_on k question form) least taken)
+  whole least due = whole_blocks (job_on k question form) taken (drop given (items_by k taken)) old now s least at.written (omega (arith, at.number, due))
+
+  none_left : length (items_by k taken) ≤ given → WroteUpTo (job_on k question form) (items_by k taken) [] old now s
+  none_left few = subst (λ x. WroteUpTo (job_on k question form) (items_by k taken) x old now s) (drop_all given (items_by k taken) few) at.written
+
+  -- it could not be read to its end
+  pub not_read : (end : ReadEnd) (status : Status) → status ≡ status_of_end end → g ≤ g' → (end ≡ ends.ReadFault → Rose f f') → (end ≡ ends.ReadFault → settled_by k taken ≤ given) → ((end ≡ ends.TooLong) ↔ (268435456 < length taken)) → length taken ≤ 268435456 + 4096
+      → IsRunOf (of_job k question form) status (outside left f old g) (outside left' f' now g')
+  not_read end status is later cause settled long few =
+      subst (λ x. IsRunOf (of_job k question form) x (outside left f old g) (outside left' f' now g')) (sym is) (by_end end refl)
+    where
+      by_end : (e : ReadEnd) → end ≡ e → IsRunOf (of_job k question form) (status_of_end e) (outside left f old g) (outside left' f' now g')
+      by_end ends.ReadFault e = short_run (of_job k question form) (outside left f old g) (outside left' f' now g') refl source_later later ReadFault (taken, consumed, whole (settled_by k taken) (settled e)) (λ _. cause e) (λ h. cc) (λ h. cc) (taken, consumed, not_more _ 268435456 (λ more. let t = sym e ∙ long.1 more in cc))
+      by_end ends.TooLong e =
+          long_run (of_job k question form) (outside left f old g) (outside left' f' now g') refl source_later later (taken, consumed, whole 0 (omega arith)) (taken, consumed, (long.0 e, few))
+          (λ bytes told small. let had = gathered_front left left' taken bytes consumed told in let more = long.0 e in omega (arith, had, more, small))
+      by_end ends.NoMemory e = short_run (of_job k question form) (outside left f old g) (outside left' f' now g') refl source_later later NoMemory (taken, consumed, whole 0 (omega arith)) (λ h. cc) (λ h. cc) (λ h. cc) (taken, consumed, not_more _ 268435456 (λ more. let t = sym e ∙ long.1 more in cc))
+
+  -- memory was refused
+  pub no_memory : g ≤ g' → length taken ≤ 268435456 → IsRunOf (of_job k question form) NoMemory (outside left f old g) (outside left' f' now g')
+  no_memory later few =
+      short_run (of_job k question form) (outside left f old g) (outside left' f' now g') refl source_later later NoMemory (taken, consumed, whole 0 (omega arith)) (λ h. cc) (λ h. cc) (λ h. cc) (taken, consumed, few)
+
+  -- the block of the next item was cut
+  pub cut_item : (next : Option (List ℕ)) (item : Item) (o : Outcome) (text : List ℕ) (n : ℕ) → g ≤ g' → Rose g g' → length taken ≤ 268435456
+      → slice_get (items_by k taken) given ≡ Some item → Answers question item o → text ≡ block form.style (s.items + 1) o → text ≢ [] → Appends now next (take n text)
+      → IsRunOf (of_job k question form) WriteFault (outside left f old g) (outside left' f' next g')
+  cut_item next item o text n later rose few found answers text_is some added =
+      let cut = cut_block (job_on k question form) taken (drop given (items_by k taken)) (drop (given + 1) (items_by k taken)) item o old now next s text n at.written (next_is (items_by k taken) given item found) answers text_is some added in
+      short_run (of_job k question form) (outside left f old g) (outside left' f' next g') refl source_later later WriteFault
+      (taken, consumed, (cut.0, cut.1, inl cut.2))
+      (λ h. cc) (λ _. rose) (λ h. cc) (taken, consumed, few)
+
+  -- all items were judged, and the summary was written or not
+  pub all_judged : (status : Status) (next : Option (List ℕ)) → g ≤ g' → length taken ≤ 268435456 → length (items_by k taken) ≤ given → IsAtEnd left'
+      → (status ≡ Done → Appends now next (summary form.style form.subject s)) → (status ≡ WriteFault → (n : ℕ) × Appends now next (take n (summary form.style form.subject s))) → (status ≡ NoMemory → next ≡ now)
+      → (status ≡ WriteFault → Rose g g') → (status ≡ Done) ⊎ ((status ≡ WriteFault) ⊎ (status ≡ NoMemory))
+      → IsRunOf (of_job k question form) status (outside left f old g) (outside left' f' next g')
+  all_judged status next later few all end done cut refused cause either =
+      let all_written = none_left all in
+      elim either [
+        | inl is ↦ (
+            let run : IsRunOf (of_job k question form) Done (outside left f old g) (outside left' f' next g') =
+            short_run (of_job k question form) (outside left f old g) (outside left' f' next g') refl source_later later Done (taken, consumed, end, tt, finished (job_on k question form) taken old now next s all_written (done is))
+            (λ h. cc) (λ h. cc) (λ h. cc) (taken, consumed, few) in
+            subst (λ x. IsRunOf (of_job k question form) x (outside left f old g) (outside left' f' next g')) (sym is) run)
+        | inr (inl is) ↦ (
+            let part = cut is in
+            let out = cut_summary (job_on k question form) taken old now next s part.0 all_written part.1 in
+            let run : IsRunOf (of_job k question form) WriteFault (outside left f old g) (outside left' f' next g') =
+            short_run (of_job k question form) (outside left f old g) (outside left' f' next g') refl source_later later WriteFault (taken, consumed, (out.0, out.1, inr (end, out.2)))
+            (λ h. cc) (λ _. cause is) (λ h. cc) (taken, consumed, few) in
+            subst (λ x. IsRunOf (of_job k question form) x (outside left f old g) (outside left' f' next g')) (sym is) run)
+        | inr (inr is) ↦ (
+            let run : IsRunOf (of_job k question form) NoMemory (outside left f old g) (outside left' f' next g') =
+            short_run (of_job k question form) (outside left f old g) (outside left' f' next g') refl source_later later NoMemory (taken, consumed, subst (λ w. Grew old w (HasBlocks (job_on k question form) 0 taken)) (sym (refused is)) (whole 0 (omega arith)))
+            (λ h. cc) (λ h. cc) (λ h. cc) (taken, consumed, few) in
+            subst (λ x. IsRunOf (of_job k question form) x (outside left f old g) (outside left' f' next g')) (sym is) run)
+      ]

@@ -1,0 +1,112 @@
+use Rattle.std.proofs.Common.{refl, Err, Ok, ap, sym, ◌∙◌, arith}
+use Rattle.cha_outside.proofs.Gathered.{gathers_nothing}
+use Rattle.adjudicate.proofs.RunEndings.{rose_in}
+use Rattle.adjudicate.proofs.ReportLoop.{at_first, retook, gave, room_at, same_first, same_item, same_settled, same_count, still_asked, same_answers, not_more, all_taken, gathered, not_read, no_memory, cut_item, all_judged}
+use Rattle.adjudicate.proofs.reports.write_report.Goals as goal
+
+pub loop-found-init : goal.loop-found-init
+loop-found-init g c = record {
+  at = at_first _ _ _ _ _ c.requires.first c.new-totals.ensures;
+  kind = refl;
+  question = refl;
+  took = gathers_nothing _ _;
+  end = c.requires.ended;
+  goes_on = c.requires.goes_on;
+  source_later = omega arith;
+  sink_later = omega arith;
+  ready = c.requires.ready;
+}
+
+pub returns-in-Err : goal.returns-in-Err
+returns-in-Err g c = λ left faults consumed before. (
+    let i = c.loop-found.invariant in
+    let e = c.next.ensures in
+    let at = retook _ _ _ _ _ _ _ i.at (same_first _ _ _ _ _ i.kind e.first) in
+    let all = all_taken _ _ _ _ _ consumed (gathered _ _ _ _ _ _ i.took e.bytes) in
+    not_read _ _ _ _ _ _ _ _ _ _ at _ _ _ _ all (omega (arith, before, i.source_later, e.later)) c.in-Err.end _ c.from.ensures i.sink_later
+    (λ fault. rose_in _ _ _ (omega (arith, before, i.source_later)) (e.read_fault (c.in-Err.is ∙ ap Err fault)))
+    (λ fault. same_settled _ _ _ _ i.kind (e.settled (c.in-Err.is ∙ ap Err fault)))
+    ((λ long. e.too_long.0 (c.in-Err.is ∙ ap Err long)), (λ more. let f = sym c.in-Err.is ∙ e.too_long.1 more in cc))
+    e.few)
+
+pub returns-in_default : goal.returns-in_default
+returns-in_default g c = λ left faults consumed before. (
+    let i = c.loop-found.invariant in
+    let e = c.next.ensures in
+    let at = retook _ _ _ _ _ _ _ i.at (same_first _ _ _ _ _ i.kind e.first) in
+    let all = all_taken _ _ _ _ _ consumed (gathered _ _ _ _ _ _ i.took e.bytes) in
+    let few = not_more _ 268435456 (λ long. let f = sym c.in-Ok.is ∙ e.too_long.1 long in cc) in
+    let none = e.none (c.in-Ok.is ∙ ap Ok c.in_default.is) in
+    let last = c.end_report.ensures in
+    all_judged _ _ _ _ _ _ _ _ _ _ at _ _ _ _ all (omega (arith, before, i.source_later, e.later)) _ _ (omega (arith, last.later, i.sink_later)) few (same_count _ _ _ _ i.kind none.1) (e.end i.end none.0)
+    last.whole last.cut last.no_memory (λ is. rose_in _ _ _ i.sink_later (last.cause is)) last.either)
+
+pub judge-requires-clause-asked : goal.judge-requires-clause-asked
+judge-requires-clause-asked g c =
+    let i = c.loop-found.invariant in
+    (rw c.in-Some.is at c.in-Ok.ensures.asked) _ (still_asked _ _ _ _ i.kind i.question c.requires.asked)
+
+pub returns-in_default-judge : goal.returns-in_default-judge
+returns-in_default-judge g c = λ left faults consumed before. (
+    let i = c.loop-found.invariant in
+    let e = c.next.ensures in
+    let at = retook _ _ _ _ _ _ _ i.at (same_first _ _ _ _ _ i.kind e.first) in
+    let all = all_taken _ _ _ _ _ consumed (gathered _ _ _ _ _ _ i.took e.bytes) in
+    let few = not_more _ 268435456 (λ long. let f = sym c.in-Ok.is ∙ e.too_long.1 long in cc) in
+    no_memory _ _ _ _ _ _ _ _ _ _ at _ _ _ _ all (omega (arith, before, i.source_later, e.later)) i.sink_later few)
+
+pub returns-in_default-write_outcome : goal.returns-in_default-write_outcome
+returns-in_default-write_outcome g c = λ left faults consumed before. (
+    let i = c.loop-found.invariant in
+    let e = c.next.ensures in
+    let at = retook _ _ _ _ _ _ _ i.at (same_first _ _ _ _ _ i.kind e.first) in
+    let all = all_taken _ _ _ _ _ consumed (gathered _ _ _ _ _ _ i.took e.bytes) in
+    let few = not_more _ 268435456 (λ long. let f = sym c.in-Ok.is ∙ e.too_long.1 long in cc) in
+    let same = c.in_default-write_outcome.ensures.untouched in
+    rw same (no_memory _ _ _ _ _ _ _ _ _ _ at _ _ _ _ all (omega (arith, before, i.source_later, e.later)) i.sink_later few))
+
+pub write_outcome-requires-clause-room : goal.write_outcome-requires-clause-room
+write_outcome-requires-clause-room g c =
+    let more = rw c.in-Some.is at c.in-Ok.ensures.given in
+    room_at _ _ _ _ _ _ c.loop-found.invariant.at more.1
+
+pub returns-in-Failed : goal.returns-in-Failed
+returns-in-Failed g c = λ left faults consumed before. (
+    let i = c.loop-found.invariant in
+    let e = c.next.ensures in
+    let at = retook _ _ _ _ _ _ _ i.at (same_first _ _ _ _ _ i.kind e.first) in
+    let all = all_taken _ _ _ _ _ consumed (gathered _ _ _ _ _ _ i.took e.bytes) in
+    let few = not_more _ 268435456 (λ long. let f = sym c.in-Ok.is ∙ e.too_long.1 long in cc) in
+    let found = same_item _ _ _ _ _ i.kind (rw c.in-Some.is at c.in-Ok.ensures.item) in
+    let answers = same_answers _ _ _ _ i.question c.in-Ok-judge.ensures.answers in
+    let w = c.in-Ok-write_outcome.ensures in
+    let cause = rw c.in-Failed.is at w.cause in
+    cut_item _ _ _ _ _ _ _ _ _ _ at _ _ _ _ all (omega (arith, before, i.source_later, e.later)) _ c.in-Some.item c.in-Ok-judge.outcome _ c.in-Failed.field-0
+    (omega (arith, cause.0, i.sink_later)) (rose_in _ _ _ i.sink_later cause.1) few found answers refl
+    ((rw c.in-Failed.is at w.some) (λ h. cc)) (rw c.in-Failed.is at w.bytes))
+
+pub loop-found-smaller : goal.loop-found-smaller
+loop-found-smaller g c =
+    let more = rw c.in-Some.is at c.in-Ok.ensures.given in
+    omega (arith, more.0, more.1)
+
+pub loop-found-preserved : goal.loop-found-preserved
+loop-found-preserved g c =
+    let i = c.loop-found.invariant in
+    let e = c.next.ensures in
+    let at = retook _ _ _ _ _ _ _ i.at (same_first _ _ _ _ _ i.kind e.first) in
+    let found = same_item _ _ _ _ _ i.kind (rw c.in-Some.is at c.in-Ok.ensures.item) in
+    let answers = same_answers _ _ _ _ i.question c.in-Ok-judge.ensures.answers in
+    let more = rw c.in-Some.is at c.in-Ok.ensures.given in
+    let w = c.in-Ok-write_outcome.ensures in
+    record {
+      at = rw c.write_outcome.ensures.counted (gave _ _ _ _ _ _ _ _ c.in-Some.item c.in-Ok-judge.outcome _ at found answers refl (rw c.in-All.is at w.bytes) more.0);
+      kind = e.kind ∙ i.kind;
+      question = c.judge.ensures.same_question ∙ i.question;
+      took = gathered _ _ _ _ _ _ i.took e.bytes;
+      end = e.end i.end;
+      goes_on = c.in-Ok.ensures.goes_on;
+      source_later = omega (arith, e.later, i.source_later);
+      sink_later = omega (arith, rw c.in-All.is at w.cause, i.sink_later);
+      ready = c.judge.ensures.stays_ready;
+    }

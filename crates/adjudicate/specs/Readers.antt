@@ -1,0 +1,57 @@
+-- What a reader of items has taken and given.
+use Rattle.std.specs.Prelude.{◌≡◌, ℕ, ◌-◌, ◌≤◌, Bool, true, false, List, drop, length, ⊤}
+use Rattle.pgn_games.specs.Settling.{settled_games}
+use Rattle.cha_outcome.specs.declared.items.Item.{Item}
+use Rattle.cha_outcome.specs.declared.questions.Question.{Question}
+use Rattle.cha_outcome.specs.declared.questions.Question.TheVariants.{Verdicts, Mates}
+use Rattle.adjudicate.specs.declared.readers.ItemReader.{ItemReader}
+use Rattle.adjudicate.specs.declared.readers.ItemReader.TheVariants.{Games, Lines}
+use Rattle.adjudicate.specs.declared.reports.Form.{Form}
+use Rattle.adjudicate.specs.Jobs.{Job, game_items, position_items}
+use Rattle.adjudicate.specs.Runs.{most_bytes}
+
+-- it gives games, and not lines
+abbrev pub is_of_games : ItemReader → Bool
+is_of_games (Games reader) = true
+is_of_games (Lines lines) = false
+
+-- the bytes that it has taken: games as they come, and all of a text of lines
+abbrev pub taken_by : ItemReader → List ℕ
+taken_by (Games reader) = reader.taken
+taken_by (Lines lines) = lines.text
+
+-- how many items it has given
+abbrev pub given_by : ItemReader → ℕ
+given_by (Games reader) = reader.given
+given_by (Lines lines) = length (position_items lines.text) - length (position_items lines.rest)
+
+-- it has taken all that there is
+abbrev pub has_ended : ItemReader → Bool
+has_ended (Games reader) = reader.ended
+has_ended (Lines lines) = true
+
+-- it can give more: no call has failed, no more was taken than an input may have, and what is left of lines are the items that were not
+-- given
+abbrev pub CanGoOn : ItemReader → Type 0
+CanGoOn (Games reader) = (reader.failed ≡ false) × (length reader.taken ≤ most_bytes)
+CanGoOn (Lines lines) = (drop (given_by (Lines lines)) (position_items lines.text) ≡ position_items lines.rest) × (length lines.text ≤ most_bytes)
+
+-- the items of bytes, and how many of them are settled, where they are games or lines
+abbrev pub items_by : Bool → List ℕ → List Item
+items_by true = game_items
+items_by false = position_items
+
+abbrev pub settled_by : Bool → List ℕ → ℕ
+settled_by true = settled_games
+settled_by false = λ _. 0
+
+-- a question is asked about such items
+abbrev pub IsAskedOf : Bool → Question → Type 0
+IsAskedOf true (Verdicts limits) = ⊤
+IsAskedOf true (Mates side depth) = ⊥
+IsAskedOf false question = ⊤
+
+-- the job on such items
+abbrev pub job_on : Bool → Question → Form → Job
+job_on of_games question form =
+    record { reads = true; items = items_by of_games; settled = settled_by of_games; question = question; style = form.style; subject = form.subject }

@@ -1,0 +1,92 @@
+//! The jobs that orders are: where their items come from.
+
+ghost use Rattle.std.specs.Prelude.{◌≡◌, ◌≤◌, ℕ, List, Option, Some, true};
+ghost use Rattle.adjudicate.specs.Jobs.{on_games, on_lines, on_made};
+ghost use Rattle.adjudicate.specs.Readers.{IsAskedOf};
+ghost use Rattle.adjudicate.specs.Report.{demand_by};
+ghost use Rattle.adjudicate.specs.Runs.{IsRunOf, outside};
+ghost use Rattle.adjudicate.specs.Steps.{made_status};
+
+use crate::endings::Status;
+use crate::lines::LineReader;
+use crate::readers::ItemReader;
+use crate::reports::{Form, write_report};
+use cha_judge::Judge;
+use cha_outside::{Bytes, MOST_BYTES, Sink, Source, read_all};
+use flag_report::{Style, Subject};
+use pgn_games::Reader;
+use random_games::games_text;
+use std::alloc::Global;
+
+/// Writes the report on the games of a source, each as soon as it has come.
+pub fn report_games<J: Judge, S: Source, K: Sink>(
+    alloc: Global,
+    style: Style,
+    judge: &mut J,
+    source: &mut S,
+    sink: &mut K,
+) -> Status
+    requires ready { J.ready judge.old }
+    requires asked { IsAskedOf true (J.question judge.old) }
+    ensures { IsRunOf (demand_by (Some (on_games (J.question judge.old) style))) result (outside (S.left source.old) (S.faults source.old) (K.written sink.old) (K.faults sink.old)) (outside (S.left source.new) (S.faults source.new) (K.written sink.new) (K.faults sink.new)) }
+{
+    let Ok(reader) = Reader::new(alloc) else {
+        return Status::NoMemory;
+    };
+    let form = Form {
+        style,
+        subject: Subject::Games,
+    };
+    write_report(alloc, form, ItemReader::Games(reader), judge, source, sink)
+}
+
+/// Writes the report on the lines of a source that are not blank. It reads the whole source first.
+pub fn report_lines<J: Judge, S: Source, K: Sink>(
+    alloc: Global,
+    form: Form,
+    judge: &mut J,
+    source: &mut S,
+    sink: &mut K,
+) -> Status
+    requires { J.ready judge.old }
+    ensures { IsRunOf (demand_by (Some (on_lines (J.question judge.old) form.style form.subject))) result (outside (S.left source.old) (S.faults source.old) (K.written sink.old) (K.faults sink.old)) (outside (S.left source.new) (S.faults source.new) (K.written sink.new) (K.faults sink.new)) }
+{
+    match read_all(alloc, source, MOST_BYTES) {
+        Ok(bytes) => {
+            let lines = LineReader::new(bytes.as_slice());
+            write_report(alloc, form, ItemReader::Lines(lines), judge, source, sink)
+        }
+        Err(end) => Status::from(end),
+    }
+}
+
+/// Makes so many games of a seed, and writes the summary of the report on them alone. Nothing is read.
+pub fn report_made<J: Judge, K: Sink>(
+    alloc: Global,
+    seed: u64,
+    count: u32,
+    judge: &mut J,
+    sink: &mut K,
+) -> Status
+    requires count { (1 ≤ count) × (count ≤ 1000) }
+    requires ready { J.ready judge.old }
+    requires asked { IsAskedOf true (J.question judge.old) }
+    ensures { (left : Option (List ℕ)) (faults : ℕ) → IsRunOf (demand_by (Some (on_made (J.question judge.old) seed count))) result (outside left faults (K.written sink.old) (K.faults sink.old)) (outside left faults (K.written sink.new) (K.faults sink.new)) }
+{
+    let Ok(text) = games_text(alloc, seed, count) else {
+        return Status::NoMemory;
+    };
+    let mut made = Bytes::new(text.into_vec());
+    of_made(report_games(alloc, Style::SummaryAlone, judge, &mut made, sink))
+}
+
+/// How a run over games that were made ended, by how the run over their text did. A text in memory never fails, and one that is too
+/// long cannot be kept.
+fn of_made(status: Status) -> Status
+    ensures { result ≡ made_status status }
+{
+    match status {
+        Status::ReadFault | Status::TooLong => Status::NoMemory,
+        other => other,
+    }
+}

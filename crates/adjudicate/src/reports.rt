@@ -1,0 +1,112 @@
+//! The one loop over the items of an input.
+
+ghost use Rattle.std.specs.Prelude.{◌≡◌, ◌≢◌, ◌≤◌, ◌+◌, ◌⊎◌, ℕ, List, [], Option, Some, true, take, IfOk, OnErr};
+ghost use Rattle.std.specs.Io.KnownBytes.{Appends, Consumes, IsAtEnd};
+ghost use Rattle.cha_outside.specs.Faults.{Rose};
+ghost use Rattle.cha_outside.specs.Writing.{Takes, WriteCause};
+ghost use Rattle.cha_outcome.specs.Outcomes.{IsPrintableOutcome};
+ghost use Rattle.cha_outcome.specs.Totals.{counted, HasRoom};
+ghost use Rattle.flag_report.specs.Styles.{block, summary as summary_of};
+ghost use Rattle.adjudicate.specs.Readers.{taken_by, given_by, has_ended, is_of_games, CanGoOn, IsAskedOf, job_on};
+ghost use Rattle.adjudicate.specs.Report.{demand_by};
+ghost use Rattle.adjudicate.specs.Runs.{IsRunOf, outside};
+
+use crate::endings::Status;
+use crate::readers::ItemReader;
+use crate::writing::put;
+use cha_judge::Judge;
+use cha_list::{NoMemory, Text};
+use cha_outcome::{Outcome, Totals};
+use cha_outside::{Sink, Source, Wrote};
+use flag_report::{Style, Subject, put as put_outcome, put_summary};
+use std::alloc::Global;
+
+/// The form of a report.
+#[derive(Clone, Copy, Debug, PartialEq, Eq)]
+pub struct Form {
+    /// How it is printed.
+    pub style: Style,
+    /// What it is about.
+    pub subject: Subject,
+}
+
+/// Judges each item of a reader, and writes what is printed of its outcome, and at the end the summary. The source may have given
+/// bytes to the reader before.
+pub fn write_report<J: Judge, S: Source, K: Sink>(
+    alloc: Global,
+    form: Form,
+    reader: ItemReader,
+    judge: &mut J,
+    source: &mut S,
+    sink: &mut K,
+) -> Status
+    requires ready { J.ready judge.old }
+    requires asked { IsAskedOf (is_of_games reader) (J.question judge.old) }
+    requires goes_on { CanGoOn reader }
+    requires first { given_by reader ≡ 0 }
+    requires ended { has_ended reader ≡ true → IsAtEnd (S.left source.old) }
+    ensures { (left : Option (List ℕ)) (faults : ℕ) → Consumes left (S.left source.old) (taken_by reader.entry) → faults ≤ S.faults source.old → IsRunOf (demand_by (Some (job_on (is_of_games reader.entry) (J.question judge.old) form))) result (outside left faults (K.written sink.old) (K.faults sink.old)) (outside (S.left source.new) (S.faults source.new) (K.written sink.new) (K.faults sink.new)) }
+{
+    let mut items = reader;
+    let mut totals = Totals::new();
+    loop {
+        let found = match items.next(alloc, source) {
+            Ok(found) => found,
+            Err(end) => return Status::from(end),
+        };
+        let Some(item) = found else {
+            return end_report(alloc, form, &totals, sink);
+        };
+        let Ok(outcome) = judge.judge(alloc, item) else {
+            return Status::NoMemory;
+        };
+        let Ok(wrote) = write_outcome(alloc, form.style, &mut totals, outcome, sink) else {
+            return Status::NoMemory;
+        };
+        match wrote {
+            Wrote::All => {}
+            Wrote::Failed(_) => return Status::WriteFault,
+        }
+    }
+}
+
+/// Counts an outcome, and writes what is printed of it under its number.
+fn write_outcome<K: Sink>(
+    alloc: Global,
+    style: Style,
+    totals: &mut Totals,
+    outcome: Outcome,
+    sink: &mut K,
+) -> Result<Wrote, NoMemory>
+    requires printable { IsPrintableOutcome outcome }
+    requires room { HasRoom totals.old }
+    ensures counted { totals.new ≡ counted totals.old outcome }
+    ensures bytes { IfOk result (λ wrote. Takes (K.written sink.old) (K.written sink.new) wrote (block style (totals.old.items + 1) outcome)) }
+    ensures some { IfOk result (λ wrote. wrote ≢ Wrote.All → block style (totals.old.items + 1) outcome ≢ []) }
+    ensures cause { IfOk result (λ wrote. WriteCause (K.faults sink.old) (K.faults sink.new) wrote) }
+    ensures untouched { OnErr result (sink.new ≡ sink.old) }
+{
+    totals.count(&outcome);
+    let mut text = Text::new(alloc);
+    put_outcome(alloc, style, totals.items, &outcome, &mut text)?;
+    Ok(put(sink, text.items()))
+}
+
+/// Writes the end of a report.
+fn end_report<K: Sink>(alloc: Global, form: Form, totals: &Totals, sink: &mut K) -> Status
+    ensures whole { result ≡ Status.Done → Appends (K.written sink.old) (K.written sink.new) (summary_of form.style form.subject totals.now) }
+    ensures cut { result ≡ Status.WriteFault → (n : ℕ) × Appends (K.written sink.old) (K.written sink.new) (take n (summary_of form.style form.subject totals.now)) }
+    ensures no_memory { result ≡ Status.NoMemory → (K.written sink.new ≡ K.written sink.old) }
+    ensures cause { result ≡ Status.WriteFault → Rose (K.faults sink.old) (K.faults sink.new) }
+    ensures either { (result ≡ Status.Done) ⊎ ((result ≡ Status.WriteFault) ⊎ (result ≡ Status.NoMemory)) }
+    ensures later { K.faults sink.old ≤ K.faults sink.new }
+{
+    let mut text = Text::new(alloc);
+    let Ok(()) = put_summary(alloc, form.style, form.subject, totals, &mut text) else {
+        return Status::NoMemory;
+    };
+    match put(sink, text.items()) {
+        Wrote::All => Status::Done,
+        Wrote::Failed(_) => Status::WriteFault,
+    }
+}

@@ -1,0 +1,28 @@
+//! Who judges.
+
+ghost use Rattle.std.specs.Prelude.{◌≡◌, IfOk};
+ghost use Rattle.cha_outcome.specs.Outcomes.{Answers, CanBeAsked, IsPrintableOutcome};
+
+use cha_list::NoMemory;
+use cha_outcome::{Item, Outcome};
+use std::alloc::Global;
+
+/// Who answers one question about each item, with workers of its own.
+pub trait Judge {
+    ghost use Rattle.cha_outcome.specs.declared.questions.Question.{Question};
+
+    /// It may judge.
+    ghost ready: { Self → Type 0 };
+
+    /// What is asked about each item.
+    ghost question: { Self → Question };
+
+    /// What is found about an item, which the outcome holds. The only error is want of memory.
+    fn judge(&mut self, alloc: Global, item: Item) -> Result<Outcome, NoMemory>
+        requires ready { ready self.old }
+        requires asked { CanBeAsked (question self.old) item }
+        ensures stays_ready { ready self.new }
+        ensures same_question { question self.new ≡ question self.old }
+        ensures answers { IfOk result (Answers (question self.old) item) }
+        ensures printable { IfOk result IsPrintableOutcome };
+}

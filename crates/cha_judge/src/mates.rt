@@ -1,0 +1,54 @@
+//! The shortest mates.
+
+use crate::judges::Judge;
+use cha_board::Color;
+use cha_list::NoMemory;
+use cha_outcome::{Item, Outcome};
+use helpmate_list::{Spread, least_mates_by};
+use std::alloc::Global;
+
+/// Who lists the shortest mates of a side in a position.
+#[derive(Drop)]
+pub struct MatesJudge<P: Spread> {
+    /// The side that mates.
+    pub side: Color,
+    /// Within how many plies mates are looked for, at most 6.
+    pub depth: u8,
+    /// How many workers share the root moves, at least one.
+    pub workers: u32,
+    /// How the work is spread out to them.
+    pub spread: P,
+}
+
+impl<P: Spread> Judge for MatesJudge<P> {
+    ghost use Rattle.std.specs.Prelude.{◌≤◌};
+    ghost use Rattle.cha_outcome.specs.declared.questions.Question.TheVariants.{Mates};
+
+    ghost ready = { λ s. P.ready s.spread × (s.depth ≤ 6) × (1 ≤ s.workers) };
+
+    ghost question = { λ s. Mates s.side s.depth };
+
+    fn judge(&mut self, alloc: Global, item: Item) -> Result<Outcome, NoMemory> {
+        match item {
+            Item::Position(position) => {
+                let depth = self.depth;
+                let shortest = least_mates_by(
+                    &self.spread,
+                    alloc,
+                    &position,
+                    self.side,
+                    depth,
+                    self.workers,
+                )?;
+                Ok(Outcome::ListedMates {
+                    position,
+                    depth,
+                    shortest,
+                })
+            }
+            Item::RefusedLine(fault) => Ok(Outcome::RefusedLine(fault)),
+            Item::UnreadableGame(why) => Ok(Outcome::UnreadableGame(why)),
+            Item::Played(_) => unreachable!(),
+        }
+    }
+}

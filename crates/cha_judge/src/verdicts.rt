@@ -1,0 +1,102 @@
+//! Whether the sides can still mate.
+
+ghost use Rattle.std.specs.Prelude.{◌<◌, ◌≤◌, length, IfOk};
+ghost use Rattle.cha_outcome.specs.declared.questions.Question.TheVariants.{Verdicts};
+ghost use Rattle.cha_outcome.specs.declared.items.Item.TheVariants.{Position as OfPosition, Played};
+ghost use Rattle.cha_outcome.specs.Outcomes.{Answers, HasPositions, IsPrintableOutcome};
+
+use crate::judges::Judge;
+use cha_board::{Color, Position};
+use cha_decide::{decide_by, scan_by};
+use cha_limits::Limits;
+use cha_list::NoMemory;
+use cha_moves::state;
+use cha_outcome::{Item, Outcome, PlayedGame, first_examined, judgment_of, status_of};
+use root_workers::Crew;
+use std::alloc::Global;
+
+/// Who decides whether each side can still mate, in a position or in the final position of a game, and from where on a game was
+/// dead.
+#[derive(Drop)]
+pub struct VerdictsJudge<C: Crew> {
+    /// What a search may spend on a side.
+    pub limits: Limits,
+    /// The workers who search.
+    pub crew: C,
+}
+
+impl<C: Crew> Judge for VerdictsJudge<C> {
+    ghost use Rattle.cha_outcome.specs.declared.questions.Question.TheVariants.{Verdicts};
+
+    ghost ready = { λ s. C.ready s.crew };
+
+    ghost question = { λ s. Verdicts s.limits };
+
+    fn judge(&mut self, alloc: Global, item: Item) -> Result<Outcome, NoMemory> {
+        match item {
+            Item::Position(position) => {
+                judge_position(alloc, position, &self.limits, &mut self.crew)
+            }
+            Item::Played(game) => judge_game(alloc, game, &self.limits, &mut self.crew),
+            Item::RefusedLine(fault) => Ok(Outcome::RefusedLine(fault)),
+            Item::UnreadableGame(why) => Ok(Outcome::UnreadableGame(why)),
+        }
+    }
+}
+
+/// Decides a position, White first.
+fn judge_position<C: Crew>(
+    alloc: Global,
+    position: Position,
+    limits: &Limits,
+    crew: &mut C,
+) -> Result<Outcome, NoMemory>
+    requires ready { C.ready crew.old }
+    ensures stays_ready { C.ready crew.new }
+    ensures answers { IfOk result (Answers (Verdicts limits.now) (OfPosition position)) }
+    ensures printable { IfOk result IsPrintableOutcome }
+{
+    let decision = decide_by(alloc, &position, Color::White, limits, crew)?;
+    let standing = state(&position);
+    let status = status_of(standing, &decision.white, &decision.black);
+    Ok(Outcome::JudgedPosition {
+        position,
+        decision,
+        status,
+    })
+}
+
+/// Decides the final position of a game, the recorded winner first, and from where on the game was dead, if it was.
+fn judge_game<C: Crew>(
+    alloc: Global,
+    game: PlayedGame,
+    limits: &Limits,
+    crew: &mut C,
+) -> Result<Outcome, NoMemory>
+    requires positions { HasPositions game }
+    requires ready { C.ready crew.old }
+    ensures stays_ready { C.ready crew.new }
+    ensures answers { IfOk result (Answers (Verdicts limits.now) (Played game)) }
+    ensures printable { IfOk result IsPrintableOutcome }
+{
+    let first = first_examined(game.recorded);
+    let decision = decide_by(alloc, &game.last, first, limits, crew)?;
+    let scan = scan_by(
+        alloc,
+        game.positions.items(),
+        first,
+        &decision,
+        limits,
+        crew,
+    )?;
+    let standing = state(&game.last);
+    let status = status_of(standing, &decision.white, &decision.black);
+    let judgment = judgment_of(&game, standing, &decision, &scan);
+    Ok(Outcome::JudgedGame {
+        game,
+        decision,
+        scan,
+        status,
+        judgment,
+    })
+}

@@ -1,0 +1,5 @@
+pub mod Items
+pub mod PositionStatuses
+pub mod Rulings
+pub mod Outcomes
+pub mod Totals

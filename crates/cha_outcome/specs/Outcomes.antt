@@ -1,0 +1,129 @@
+-- What is found about an item (this project).
+use Rattle.std.specs.Prelude.{◌≡◌, ℕ, ◌<◌, ◌≤◌, Bool, true, false, ◌||◌, List, [], ◌∷◌, length, Option, Some, None, ⊤}
+use Rattle.cha_board.specs.declared.men.Color.{Color}
+use Rattle.cha_board.specs.declared.men.Color.TheVariants.{White}
+use Rattle.cha_moves.specs.Standings.{standing_of}
+use Rattle.cha_limits.specs.Bounds.{Bounds}
+use Rattle.cha_verdict.specs.declared.decisions.Decision.{Decision}
+use Rattle.cha_verdict.specs.declared.scans.Scan.{Scan}
+use Rattle.cha_verdict.specs.Verdicts.{is_undecided, IsPrintable}
+use Rattle.cha_verdict.specs.Sound.{IsSound}
+use Rattle.cha_verdict.specs.Scans.{HasScan, IsPrintableScan}
+use Rattle.helpmate_list.specs.declared.answers.Shortest.{Shortest}
+use Rattle.helpmate_list.specs.declared.answers.Shortest.TheVariants.{NoneWithin, Found}
+use Rattle.helpmate_list.specs.Shortest.{shortest}
+use Rattle.cha_outcome.specs.declared.items.PlayedGame.{PlayedGame}
+use Rattle.cha_outcome.specs.declared.items.Item.{Item}
+use Rattle.cha_outcome.specs.declared.items.Item.TheVariants.{Position, RefusedLine as Refused, Played, UnreadableGame as Unread}
+use Rattle.cha_outcome.specs.declared.questions.Question.{Question}
+use Rattle.cha_outcome.specs.declared.questions.Question.TheVariants.{Verdicts, Mates}
+use Rattle.cha_outcome.specs.declared.outcomes.Outcome.{Outcome}
+use Rattle.cha_outcome.specs.declared.outcomes.Outcome.TheVariants.{JudgedPosition, JudgedGame, ListedMates, RefusedLine, UnreadableGame}
+use Rattle.cha_outcome.specs.PositionStatuses.{status_of, is_dead}
+use Rattle.cha_outcome.specs.Rulings.{first_of, is_changed, judgment_of}
+
+-- the item that an outcome is of
+unfoldable pub item_of : Outcome → Item
+item_of (JudgedPosition q d status) = Position q
+item_of (JudgedGame game d scan status judgment) = Played game
+item_of (ListedMates q depth found) = Position q
+item_of (RefusedLine fault) = Refused fault
+item_of (UnreadableGame why) = Unread why
+
+-- the verdicts are true of the position, and a game whose final position they show dead has a sound scan, and no other has one; the
+-- status and the result are by these. A line that is refused and a game that cannot be read have no verdicts.
+unfoldable pub HasSoundVerdicts : Bounds → Outcome → Type 0
+HasSoundVerdicts limits (JudgedPosition q d status) = IsSound q White limits d × (status ≡ status_of (standing_of q) d.white d.black)
+HasSoundVerdicts limits (JudgedGame game d scan status judgment) =
+    IsSound game.last (first_of game.recorded) limits d × HasScan game.positions (first_of game.recorded) limits d scan
+    × (status ≡ status_of (standing_of game.last) d.white d.black) × (judgment ≡ judgment_of game d scan)
+HasSoundVerdicts limits (ListedMates q depth found) = ⊥
+HasSoundVerdicts limits (RefusedLine fault) = ⊤
+HasSoundVerdicts limits (UnreadableGame why) = ⊤
+
+-- what was found are the shortest mates of the position within that many plies
+unfoldable pub HasShortestMates : Color → ℕ → Outcome → Type 0
+HasShortestMates side depth (JudgedPosition q d status) = ⊥
+HasShortestMates side depth (JudgedGame game d scan status judgment) = ⊥
+HasShortestMates side depth (ListedMates q within found) = (within ≡ depth) × (found ≡ shortest q side depth)
+HasShortestMates side depth (RefusedLine fault) = ⊤
+HasShortestMates side depth (UnreadableGame why) = ⊤
+
+-- an outcome answers a question
+abbrev pub IsSoundOutcome : Question → Outcome → Type 0
+IsSoundOutcome (Verdicts limits) o = HasSoundVerdicts limits o
+IsSoundOutcome (Mates side depth) o = HasShortestMates side depth o
+
+-- it does, about this item
+abbrev pub Answers : Question → Item → Outcome → Type 0
+Answers question item o = (item_of o ≡ item) × IsSoundOutcome question o
+
+-- a game has 1 to 12,001 positions
+abbrev pub HasPositions : PlayedGame → Type 0
+HasPositions game = (0 < length game.positions) × (length game.positions ≤ 12001)
+
+-- a question can be asked about an item: mates are looked for in positions, and not in games
+abbrev pub CanBeAsked : Question → Item → Type 0
+CanBeAsked (Verdicts limits) (Position q) = ⊤
+CanBeAsked (Verdicts limits) (Refused fault) = ⊤
+CanBeAsked (Verdicts limits) (Played game) = HasPositions game
+CanBeAsked (Verdicts limits) (Unread why) = ⊤
+CanBeAsked (Mates side depth) (Position q) = ⊤
+CanBeAsked (Mates side depth) (Refused fault) = ⊤
+CanBeAsked (Mates side depth) (Played game) = ⊥
+CanBeAsked (Mates side depth) (Unread why) = ⊤
+
+-- each outcome answers the question
+abbrev pub AllSound : Question → List Outcome → Type 0
+AllSound question [] = ⊤
+AllSound question (o ∷ os) = IsSoundOutcome question o × AllSound question os
+
+-- the certificates of an outcome can be printed
+abbrev pub ArePrintable : Decision → Type 0
+ArePrintable d = IsPrintable d.white × IsPrintable d.black
+
+abbrev pub IsPrintableIfScanned : Option Scan → Type 0
+IsPrintableIfScanned None = ⊤
+IsPrintableIfScanned (Some scan) = IsPrintableScan scan.earlier
+
+abbrev pub IsPrintableOutcome : Outcome → Type 0
+IsPrintableOutcome (JudgedPosition q d status) = ArePrintable d
+IsPrintableOutcome (JudgedGame game d scan status judgment) = ArePrintable d × IsPrintableIfScanned scan
+IsPrintableOutcome (ListedMates q depth found) = ⊤
+IsPrintableOutcome (RefusedLine fault) = ⊤
+IsPrintableOutcome (UnreadableGame why) = ⊤
+
+-- a line that is refused, or a game that cannot be read
+unfoldable pub is_refused : Outcome → Bool
+is_refused (RefusedLine fault) = true
+is_refused (UnreadableGame why) = true
+is_refused _ = false
+
+-- a position that is dead
+unfoldable pub is_dead_position : Outcome → Bool
+is_dead_position (JudgedPosition q d status) = is_dead status
+is_dead_position _ = false
+
+-- a game that has another result than the recorded one
+unfoldable pub is_changed_game : Outcome → Bool
+is_changed_game (JudgedGame game d scan status judgment) = is_changed game.recorded judgment.mark
+is_changed_game _ = false
+
+-- a side of which nothing was shown
+abbrev pub has_open_side : Decision → Bool
+has_open_side d = is_undecided d.white || is_undecided d.black
+
+unfoldable pub is_open : Outcome → Bool
+is_open (JudgedPosition q d status) = has_open_side d
+is_open (JudgedGame game d scan status judgment) = has_open_side d
+is_open _ = false
+
+-- there is a mate
+abbrev pub is_found : Shortest → Bool
+is_found NoneWithin = false
+is_found (Found plies lines more) = true
+
+-- a position that has one
+unfoldable pub has_mates : Outcome → Bool
+has_mates (ListedMates q depth found) = is_found found
+has_mates _ = false

@@ -1,0 +1,128 @@
+//! What an input is made of.
+
+ghost use Rattle.std.specs.Prelude.{◌≡◌, ◌≢◌, ◌≤◌, ◌⊎◌, None, length, IfOk};
+ghost use Rattle.std.specs.Bool.{OnTrue, OnFalse};
+ghost use Rattle.cha_san.specs.Playing.{positions};
+ghost use Rattle.cha_limits.specs.Bounds.{Bounds};
+ghost use Rattle.cha_outcome.specs.declared.questions.Question.{Question};
+ghost use Rattle.cha_outcome.specs.declared.questions.Question.TheVariants.{Verdicts};
+ghost use Rattle.cha_outcome.specs.Outcomes.{CanBeAsked};
+ghost use Rattle.cha_outcome.specs.Items.{line_item, game_item, played_item, stopped_by};
+ghost use Rattle.cha_outcome.specs.declared.items.Item.TheVariants.{UnreadableGame};
+
+use crate::unreadable::Unreadable;
+use cha_board::Position;
+use cha_fen::{FenFault, read};
+use cha_list::{NoMemory, text_of};
+use cha_moves::Positions;
+use cha_san::{PlayFault, SanFault, play};
+use pgn_games::{Game, ResultMark};
+use std::alloc::Global;
+
+/// A game that was played to its final position.
+#[derive(Drop)]
+pub struct PlayedGame {
+    /// The final position.
+    pub last: Position,
+    /// All positions of the game, from its start to the final one.
+    pub positions: Positions,
+    /// The result with which its text ends.
+    pub recorded: ResultMark,
+    /// Whether its text says that it was lost on time.
+    pub forfeit: bool,
+}
+
+/// One item of an input.
+#[derive(Drop)]
+pub enum Item {
+    /// A line that is a position in FEN.
+    Position(Position),
+    /// A line that is none.
+    RefusedLine(FenFault),
+    /// A game that was played to its final position.
+    Played(PlayedGame),
+    /// A game that cannot be read.
+    UnreadableGame(Unreadable),
+}
+
+/// The most bytes that a line may have.
+const MOST_LINE_BYTES: usize = 4096;
+
+/// The item of a line that is not blank. A line of over 4,096 bytes has the fault `Shape`.
+#[tactic(auto, unfolding(crate::specs::Items::line_item))]
+pub fn item_of_line(line: &[u8]) -> Item
+    ensures item { result ≡ line_item line.now }
+    ensures asked { (question : Question) → CanBeAsked question result }
+{
+    if line.len() > MOST_LINE_BYTES {
+        return Item::RefusedLine(FenFault::Shape);
+    }
+    match read(line) {
+        Ok(position) => Item::Position(position),
+        Err(fault) => Item::RefusedLine(fault),
+    }
+}
+
+/// The item of a game: its moves are played, unless its text has a fault. The only error is want of memory.
+#[tactic(auto, unfolding(crate::specs::Items::game_item))]
+pub fn item_of_game(alloc: Global, game: &Game) -> Result<Item, NoMemory>
+    requires { game.now.fault ≡ None → length game.now.words ≤ 12000 }
+    ensures item { IfOk result (λ item. item ≡ game_item game.now) }
+    ensures asked { IfOk result (λ item. (limits : Bounds) → CanBeAsked (Verdicts limits) item) }
+{
+    match game.fault {
+        Some(fault) => Ok(Item::UnreadableGame(Unreadable::Tokens(fault))),
+        None => played_out(alloc, game),
+    }
+}
+
+/// The item of a game whose text has no fault.
+fn played_out(alloc: Global, game: &Game) -> Result<Item, NoMemory>
+    requires readable { game.now.fault ≡ None }
+    requires few { length game.now.words ≤ 12000 }
+    ensures item { IfOk result (λ item. item ≡ played_item game.now (positions game.now.start game.now.words)) }
+    ensures asked { IfOk result (λ item. (limits : Bounds) → CanBeAsked (Verdicts limits) item) }
+{
+    match play(alloc, game) {
+        Ok(positions) => {
+            let last = positions.items()[positions.items().len() - 1];
+            Ok(Item::Played(PlayedGame {
+                last,
+                positions,
+                recorded: game.recorded,
+                forfeit: game.forfeit,
+            }))
+        }
+        Err(stop) => stopped(alloc, game, stop),
+    }
+}
+
+/// The item of a game at whose first word that names no move it stops.
+fn stopped(alloc: Global, game: &Game, stop: PlayFault) -> Result<Item, NoMemory>
+    requires inside { (stop.fault ≡ SanFault.NoMemory) ⊎ ((1 ≤ stop.ply) × (stop.ply ≤ length game.now.words)) }
+    ensures item { IfOk result (λ item. item ≡ UnreadableGame (stopped_by game.now stop)) }
+    ensures of_word { IfOk result (λ _. stop.fault ≢ SanFault.NoMemory) }
+{
+    if lacks_memory(stop.fault) {
+        return Err(NoMemory);
+    }
+    let word = &game.words.items()[stop.ply as usize - 1];
+    Ok(Item::UnreadableGame(Unreadable::Moves {
+        ply: stop.ply,
+        word: text_of(alloc, word.items())?,
+        fault: stop.fault,
+    }))
+}
+
+/// Whether a word named no move because memory was refused.
+fn lacks_memory(fault: SanFault) -> bool
+    ensures no_memory { OnTrue result (fault ≡ SanFault.NoMemory) }
+    ensures of_word { OnFalse result (fault ≢ SanFault.NoMemory) }
+{
+    match fault {
+        SanFault::NoMemory => true,
+        SanFault::NotSan => false,
+        SanFault::NoSuchMove => false,
+        SanFault::Ambiguous => false,
+    }
+}

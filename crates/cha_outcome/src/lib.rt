@@ -1,0 +1,23 @@
+//! What is judged, and what is found about it: the values that stand between reading, judging and printing. No text is made here,
+//! and nothing is searched.
+//!
+//! `items` has what an input is made of, `unreadable` why a game cannot be read, `questions` what is asked about an item, `status`
+//! the state of a position, `rulings` the result of a game, `outcomes` what is found about an item, and `totals` what is counted
+//! over outcomes.
+#![tactic(auto)]
+
+mod items;
+mod outcomes;
+mod questions;
+mod rulings;
+mod status;
+mod totals;
+mod unreadable;
+
+pub use items::{Item, PlayedGame, item_of_game, item_of_line};
+pub use outcomes::Outcome;
+pub use questions::Question;
+pub use rulings::{Cause, Judgment, changes_result, first_examined, judgment_of, ruling};
+pub use status::{PositionStatus, status_of};
+pub use totals::Totals;
+pub use unreadable::Unreadable;

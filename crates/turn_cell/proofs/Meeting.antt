@@ -7,10 +7,10 @@ use Rattle.atomic_table.proofs.Lists.{set_else}
 use Rattle.atomic_table.specs.Table.{State, Me, Step, stepped, keeps}
 use mathlib.Core.Logic.{dite}
 use native.Mathlib.Decide.{ℕ_discrete}
-use Rattle.turn_cell.proofs.Counting.{waiting_set, living_set, living_some}
+use Rattle.turn_cell.proofs.Counting.{living_set, living_some}
 use Rattle.turn_cell.proofs.Splitting.{splits_known, joins_known}
 use Rattle.turn_cell.proofs.Prefix.{both_in}
-use Rattle.turn_cell.proofs.Same.{there, tickets_same, set_there, room_same}
+use Rattle.turn_cell.proofs.Same.{there, turns_same, set_there, room_same}
 use Rattle.turn_cell.specs.Rule.{TakesTurns, Fits, NoneHasTurn, SomeHasTurn, FirstCounts, SomeHasSeenAll, lives}
 use Rattle.turn_cell.specs.Passes.{Joined, known_in}
 use Rattle.turn_cell.specs.RuleSteps.{Meets}
@@ -39,7 +39,7 @@ module _ {V C R : Type 0} (step : V → C → R → V → Type 0) (start : V) (s
       (λ t. record { old = u; place = t.1; lived = λ l. l; number = refl; joined_number = λ n g. g })
       (there s.views id v w at j u e)
 
-  fits : Fits start k.history k.drawn w
+  fits : Fits start k.history w
   fits = let f = k.each id v at in record {
     origin = f.origin;
     before = f.before;
@@ -48,7 +48,6 @@ module _ {V C R : Type 0} (step : V → C → R → V → Type 0) (start : V) (s
     own_seen = f.own_seen;
     joined_number = λ n g. cc;
     joined_number_seen = λ n g. cc;
-    ticket = f.ticket;
     has_turn = f.has_turn;
   }
 
@@ -75,23 +74,22 @@ module _ {V C R : Type 0} (step : V → C → R → V → Type 0) (start : V) (s
   pub met_kept : TakesTurns step start (stepped s 0 (get_or s.words 0 0) id [] (after_meeting v) keeps)
   met_kept = record {
     history = k.history;
-    drawn = k.drawn;
+    word = k.word;
     made = k.made;
     returned = k.returned;
     words = set-get_or s.words 0 0 ∙ k.words;
-    waiting = let h = waiting_set s.views id v w at in let c = k.waiting in omega (arith, h, c);
     places = room_same s.views id v w at k.made k.places;
     few = k.few;
     living = let a = living_set s.views id v w at in let b = k.living in omega (arith, a, b);
     counts = counts;
     up_to = λ j u e. let x = was j u e in let b = k.up_to j x.old x.place in (subst (λ m. m ≤ k.made) x.number b.0, λ n g. b.1 n (x.joined_number n g));
     above = k.above;
-    each = λ j u e. ⊎_elim (λ t. subst (Fits start k.history k.drawn) t.1 fits) (λ t. k.each j u t.1) (there s.views id v w at j u e);
+    each = λ j u e. ⊎_elim (λ t. subst (Fits start k.history) t.1 fits) (λ t. k.each j u t.1) (there s.views id v w at j u e);
     numbers = λ i j a b e f la lb eq. let x = was i a e in let y = was j b f in k.numbers i j x.old y.old x.place y.place (x.lived la) (y.lived lb) (x.number ∙ (eq ∙ sym y.number));
     away = λ i j n a b e f g lb eq. let x = was i a e in let y = was j b f in k.away i j n x.old y.old x.place y.place (x.joined_number n g) (y.lived lb) (y.number ∙ eq);
-    tickets = tickets_same s.views id v w at refl k.tickets;
+    turns = turns_same s.views id v w at refl k.turns;
     seen_all = seen_all;
-    slot = ⊎_elim (λ h. inl (h.0, h.1, h.2, h.3, h.4, none_turns h.5)) (λ h. inr (h.0, some_turns h.1)) k.slot;
+    slot = ⊎_elim (λ h. inl (h.0, h.1, h.2, h.3, h.4, none_turns h.5, h.6)) (λ h. inr (h.0, some_turns h.1, h.2)) k.slot;
   }
 
 -- no more passes were taken returned than were made

@@ -18,7 +18,7 @@ module _ {V C R : Type 0} (step : V → C → R → V → Type 0) (key : Snapsho
   abbrev begun : View V C R
   begun = first_view key
 
-  fits : Fits key.value [] 0 begun
+  fits : Fits key.value [] begun
   fits = record {
     origin = λ o e. let same : key ≡ o = same_Some key o e in ap (λ (x : Snapshot V). x.value) (sym same);
     before = ([], refl);
@@ -27,28 +27,26 @@ module _ {V C R : Type 0} (step : V → C → R → V → Type 0) (key : Snapsho
     own_seen = λ l. refl;
     joined_number = λ n g. cc;
     joined_number_seen = λ n g. cc;
-    ticket = λ t e. cc;
     has_turn = λ e. cc;
   }
 
-  pub opened : TakesTurns step key.value (opening (0 ∷ 0 ∷ []) (held ∷ []) (first_view key))
+  pub opened : TakesTurns step key.value (opening (0 ∷ []) (held ∷ []) (first_view key))
   opened = record {
     history = [];
-    drawn = 0;
+    word = 0;
     made = 0;
     returned = 0;
     words = refl;
-    waiting = refl;
     places = refl;
     few = omega arith;
     living = refl;
     counts = (begun, refl, refl, refl, refl, refl);
     up_to = λ i v e. (let same : 0 ≡ v.number = ap (λ (x : View V C R). x.number) (one_at begun v i e).1 in omega (arith, same), λ n g. let none : begun.joined_number ≡ Some n = ap (λ (x : View V C R). x.joined_number) (one_at begun v i e).1 ∙ g in cc);
     above = λ n lt. refl;
-    each = λ i v e. subst (Fits key.value [] 0) (one_at begun v i e).1 fits;
+    each = λ i v e. subst (Fits key.value []) (one_at begun v i e).1 fits;
     numbers = λ i j v w e f lv lw same. (one_at begun v i e).0 ∙ sym (one_at begun w j f).0;
     away = λ i j n v w e f g lw same. let none : begun.joined_number ≡ Some n = ap (λ (x : View V C R). x.joined_number) (one_at begun v i e).1 ∙ g in cc;
-    tickets = λ i j t v w e f h k. (one_at begun v i e).0 ∙ sym (one_at begun w j f).0;
+    turns = λ i j v w e f h k. (one_at begun v i e).0 ∙ sym (one_at begun w j f).0;
     seen_all = (0, begun, refl, refl, refl);
-    slot = inl (held, u, refl, has, is, λ i v e turn. let same : false ≡ v.has_turn = ap (λ (x : View V C R). x.has_turn) (one_at begun v i e).1 in cc);
+    slot = inl (held, u, refl, has, is, λ i v e turn. let same : false ≡ v.has_turn = ap (λ (x : View V C R). x.has_turn) (one_at begun v i e).1 in cc, refl);
   }

@@ -6,7 +6,7 @@ use Rattle.atomic_table.proofs.Lists.{at_set, set_else}
 use mathlib.Core.Logic.{dite}
 use native.Mathlib.Decide.{ℕ_discrete}
 use Rattle.turn_cell.proofs.Counting.{living_set, life}
-use Rattle.turn_cell.specs.Rule.{OwnNumbers, OwnTickets, FirstCounts, NumbersUpTo, StayAway, SomeHasSeenAll, lives, count_living}
+use Rattle.turn_cell.specs.Rule.{OwnNumbers, OneTurn, FirstCounts, NumbersUpTo, StayAway, SomeHasSeenAll, lives, count_living}
 use Rattle.turn_cell.specs.declared.object.Entry.{Entry}
 use Rattle.turn_cell.specs.declared.views.View.{View}
 
@@ -50,10 +50,10 @@ module _ {V C R : Type 0} (views : List (View V C R)) (id : ℕ) (v w : View V C
       let x = was l i a e in let y = was l j b f in
       d i j n x.old y.old x.place y.place (x.like.joined_number ∙ joined_number) (lived y.old b y.like lb) (y.like.number ∙ same)
 
-  pub tickets_same : v.ticket ≡ w.ticket → OwnTickets views → OwnTickets (set views id w)
-  tickets_same n own i j t a b e f ha hb = ⊎_elim
-      (λ x. ⊎_elim (λ y. x.0 ∙ sym y.0) (λ y. x.0 ∙ own id j t v b at y.1 (n ∙ (ap (λ (z : View V C R). z.ticket) x.1 ∙ ha)) hb) (there j b f))
-      (λ x. ⊎_elim (λ y. own i id t a v x.1 at ha (n ∙ (ap (λ (z : View V C R). z.ticket) y.1 ∙ hb)) ∙ sym y.0) (λ y. own i j t a b x.1 y.1 ha hb) (there j b f))
+  pub turns_same : v.has_turn ≡ w.has_turn → OneTurn views → OneTurn (set views id w)
+  turns_same n one i j a b e f ha hb = ⊎_elim
+      (λ x. ⊎_elim (λ y. x.0 ∙ sym y.0) (λ y. x.0 ∙ one id j v b at y.1 (n ∙ (ap (λ (z : View V C R). z.has_turn) x.1 ∙ ha)) hb) (there j b f))
+      (λ x. ⊎_elim (λ y. one i id a v x.1 at ha (n ∙ (ap (λ (z : View V C R). z.has_turn) y.1 ∙ hb)) ∙ sym y.0) (λ y. one i j a b x.1 y.1 ha hb) (there j b f))
       (there i a e)
 
   pub head_same : (made returned : ℕ) → Like v w → v.splits ≡ w.splits → v.joins ≡ w.joins → FirstCounts views made returned → FirstCounts (set views id w) made returned

@@ -13,7 +13,7 @@ pub(crate) fn split_off<V: Object>(
     shared: &CellShared<V, V::Call, V::Reply>,
     seat: &mut CellSeat<V, V::Call, V::Reply>,
 ) -> CellSeat<V, V::Call, V::Reply>
-    requires table { (seat.old.table_id ≡ shared.now.table_id) × (shared.now.table_id.words ≡ 2) }
+    requires table { (seat.old.table_id ≡ shared.now.table_id) × (shared.now.table_id.words ≡ 1) }
     requires lives { seat.old.me.0.origin ≡ Some shared.now.key }
     requires first { seat.old.me.0.number ≡ 0 }
     requires few { seat.old.me.0.splits < 1000 }
@@ -34,7 +34,7 @@ pub(crate) fn take_back<V: Object>(
     seat: &mut CellSeat<V, V::Call, V::Reply>,
     other: CellSeat<V, V::Call, V::Reply>,
 )
-    requires table { (seat.old.table_id ≡ shared.now.table_id) × (other.table_id ≡ shared.now.table_id) × (shared.now.table_id.words ≡ 2) }
+    requires table { (seat.old.table_id ≡ shared.now.table_id) × (other.table_id ≡ shared.now.table_id) × (shared.now.table_id.words ≡ 1) }
     requires lives { (seat.old.me.0.origin ≡ Some shared.now.key) × (other.me.0.origin ≡ Some shared.now.key) }
     requires first { seat.old.me.0.number ≡ 0 }
     requires idle { IsIdle seat.old.me × IsIdle other.me }

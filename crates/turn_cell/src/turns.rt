@@ -54,7 +54,7 @@ impl<V: Object> TurnCell<V> {
         }
     }
 
-    /// Makes one call at the value. It may wait for turns of other passes to end, and lets other threads run meanwhile.
+    /// Makes one call at the value. It may wait for turns of other passes to end, and sleeps where that takes long.
     ///
     /// The pass then knows one legal history of all calls up to this one, which goes on from what it knew and ends with
     /// this call. No memory is taken but by the call itself.

@@ -8,7 +8,7 @@ use std::snapshot::Snapshot;
 
 /// What is known of a pass. No value of it is made.
 ///
-/// The fields that begin with `joined` are set from a join to the look at the number served that ends it: a join tells its
+/// The fields that begin with `joined` are set from a join to the look at the word that ends it: a join tells its
 /// caller no more than what both views said, and that look then tells how they fit the one history.
 pub(crate) struct View<V, C, R> {
     /// The first value of the cell. There is none once the pass was taken back.
@@ -19,8 +19,6 @@ pub(crate) struct View<V, C, R> {
     pub(crate) splits: u64,
     /// How many of them it took back.
     pub(crate) joins: u64,
-    /// The ticket that the pass drew and that is not served yet.
-    pub(crate) ticket: Option<u64>,
     /// The pass has the turn, and the slot.
     pub(crate) has_turn: bool,
     /// The part of the history that the pass has seen.

@@ -12,10 +12,10 @@ join_seat-requires g c =
     let r = c.requires in (
       r.table.0,
       r.table.1,
-      r.idle.1.2,
+      r.idle.1.1,
       omega (arith, r.table.2),
       λ s k at apart at'.
-          join_kept _ _ s k c.args.seat.now.id c.args.seat.now.me.0 at (ap (λ o. is_some o) r.lives.0) r.first r.idle.0.0 r.idle.0.1 c.args.other.id c.args.other.me.0 apart at' (ap (λ o. is_some o) r.lives.1) r.idle.1.0 r.idle.1.1,
+          join_kept _ _ s k c.args.seat.now.id c.args.seat.now.me.0 at (ap (λ o. is_some o) r.lives.0) r.first r.idle.0.0 c.args.other.id c.args.other.me.0 apart at' (ap (λ o. is_some o) r.lives.1) r.idle.1.0,
     )
 
 pub load-requires : goal.load-requires
@@ -23,7 +23,7 @@ load-requires g c =
     let r = c.requires in
     let e = c.join_seat.ensures in
     let m = c.join_seat.new.seat.me in
-    let no_turn = ap (λ x. x.0.has_turn) e.2 ∙ r.idle.0.1 in
+    let no_turn = ap (λ x. x.0.has_turn) e.2 ∙ r.idle.0.0 in
     let live : lives m.0 ≡ true = ap (λ x. is_some x.0.origin) e.2 ∙ ap (λ o. is_some o) r.lives.0 in
     let first = ap (λ x. x.0.number) e.2 ∙ r.first in (
       e.0 ∙ r.table.0,

@@ -7,4 +7,5 @@ pub mod Makes
 pub mod Making
 -- inside the crate
 pub mod Replays
+pub mod Places
 pub mod Eights

@@ -132,7 +132,7 @@ fn close_each(table: Table, pass: TablePass) -> [Shard; 8]
 }
 
 impl Table {
-    /// Eight empty shards, each for 1 to 65,536 rows, and the table's first pass.
+    /// Eight empty shards, each with room for 1 to 65,536 rows, and the table's first pass.
     pub fn new(alloc: Global, entries: u32) -> Result<(Table, TablePass), NoMemory>
         requires some { 1 ≤ entries }
         requires few { entries ≤ 65536 }

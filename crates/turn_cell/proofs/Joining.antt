@@ -1,5 +1,5 @@
 -- A pass that is taken returned keeps the rule.
-use Rattle.std.proofs.Common.{◌≡◌, ◌≢◌, ◌∙◌, sym, ap, subst, refl, ℕ, ◌+◌, ◌≤◌, inl, inr, ⊎_elim, true, false, List, length, set, Some, arith, length-set}
+use Rattle.std.proofs.Common.{◌≡◌, ◌≢◌, ◌∙◌, sym, ap, subst, refl, ℕ, ◌+◌, ◌≤◌, inl, inr, ⊎_elim, true, false, List, length, set, arith, length-set}
 use mathlib.Core.Option as maybe
 use lib.ListN.{get_elem?}
 use Rattle.atomic_table.proofs.Lists.{set_else}
@@ -10,7 +10,8 @@ use Rattle.turn_cell.proofs.Counting.{living_set, life_one}
 use Rattle.turn_cell.proofs.Prefix.{both_in, longer_in, longer_all, longer_all', squeeze}
 use Rattle.turn_cell.proofs.Same.{there, set_there}
 use Rattle.turn_cell.proofs.Splitting.{is_first, splits_known, joins_known}
-use Rattle.turn_cell.specs.Histories.{IsPrefix, entries_of, longer_of}
+use Rattle.turn_cell.specs.Histories.{IsPrefix, entries_of, longer_of, IsOneOf, taken_back}
+use Rattle.turn_cell.specs.declared.object.TakenBack.{TakenBack}
 use Rattle.turn_cell.specs.Views.{shorter_of}
 use Rattle.turn_cell.specs.Rule.{TakesTurns, Fits, SomeHasTurn, OwnNumbers, OneTurn, SomeHasSeenAll, lives}
 use Rattle.turn_cell.specs.Views.{after_join, spent_view}
@@ -47,8 +48,8 @@ module _ {V C R : Type 0} (step : V → C → R → V → Type 0) (start : V) (s
   parts : IsPrefix v.seen (longer_of v.seen w.seen) × IsPrefix w.seen (longer_of v.seen w.seen)
   parts = both_in v.seen w.seen k.history both.0 both.1
 
-  gone_is : (n : ℕ) → Some w.number ≡ Some n → w.number ≡ n
-  gone_is n e = cc
+  abbrev this : TakenBack C R
+  this = taken_back w.number w.mine
 
   fits_one : Fits start k.history one_view
   fits_one = record {
@@ -57,8 +58,11 @@ module _ {V C R : Type 0} (step : V → C → R → V → Type 0) (start : V) (s
     joined_shorter = both.1;
     own = fv.own;
     own_seen = λ l. squeeze v.number v.seen (longer_of v.seen w.seen) k.history v.mine parts.0 both.0 (fv.own_seen l) (fv.own l);
-    joined_number = λ n g. subst (λ m. entries_of m k.history ≡ w.mine) (gone_is n g) (fw.own live');
-    joined_number_seen = λ n g. subst (λ m. entries_of m (longer_of v.seen w.seen) ≡ w.mine) (gone_is n g) (squeeze w.number w.seen (longer_of v.seen w.seen) k.history w.mine parts.1 both.0 (fw.own_seen live') (fw.own live'));
+    taken = λ x g. ⊎_elim (λ e. subst (λ (y : TakenBack C R). entries_of y.number k.history ≡ y.mine) e (fw.own live')) (λ h. fv.taken x h) g;
+    taken_seen = λ x g. ⊎_elim
+        (λ e. subst (λ (y : TakenBack C R). entries_of y.number (longer_of v.seen w.seen) ≡ y.mine) e (squeeze w.number w.seen (longer_of v.seen w.seen) k.history w.mine parts.1 both.0 (fw.own_seen live') (fw.own live')))
+        (λ h. squeeze x.number v.seen (longer_of v.seen w.seen) k.history x.mine parts.0 both.0 (fv.taken_seen x h) (fv.taken x h))
+        g;
     has_turn = λ t. let no = no_turn in cc;
   }
 
@@ -69,8 +73,8 @@ module _ {V C R : Type 0} (step : V → C → R → V → Type 0) (start : V) (s
     joined_shorter = (k.history, refl);
     own = λ l. cc;
     own_seen = λ l. cc;
-    joined_number = λ n g. cc;
-    joined_number_seen = λ n g. cc;
+    taken = λ x g. absurd g;
+    taken_seen = λ x g. absurd g;
     has_turn = λ t. cc;
   }
 
@@ -112,16 +116,18 @@ module _ {V C R : Type 0} (step : V → C → R → V → Type 0) (start : V) (s
       let x = lived i a la (place i a e) in let y = lived j b lb (place j b f) in
       k.numbers i j x.old y.old x.was y.was x.lived y.lived (x.number ∙ (same ∙ sym y.number))
 
-  departs : (i j n : ℕ) (a b : View V C R) → Place i a → Lived j b → a.joined_number ≡ Some n → b.number ≢ n
-  departs i j n a b (is_one h e) y joined_number same =
-      let is : w.number ≡ n = gone_is n (ap (λ (x : View V C R). x.joined_number) e ∙ joined_number) in
-      y.away (k.numbers j to y.old w y.was there' y.lived live' (y.number ∙ (same ∙ sym is)))
-  departs i j n a b (is_spent h e) y joined_number same = let none : dead.joined_number ≡ Some n = ap (λ (x : View V C R). x.joined_number) e ∙ joined_number in cc
-  departs i j n a b (is_other h h' e) y joined_number same = k.away i j n a y.old e y.was joined_number y.lived (y.number ∙ same)
+  departs : (i j : ℕ) (x : TakenBack C R) (a b : View V C R) → Place i a → Lived j b → IsOneOf a.taken x → b.number ≢ x.number
+  departs i j x a b (is_one h e) y has same = ⊎_elim
+      (λ is. y.away (k.numbers j to y.old w y.was there' y.lived live' (y.number ∙ (same ∙ ap (λ (z : TakenBack C R). z.number) (sym is)))))
+      (λ before. k.away id j x v y.old at y.was before y.lived (y.number ∙ same))
+      (subst (λ (z : View V C R). IsOneOf z.taken x) (sym e) has)
+  departs i j x a b (is_spent h e) y has same = subst (λ (z : View V C R). IsOneOf z.taken x) (sym e) has
+  departs i j x a b (is_other h h' e) y has same = k.away i j x a y.old e y.was has y.lived (y.number ∙ same)
 
-  belows : (j : ℕ) (u : View V C R) → Place j u → (u.number ≤ k.made) × ((n : ℕ) → u.joined_number ≡ Some n → n ≤ k.made)
-  belows j u (is_one i e) = subst (λ (x : View V C R). (x.number ≤ k.made) × ((n : ℕ) → x.joined_number ≡ Some n → n ≤ k.made)) e ((k.up_to id v at).0, λ n g. subst (λ m. m ≤ k.made) (gone_is n g) (k.up_to to w there').0)
-  belows j u (is_spent i e) = subst (λ (x : View V C R). (x.number ≤ k.made) × ((n : ℕ) → x.joined_number ≡ Some n → n ≤ k.made)) e (omega arith, λ n g. cc)
+  belows : (j : ℕ) (u : View V C R) → Place j u → (u.number ≤ k.made) × ((x : TakenBack C R) → IsOneOf u.taken x → x.number ≤ k.made)
+  belows j u (is_one i e) = subst (λ (z : View V C R). (z.number ≤ k.made) × ((x : TakenBack C R) → IsOneOf z.taken x → x.number ≤ k.made)) e
+      ((k.up_to id v at).0, λ x g. ⊎_elim (λ is. subst (λ (y : TakenBack C R). y.number ≤ k.made) is (k.up_to to w there').0) (λ before. (k.up_to id v at).1 x before) g)
+  belows j u (is_spent i e) = subst (λ (z : View V C R). (z.number ≤ k.made) × ((x : TakenBack C R) → IsOneOf z.taken x → x.number ≤ k.made)) e (omega arith, λ x g. absurd g)
   belows j u (is_other i i' e) = k.up_to j u e
 
   was_turn : (j : ℕ) (u : View V C R) → Place j u → u.has_turn ≡ true → get_elem? s.views j ≡ maybe.some u
@@ -185,7 +191,7 @@ module _ {V C R : Type 0} (step : V → C → R → V → Type 0) (start : V) (s
     above = k.above;
     each = λ j u e. each j u (place j u e);
     numbers = numbers;
-    away = λ i j n a b e f g lb. departs i j n a b (place i a e) (lived j b lb (place j b f)) g;
+    away = λ i j x a b e f g lb. departs i j x a b (place i a e) (lived j b lb (place j b f)) g;
     turns = turns;
     seen_all = seen_all;
     slot = ⊎_elim (λ h. inl (h.0, h.1, h.2, h.3, h.4, λ j u e t. h.5 j u (was_turn j u (place j u e) t) t, h.6)) (λ h. inr (h.0, some_turns h.1, h.2)) k.slot;

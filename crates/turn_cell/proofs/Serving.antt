@@ -46,8 +46,8 @@ module _ {V C R : Type 0} (step : V → C → R → V → Type 0) (start : V) (s
     joined_shorter = (f.joined_shorter.0 ++ e ∷ [], ap (λ xs. xs ++ e ∷ []) f.joined_shorter.1 ∙ append_assoc v.joined_shorter f.joined_shorter.0 (e ∷ []));
     own = λ l. own_more v.number e k.history refl ∙ ap (λ xs. xs ++ e ∷ []) (f.own l);
     own_seen = λ l. own_more v.number e v.seen refl ∙ ap (λ xs. xs ++ e ∷ []) (f.own_seen l);
-    joined_number = λ n g. other_same n e k.history (k.away id id n v v at at g live) ∙ f.joined_number n g;
-    joined_number_seen = λ n g. other_same n e v.seen (k.away id id n v v at at g live) ∙ f.joined_number_seen n g;
+    taken = λ x g. other_same x.number e k.history (k.away id id x v v at at g live) ∙ f.taken x g;
+    taken_seen = λ x g. other_same x.number e v.seen (k.away id id x v v at at g live) ∙ f.taken_seen x g;
     has_turn = λ h. cc;
   }
 
@@ -58,8 +58,8 @@ module _ {V C R : Type 0} (step : V → C → R → V → Type 0) (start : V) (s
     joined_shorter = (old.joined_shorter.0 ++ e ∷ [], ap (λ xs. xs ++ e ∷ []) old.joined_shorter.1 ∙ append_assoc x.joined_shorter old.joined_shorter.0 (e ∷ []));
     own = λ l. other_same x.number e k.history (λ same. apart (k.numbers j id x v f at l live (sym same))) ∙ old.own l;
     own_seen = old.own_seen;
-    joined_number = λ n g. other_same n e k.history (k.away j id n x v f at g live) ∙ old.joined_number n g;
-    joined_number_seen = old.joined_number_seen;
+    taken = λ y g. other_same y.number e k.history (k.away j id y x v f at g live) ∙ old.taken y g;
+    taken_seen = old.taken_seen;
     has_turn = λ t. absurd (apart (one_turns j x f t));
   }
 
@@ -73,7 +73,7 @@ module _ {V C R : Type 0} (step : V → C → R → V → Type 0) (start : V) (s
   was_out = ⊎_elim (λ h. absurd (h.5 id v at turns)) (λ h. h.0) k.slot
 
   like : Like v w
-  like = record { origin = refl; number = refl; joined_number = refl }
+  like = record { origin = refl; number = refl; taken = refl }
 
   pub served_kept : TakesTurns step start (stepped s 0 0 id ((0, held) ∷ []) w gives)
   served_kept = record {

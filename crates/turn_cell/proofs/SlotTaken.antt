@@ -57,13 +57,13 @@ module _ {V C R : Type 0} (step : V → C → R → V → Type 0) (start : V) (s
       joined_shorter = f.joined_shorter;
       own = f.own;
       own_seen = f.own;
-      joined_number = f.joined_number;
-      joined_number_seen = f.joined_number;
+      taken = f.taken;
+      taken_seen = f.taken;
       has_turn = λ _. refl;
     }
 
     like : Like v w
-    like = record { origin = refl; number = refl; joined_number = refl }
+    like = record { origin = refl; number = refl; taken = refl }
 
     only_this : (j : ℕ) (u : View V C R) → get_elem? (set s.views id w) j ≡ maybe.some u → u.has_turn ≡ true → j ≡ id
     only_this j u e t = ⊎_elim (λ x. x.0) (λ x. absurd (at_home.5 j u x.1 t)) (there s.views id v w at j u e)

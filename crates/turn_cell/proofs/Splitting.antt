@@ -1,5 +1,5 @@
 -- A new pass keeps the rule.
-use Rattle.std.proofs.Common.{◌≡◌, ◌∙◌, sym, ap, subst, refl, ℕ, ◌+◌, ◌<◌, ◌⊎◌, inl, inr, ⊎_elim, true, List, [], ◌∷◌, ◌++◌, length, set, Some, arith, length-set, length-append, zero, suc}
+use Rattle.std.proofs.Common.{◌≡◌, ◌∙◌, sym, ap, subst, refl, ℕ, ◌+◌, ◌<◌, ◌⊎◌, inl, inr, ⊎_elim, true, List, [], ◌∷◌, ◌++◌, length, set, arith, length-set, length-append, zero, suc}
 use mathlib.Core.Option as maybe
 use lib.ListN.{get_elem?}
 use Rattle.atomic_table.proofs.Lists.{at_longer, set_else}
@@ -9,7 +9,8 @@ use native.Mathlib.Decide.{ℕ_discrete}
 use Rattle.turn_cell.proofs.Counting.{living_more, life_one}
 use Rattle.turn_cell.proofs.Prefix.{none_seen}
 use Rattle.turn_cell.proofs.Same.{there, numbers_same, turns_same, departed_same, knows_same, below_same, alive_same, set_there, Like}
-use Rattle.turn_cell.specs.Histories.{entries_of}
+use Rattle.turn_cell.specs.Histories.{entries_of, IsOneOf}
+use Rattle.turn_cell.specs.declared.object.TakenBack.{TakenBack}
 use Rattle.turn_cell.specs.Rule.{TakesTurns, Fits, NoneHasTurn, SomeHasTurn, OwnNumbers, OneTurn, NumbersUpTo, StayAway, SomeHasSeenAll, lives}
 use Rattle.turn_cell.specs.Views.{after_split, split_view}
 use Rattle.turn_cell.specs.declared.views.View.{View}
@@ -54,10 +55,10 @@ module _ {V C R : Type 0} (step : V → C → R → V → Type 0) (start : V) (s
   known = splits_known step start s k id v at live first
 
   like : Like v left
-  like = record { origin = refl; number = refl; joined_number = refl }
+  like = record { origin = refl; number = refl; taken = refl }
 
   fits_left : Fits start k.history left
-  fits_left = let f = k.each id v at in record { origin = f.origin; before = f.before; joined_shorter = f.joined_shorter; own = f.own; own_seen = f.own_seen; joined_number = f.joined_number; joined_number_seen = f.joined_number_seen; has_turn = f.has_turn }
+  fits_left = let f = k.each id v at in record { origin = f.origin; before = f.before; joined_shorter = f.joined_shorter; own = f.own; own_seen = f.own_seen; taken = f.taken; taken_seen = f.taken_seen; has_turn = f.has_turn }
 
   none_new : entries_of (v.splits + 1) k.history ≡ []
   none_new = k.above (v.splits + 1) (let g = known in omega (arith, g))
@@ -69,8 +70,8 @@ module _ {V C R : Type 0} (step : V → C → R → V → Type 0) (start : V) (s
     joined_shorter = (k.history, refl);
     own = λ l. none_new;
     own_seen = λ l. none_seen (v.splits + 1) v.seen k.history f.before none_new;
-    joined_number = λ n g. cc;
-    joined_number_seen = λ n g. cc;
+    taken = λ x g. absurd g;
+    taken_seen = λ x g. absurd g;
     has_turn = λ h. cc;
   }
 
@@ -98,16 +99,16 @@ module _ {V C R : Type 0} (step : V → C → R → V → Type 0) (start : V) (s
       (λ x. ⊎_elim (λ y. absurd (not_new j b y (sym same ∙ number_right a x.1))) (λ y. x.0 ∙ sym y.0) (where_is j b f))
       (where_is i a e)
 
-  none_gone : (n : ℕ) (u : View V C R) → right ≡ u → u.joined_number ≡ Some n → ⊥
-  none_gone n u e has = let none : right.joined_number ≡ Some n = ap (λ (x : View V C R). x.joined_number) e ∙ has in cc
+  none_gone : (x : TakenBack C R) (u : View V C R) → right ≡ u → IsOneOf u.taken x → ⊥
+  none_gone x u e has = subst (λ (z : View V C R). IsOneOf z.taken x) (sym e) has
 
   away : StayAway views
-  away i j n a b e f joined_number lb same = ⊎_elim
+  away i j n a b e f has lb same = ⊎_elim
       (λ x. ⊎_elim
-      (λ y. departed_same s.views id v left at like k.away i j n a b x y joined_number lb same)
-      (λ y. let m = (mid_below i a x).1 n joined_number in let g = known in let r = number_right b y.1 in omega (arith, m, g, r, same))
+      (λ y. departed_same s.views id v left at like k.away i j n a b x y has lb same)
+      (λ y. let m = (mid_below i a x).1 n has in let g = known in let r = number_right b y.1 in omega (arith, m, g, r, same))
       (where_is j b f))
-      (λ x. none_gone n a x.1 joined_number)
+      (λ x. none_gone n a x.1 has)
       (where_is i a e)
 
   turns : OneTurn views

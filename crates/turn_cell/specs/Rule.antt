@@ -4,8 +4,9 @@ use Rattle.std.specs.declared.snapshot.Snapshot.{Snapshot}
 use mathlib.Core.Option as maybe
 use lib.ListN.{get_elem?}
 use Rattle.atomic_table.specs.Table.{State}
-use Rattle.turn_cell.specs.Histories.{entries_of, IsLegalHistory, IsPrefix}
+use Rattle.turn_cell.specs.Histories.{entries_of, IsLegalHistory, IsPrefix, IsOneOf, AreTheirs}
 use Rattle.turn_cell.specs.declared.object.Entry.{Entry}
+use Rattle.turn_cell.specs.declared.object.TakenBack.{TakenBack}
 use Rattle.turn_cell.specs.declared.views.Held.{Held}
 use Rattle.turn_cell.specs.declared.views.View.{View}
 
@@ -31,8 +32,8 @@ module _ {V C R : Type 0} where
     pub joined_shorter : IsPrefix v.joined_shorter history
     pub own : lives v ≡ true → entries_of v.number history ≡ v.mine
     pub own_seen : lives v ≡ true → entries_of v.number v.seen ≡ v.mine
-    pub joined_number : (n : ℕ) → v.joined_number ≡ Some n → entries_of n history ≡ v.joined_mine
-    pub joined_number_seen : (n : ℕ) → v.joined_number ≡ Some n → entries_of n v.seen ≡ v.joined_mine
+    pub taken : AreTheirs v.taken history
+    pub taken_seen : AreTheirs v.taken v.seen
     pub has_turn : v.has_turn ≡ true → v.seen ≡ history
 
   -- no pass has the turn
@@ -57,11 +58,11 @@ module _ {V C R : Type 0} where
 
   -- no pass, and none that was taken back, has a number above the last that was given
   abbrev pub NumbersUpTo : List (View V C R) → ℕ → Type 0
-  NumbersUpTo views last = (i : ℕ) (v : View V C R) → get_elem? views i ≡ maybe.some v → (v.number ≤ last) × ((n : ℕ) → v.joined_number ≡ Some n → n ≤ last)
+  NumbersUpTo views last = (i : ℕ) (v : View V C R) → get_elem? views i ≡ maybe.some v → (v.number ≤ last) × ((x : TakenBack C R) → IsOneOf v.taken x → x.number ≤ last)
 
   -- the number of a pass that was taken back is no pass's
   abbrev pub StayAway : List (View V C R) → Type 0
-  StayAway views = (i j n : ℕ) (v w : View V C R) → get_elem? views i ≡ maybe.some v → get_elem? views j ≡ maybe.some w → v.joined_number ≡ Some n → lives w ≡ true → w.number ≢ n
+  StayAway views = (i j : ℕ) (x : TakenBack C R) (v w : View V C R) → get_elem? views i ≡ maybe.some v → get_elem? views j ≡ maybe.some w → IsOneOf v.taken x → lives w ≡ true → w.number ≢ x.number
 
   -- some pass has seen the whole history
   abbrev pub SomeHasSeenAll : List (Entry C R) → List (View V C R) → Type 0

@@ -3,7 +3,7 @@ use Rattle.std.specs.Prelude.{◌≡◌, ◌≢◌, ◌≤◌, ◌⊎◌, ℕ, L
 use Rattle.std.specs.declared.option.Option.{Option}
 use Rattle.std.specs.declared.snapshot.Snapshot.{Snapshot}
 use Rattle.atomic_table.specs.Table.{Me, Step}
-use Rattle.turn_cell.specs.Histories.{entries_of, IsLegalHistory, IsPrefix}
+use Rattle.turn_cell.specs.Histories.{entries_of, IsLegalHistory, IsPrefix, AreTheirs}
 use Rattle.turn_cell.specs.Views.{with_turn, after_call, after_meeting}
 use Rattle.turn_cell.specs.declared.object.Entry.{Entry}
 use Rattle.turn_cell.specs.declared.views.Held.{Held}
@@ -34,4 +34,4 @@ module _ {V C R : Type 0} where
   -- both lists of a join are prefixes of one history, the entries of both passes in it are those that each knew, and no more passes came back than were made
   abbrev pub Meets : Step (Held V C R) → Me (Held V C R) (View V C R) → ℕ → Me (Held V C R) (View V C R) → Type 0
   Meets s old found new = (history : List (Entry C R)) × IsPrefix old.0.seen history × IsPrefix old.0.joined_shorter history
-      × ((n : ℕ) → old.0.joined_number ≡ Some n → entries_of n old.0.seen ≡ old.0.joined_mine) × (entries_of old.0.number old.0.seen ≡ old.0.mine) × (old.0.joins ≤ old.0.splits) × (new ≡ (after_meeting old.0, old.1))
+      × AreTheirs old.0.taken old.0.seen × (entries_of old.0.number old.0.seen ≡ old.0.mine) × (old.0.joins ≤ old.0.splits) × (new ≡ (after_meeting old.0, old.1))

@@ -1,7 +1,7 @@
 //! A pass split off, and a pass taken back.
 
-ghost use Rattle.std.specs.Prelude.{◌≡◌, ◌<◌, ◌≤◌, ◌+◌, [], Some};
-ghost use Rattle.turn_cell.specs.Histories.{entries_of};
+ghost use Rattle.std.specs.Prelude.{◌≡◌, ◌<◌, ◌≤◌, ◌+◌, [], ◌∷◌, Some};
+ghost use Rattle.turn_cell.specs.Histories.{entries_of, taken_back, AreTheirs};
 ghost use Rattle.turn_cell.specs.Passes.{known_in, Joined};
 ghost use Rattle.turn_cell.specs.Views.{after_split, split_view, IsIdle};
 
@@ -41,6 +41,8 @@ pub(crate) fn take_back<V: Object>(
     ensures table { seat.new.table_id ≡ seat.old.table_id }
     ensures lives { seat.new.me.0.origin ≡ Some shared.now.key }
     ensures joined { Joined (known_in seat.old.me.0) (known_in other.me.0) (known_in seat.new.me.0) }
+    ensures taken { seat.new.me.0.taken ≡ taken_back other.me.0.number other.me.0.mine ∷ seat.old.me.0.taken }
+    ensures theirs { AreTheirs seat.new.me.0.taken seat.new.me.0.seen }
     ensures fewer { seat.new.me.0.joins ≤ seat.new.me.0.splits }
     ensures idle { IsIdle seat.new.me }
 {

@@ -3,7 +3,7 @@ use Rattle.atomic_table.specs.Table.{keeps, step as step_of}
 use mathlib.Core.Option.{none}
 use Rattle.turn_cell.specs.Rule.{lives}
 use Rattle.turn_cell.proofs.Joining.{join_kept}
-use Rattle.turn_cell.proofs.Meeting.{met_kept, fewer_back, joins_told}
+use Rattle.turn_cell.proofs.Meeting.{met_kept, fewer_back, joins_told, taken_told}
 use Rattle.turn_cell.specs.Views.{after_meeting}
 use Rattle.turn_cell.proofs.sharing.take_back.Goals as goal
 
@@ -29,8 +29,14 @@ load-requires g c =
       e.0 ∙ r.table.0,
       omega (arith, r.table.2),
       λ s k len at lt.
-          (after_meeting m.0, keeps, tt, met_kept _ _ s k c.join_seat.new.seat.id m.0 at no_turn, (k.history, (k.each _ _ at).before, (k.each _ _ at).joined_shorter, (k.each _ _ at).joined_number_seen, (k.each _ _ at).own_seen live, fewer_back _ _ s k c.join_seat.new.seat.id m.0 at live first, refl)),
+          (after_meeting m.0, keeps, tt, met_kept _ _ s k c.join_seat.new.seat.id m.0 at no_turn, (k.history, (k.each _ _ at).before, (k.each _ _ at).joined_shorter, (k.each _ _ at).taken_seen, (k.each _ _ at).own_seen live, fewer_back _ _ s k c.join_seat.new.seat.id m.0 at live first, refl)),
     )
 
 pub returns-clause-joined : goal.returns-clause-joined
 returns-clause-joined g c = joins_told c.args.seat.now.me.0 c.args.other.me.0 (step_of 0 0 0 0 none) c.load.result c.load.new.seat.me c.join_seat.new.seat.me c.args.seat.now.me.1 c.join_seat.ensures.2 c.load.ensures.2
+
+pub returns-clause-taken : goal.returns-clause-taken
+returns-clause-taken g c = (taken_told c.args.seat.now.me.0 c.args.other.me.0 (step_of 0 0 0 0 none) c.load.result c.load.new.seat.me c.join_seat.new.seat.me c.args.seat.now.me.1 c.join_seat.ensures.2 c.load.ensures.2).0
+
+pub returns-clause-theirs : goal.returns-clause-theirs
+returns-clause-theirs g c = (taken_told c.args.seat.now.me.0 c.args.other.me.0 (step_of 0 0 0 0 none) c.load.result c.load.new.seat.me c.join_seat.new.seat.me c.args.seat.now.me.1 c.join_seat.ensures.2 c.load.ensures.2).1

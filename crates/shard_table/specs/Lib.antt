@@ -9,3 +9,4 @@ pub mod Making
 pub mod Replays
 pub mod Places
 pub mod Eights
+pub mod Wholes

@@ -39,10 +39,11 @@ store_stays some more all q w d has = (has.0, all _ has.1)
 
 pub searched_more : (some more : List Entry) → Within some more → (q : Board) (w : Color) (d : ℕ) → IsSearched some q w d → IsSearched more q w d
 searched_more some more all q w zero done = done
-searched_more some more all q w (suc d) done =
+searched_more some more all q w (suc zero) done = done
+searched_more some more all q w (suc (suc d)) done =
     elim done [
-      | inl found ↦ inl (found_stays some more all q w (suc d) found)
-      | inr parts ↦ inr (probe_stays some more all q w parts.0, store_stays some more all q w (suc d) parts.1, λ m legal. searched_more some more all (after q m) w d (parts.2 m legal))
+      | inl found ↦ inl (found_stays some more all q w (suc (suc d)) found)
+      | inr parts ↦ inr (probe_stays some more all q w parts.0, store_stays some more all q w (suc (suc d)) parts.1, λ m legal. searched_more some more all (after q m) w (suc d) (parts.2 m legal))
     ]
 
 pub keys_tell : (a b : Board) (v w : Color) → IsValid a → IsValid b → (key_of a v ≡ key_of b w) ↔ ((a ≡ b) × (v ≡ w))

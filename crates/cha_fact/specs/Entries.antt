@@ -53,10 +53,12 @@ HasFound entries q winner depth =
 unfoldable pub HasStore : List Entry → Board → Color → ℕ → Type 0
 HasStore entries q winner depth = (reply : Stored) × Contains entries (store_entry (none_within q winner depth) reply)
 
--- a position was searched to a depth by these entries: nothing is to search, or it was found that there is no mate, or it
--- was asked for, each position after a legal move was searched to one ply less, and what came out was given to keep
+-- a position was searched to a depth by these entries: for one ply or none no place is asked; for more it was found that
+-- there is no mate, or the position was asked for, each position after a legal move was searched to one ply less, and what
+-- came out was given to keep
 abbrev pub IsSearched : List Entry → Board → Color → ℕ → Type 0
 IsSearched entries q winner zero = ⊤
-IsSearched entries q winner (suc depth) =
-    HasFound entries q winner (suc depth)
-    ⊎ (HasProbe entries q winner × HasStore entries q winner (suc depth) × ((m : Move) → Contains (legal q) m → IsSearched entries (after q m) winner depth))
+IsSearched entries q winner (suc zero) = ⊤
+IsSearched entries q winner (suc (suc depth)) =
+    HasFound entries q winner (suc (suc depth))
+    ⊎ (HasProbe entries q winner × HasStore entries q winner (suc (suc depth)) × ((m : Move) → Contains (legal q) m → IsSearched entries (after q m) winner (suc depth)))

@@ -22,7 +22,7 @@ use Rattle.helpmate.specs.declared.answers.RoundAnswer.{RoundAnswer}
 use Rattle.helpmate.specs.declared.answers.RoundAnswer.TheVariants.{NoneWithin}
 use Rattle.helpmate.specs.declared.answers.RoundDone.{RoundDone}
 use Rattle.helpmate.specs.Rounds.{decided_by, FollowsProbe, RoundCalls}
-use Rattle.helpmate.specs.Searches.{AreSearched, IsExpanded, Expands, BeginsWithProbe, Searches}
+use Rattle.helpmate.specs.Searches.{AreSearched, IsExpanded, Expands, BeginsWithProbe, Searches, RootSearches}
 use Rattle.helpmate.proofs.Saying.{says_none}
 
 -- after none of these moves there is a mate within so many plies
@@ -112,9 +112,19 @@ found_here : (entries : List Entry) (q : Board) (w : Color) (d : ℕ) (row : Cla
 unfolding HasFound
 found_here entries q w d row there e = (let s = says_none d row.fact e in (row, s.0, s.1, s.2, there))
 
-by_found : (entries : List Entry) (q : Board) (w : Color) (d : ℕ) → 0 < d → HasFound entries q w d → IsSearched entries q w d
-by_found entries q w zero some found = absurd (omega arith)
-by_found entries q w (suc d) some found = inl found
+by_found : (entries : List Entry) (q : Board) (w : Color) (d : ℕ) → HasFound entries q w d → IsSearched entries q w d
+by_found entries q w zero found = tt
+by_found entries q w (suc zero) found = tt
+by_found entries q w (suc (suc d)) found = inl found
+
+-- for one ply or none nothing is asked
+not_asked : (entries : List Entry) (q : Board) (w : Color) (d : ℕ) → d ≤ 1 → IsSearched entries q w d
+not_asked entries q w zero few = tt
+not_asked entries q w (suc zero) few = tt
+not_asked entries q w (suc (suc d)) few = absurd (omega (arith, few))
+
+pub shallow : {S : Type 0} (made : S → List Entry → S → Type 0) (s : S) (q : Board) (w : Color) (d units : ℕ) (result : Result RoundAnswer NoMemory) → made s [] s → d ≤ 1 → Searches made s s q w d units result
+shallow made s q w d units result none few = record { entries = []; entered = none; searched = λ same. not_asked [] q w d few; first = λ deep. absurd (omega (arith, few, deep)) }
 
 pub the_same : (a b : RoundAnswer) (o : Option RoundAnswer) → o ≡ Some a → o ≡ Some b → a ≡ b
 the_same a b o e f = cc
@@ -129,16 +139,16 @@ follows_found d units reply row answer is decided none =
     subst F (sym is) (λ b says. (the_same answer b (decided_by d row.fact) decided says, none))
 
 pub decides : {S : Type 0} (made : S → List Entry → S → Type 0) (old new : S) (q : Board) (w : Color) (d units : ℕ) (reply : Probe) (row : Claim) (answer : RoundAnswer) (result : Result RoundAnswer NoMemory)
-    → made old (probe_entry (key_of q w) reply ∷ []) new → reply ≡ Found row → decided_by d row.fact ≡ Some answer → 0 < d → units ≡ 0 → result ≡ Ok answer → Searches made old new q w d units result
+    → made old (probe_entry (key_of q w) reply ∷ []) new → reply ≡ Found row → decided_by d row.fact ≡ Some answer → units ≡ 0 → result ≡ Ok answer → RootSearches made old new q w d units result
 unfolding BeginsWithProbe
-decides made old new q w d units reply row answer result entered is decided some none ends =
+decides made old new q w d units reply row answer result entered is decided none ends =
     let first = probe_entry (key_of q w) reply in
     let there : Contains (first ∷ []) (probe_entry (key_of q w) (Found row)) = Contains-cons_here first [] (probe_entry (key_of q w) (Found row)) (ap (λ (p : Probe). probe_entry (key_of q w) p) is) in
     record {
       entries = first ∷ [];
       entered = entered;
-      searched = λ same. by_found (first ∷ []) q w d some (found_here (first ∷ []) q w d row there (decided ∙ ap Some (the_answer answer NoneWithin result ends same)));
-      first = λ _. (
+      searched = λ same. by_found (first ∷ []) q w d (found_here (first ∷ []) q w d row there (decided ∙ ap Some (the_answer answer NoneWithin result ends same)));
+      first = (
         reply,
         [],
         refl,
@@ -148,11 +158,20 @@ decides made old new q w d units reply row answer result entered is decided some
       );
     }
 
-by_parts : (entries : List Entry) (q : Board) (w : Color) (d : ℕ) → 0 < d → HasProbe entries q w → HasStore entries q w d → AreSearched entries q w (d - 1) (legal q) → IsSearched entries q w d
+-- a search whose position was asked for
+pub of_root : {S : Type 0} (made : S → List Entry → S → Type 0) (old new : S) (q : Board) (w : Color) (d units : ℕ) (result : Result RoundAnswer NoMemory) → RootSearches made old new q w d units result → Searches made old new q w d units result
+of_root made old new q w d units result h = record { entries = h.entries; entered = h.entered; searched = h.searched; first = λ deep. h.first }
+
+-- from two plies on each position is asked for
+pub asks_root : {S : Type 0} (made : S → List Entry → S → Type 0) (old new : S) (q : Board) (w : Color) (d units : ℕ) (result : Result RoundAnswer NoMemory) → Searches made old new q w d units result → 1 < d → RootSearches made old new q w d units result
+asks_root made old new q w d units result h deep = record { entries = h.entries; entered = h.entered; searched = h.searched; first = h.first deep }
+
+by_parts : (entries : List Entry) (q : Board) (w : Color) (d : ℕ) → HasProbe entries q w → HasStore entries q w d → AreSearched entries q w (d - 1) (legal q) → IsSearched entries q w d
 unfolding AreSearched
-by_parts entries q w zero some probed stored all = absurd (omega arith)
-by_parts entries q w (suc d) some probed stored all =
-    let same : suc d - 1 ≡ d = omega arith in
+by_parts entries q w zero probed stored all = tt
+by_parts entries q w (suc zero) probed stored all = tt
+by_parts entries q w (suc (suc d)) probed stored all =
+    let same : suc (suc d) - 1 ≡ suc d = omega arith in
     let P : ℕ → Type 0 = λ n. (m : Move) → Contains (legal q) m → IsSearched entries (after q m) w n in
     inr (probed, stored, subst P same all)
 
@@ -171,15 +190,15 @@ all_later e entries q w d ms all m there = searched_more entries (e ∷ entries)
 -- what was found does not decide, or nothing was found, and the position was expanded
 pub expanded : {S : Type 0} (made : S → List Entry → S → Type 0) (old mid new : S) (q : Board) (w : Color) (d units : ℕ) (reply : Probe) (result : Result RoundAnswer NoMemory)
     → ((a b c : S) (xs ys : List Entry) → made a xs b → made b ys c → made a (xs ++ ys) c)
-    → made old (probe_entry (key_of q w) reply ∷ []) mid → Expands made mid new q w d result → 0 < d → ((a : RoundAnswer) → FollowsProbe d reply a units) → Searches made old new q w d units result
+    → made old (probe_entry (key_of q w) reply ∷ []) mid → Expands made mid new q w d result → ((a : RoundAnswer) → FollowsProbe d reply a units) → Searches made old new q w d units result
 unfolding BeginsWithProbe Expands IsExpanded
-expanded made old mid new q w d units reply result both entered h some follows =
+expanded made old mid new q w d units reply result both entered h follows =
     let first = probe_entry (key_of q w) reply in
     let rest = h.0 in
     record {
       entries = first ∷ rest;
       entered = both old mid new (first ∷ []) rest entered h.1;
-      searched = λ same. (let parts = h.2 same in by_parts (first ∷ rest) q w d some (probe_first rest q w reply) (store_later first rest q w d parts.0) (all_later first rest q w (d - 1) (legal q) parts.1));
+      searched = λ same. (let parts = h.2 same in by_parts (first ∷ rest) q w d (probe_first rest q w reply) (store_later first rest q w d parts.0) (all_later first rest q w (d - 1) (legal q) parts.1));
       first = λ _. (reply, rest, refl, (λ a same. follows a));
     }
 
@@ -197,25 +216,24 @@ missed d units reply is a =
 the_done : (a b : RoundDone) (o : Result RoundDone NoMemory) → o ≡ Ok a → o ≡ Ok b → a ≡ b
 the_done a b o e f = cc
 
--- a round of depth 0 asks once
-pub asks_once : {S : Type 0} (made : S → List Entry → S → Type 0) (old new : S) (q : Board) (w : Color) (reply : Probe) (a : RoundAnswer) → made old (probe_entry (key_of q w) reply ∷ []) new → FollowsProbe 0 reply a 0 → RoundCalls made old new q w 0 (Ok (record { round = a; units = 0 }))
-asks_once made old new q w reply a entered follows =
-    let one : RoundDone = record { round = a; units = 0 } in
-    let D : RoundDone → Type 0 = λ x. FollowsProbe 0 reply x.round x.units in
+-- a round of one ply or none asks once
+pub asks_once : {S : Type 0} (made : S → List Entry → S → Type 0) (old new : S) (q : Board) (w : Color) (d units : ℕ) (reply : Probe) (result : Result RoundAnswer NoMemory) → made old (probe_entry (key_of q w) reply ∷ []) new → d ≤ 1 → ((a : RoundAnswer) → FollowsProbe d reply a units) → RootSearches made old new q w d units result
+unfolding BeginsWithProbe
+asks_once made old new q w d units reply result entered few follows =
+    let first = probe_entry (key_of q w) reply in
     record {
-      reply = reply;
-      rest = [];
+      entries = first ∷ [];
       entered = entered;
-      follows = λ done same. subst D (the_done one done (Ok one) refl same) follows;
-      searched = λ done same none. tt;
+      searched = λ same. not_asked (first ∷ []) q w d few;
+      first = (reply, [], refl, (λ a same. follows a));
     }
 
 -- the calls of a search are those of its round
 pub round_of_search : {S : Type 0} (made : S → List Entry → S → Type 0) (old new : S) (q : Board) (w : Color) (d units : ℕ) (inner : Result RoundAnswer NoMemory) (result : Result RoundDone NoMemory)
-    → Searches made old new q w d units inner → 0 < d → ((done : RoundDone) → result ≡ Ok done → (inner ≡ Ok done.round) × (done.units ≡ units)) → RoundCalls made old new q w d result
+    → RootSearches made old new q w d units inner → ((done : RoundDone) → result ≡ Ok done → (inner ≡ Ok done.round) × (done.units ≡ units)) → RoundCalls made old new q w d result
 unfolding BeginsWithProbe
-round_of_search made old new q w d units inner result h some ends =
-    let begins = h.first some in
+round_of_search made old new q w d units inner result h ends =
+    let begins = h.first in
     let M : List Entry → Type 0 = λ es. made old es new in
     let E : List Entry → Type 0 = λ es. IsSearched es q w d in
     record {

@@ -36,4 +36,11 @@ pub record Searches {S : Type 0} (made : S → List Entry → S → Type 0) (old
   pub entries : List Entry
   pub entered : made old entries new
   pub searched : result ≡ Ok NoneWithin → IsSearched entries q winner depth
-  pub first : 0 < depth → BeginsWithProbe entries q winner depth units result
+  pub first : 1 < depth → BeginsWithProbe entries q winner depth units result
+
+-- The calls of the search of a round's position, which is asked for whatever the depth.
+pub record RootSearches {S : Type 0} (made : S → List Entry → S → Type 0) (old new : S) (q : Board) (winner : Color) (depth units : ℕ) (result : Result RoundAnswer NoMemory) : Type 0 where
+  pub entries : List Entry
+  pub entered : made old entries new
+  pub searched : result ≡ Ok NoneWithin → IsSearched entries q winner depth
+  pub first : BeginsWithProbe entries q winner depth units result

@@ -1,15 +1,23 @@
-//! The last ply of a search, for which no list of moves is made.
+//! The search of a position to one ply or none, for which no list of moves is made and no place is asked.
 
-ghost use Rattle.std.specs.Prelude.{◌≡◌, ◌≢◌, [], ◌∷◌, Ok};
-ghost use Rattle.cha_board.specs.Men.{other_color};
-ghost use Rattle.cha_moves.specs.Ends.{IsMated, IsMatingLine};
+ghost use Rattle.std.specs.Prelude.{◌≡◌, ◌-◌, ◌≤◌, [], ◌∷◌};
+ghost use Rattle.helpmate.specs.Units.{AreUnits};
 ghost use Rattle.helpmate.specs.Rounds.{IsAnswer};
-ghost use Rattle.helpmate.specs.Searches.{Expands};
 
 use crate::answers::RoundAnswer;
 use cha_board::{Color, Position};
-use cha_fact::{Facts, Line, Proved};
-use cha_moves::{Move, mating_move};
+use cha_fact::Line;
+use cha_moves::{Move, is_mate, mating_move};
+
+/// Whether a position is a mate, as an answer for depth 0.
+fn look(position: &Position, winner: Color) -> RoundAnswer
+    ensures holds { IsAnswer position.now winner 0 0 result }
+{
+    if is_mate(position, winner) {
+        return RoundAnswer::Mate(Line::new());
+    }
+    RoundAnswer::NoneWithin
+}
 
 /// The line of one move.
 fn line_of(m: Move) -> Line
@@ -21,20 +29,36 @@ fn line_of(m: Move) -> Line
     }
 }
 
-/// Searches a position that is no mate to depth 1: one of its moves mates, or that none does is given to keep.
-pub fn search_last_ply<F: Facts>(position: &Position, winner: Color, facts: &mut F) -> RoundAnswer
-    requires ready { F.ready facts.old }
-    requires running { IsMated position.now (other_color winner) → ⊥ }
-    ensures stays_ready { F.ready facts.new }
+/// Searches a position to depth 1: it is a mate, one of its moves mates, or there is none within one ply.
+fn search_last_ply(position: &Position, winner: Color, left: &mut u32) -> RoundAnswer
+    ensures less { left.new ≤ left.old }
+    ensures units { AreUnits position.now 1 (left.old - left.new) }
     ensures holds { IsAnswer position.now winner 1 1 result }
-    ensures ends { result ≢ RoundAnswer.Spent }
-    ensures calls { Expands F.made facts.old facts.new position.now winner 1 (Ok result) }
+    ensures spent { result ≡ RoundAnswer.Spent → left.new ≡ 0 }
 {
+    if is_mate(position, winner) {
+        return RoundAnswer::Mate(Line::new());
+    }
+    if *left == 0 {
+        return RoundAnswer::Spent;
+    }
+    *left -= 1;
     match mating_move(position, winner) {
         Some(m) => RoundAnswer::Mate(line_of(m)),
-        None => {
-            let _stored = facts.store(Proved::none(position, winner, 1));
-            RoundAnswer::NoneWithin
-        }
+        None => RoundAnswer::NoneWithin,
     }
+}
+
+/// Searches a position to a depth of at most 1. `left` is how many more positions may be expanded.
+pub fn search_shallow(position: &Position, winner: Color, depth: u8, left: &mut u32) -> RoundAnswer
+    requires { depth ≤ 1 }
+    ensures less { left.new ≤ left.old }
+    ensures units { AreUnits position.now depth (left.old - left.new) }
+    ensures holds { IsAnswer position.now winner depth 1 result }
+    ensures spent { result ≡ RoundAnswer.Spent → left.new ≡ 0 }
+{
+    if depth == 0 {
+        return look(position, winner);
+    }
+    search_last_ply(position, winner, left)
 }

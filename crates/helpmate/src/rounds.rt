@@ -1,12 +1,14 @@
 //! A round: the search of a position to a depth, and how many positions it expanded.
 
-ghost use Rattle.std.specs.Prelude.{◌≡◌, ◌+◌, ◌≤◌, Some, IsNone, Ok, IfOk};
+ghost use Rattle.std.specs.Prelude.{◌≡◌, ◌+◌, ◌-◌, ◌≤◌, Some, IsNone, Ok, IfOk};
 ghost use Rattle.helpmate.specs.Units.{AreUnits};
 ghost use Rattle.helpmate.specs.Rounds.{IsAnswer, IsAllowed, RoundCalls};
+ghost use Rattle.helpmate.specs.Searches.{RootSearches};
 
 use crate::answers::{RoundAnswer, RoundDone};
 use crate::deciding::decided;
-use crate::search::{ask, look, search};
+use crate::last::search_shallow;
+use crate::search::{ask, search};
 use cha_board::{Color, Position};
 use cha_fact::{Facts, Probe};
 use cha_list::NoMemory;
@@ -34,36 +36,64 @@ pub fn round_in<F: Facts>(
     ensures spent { IfOk result (λ done. done.round ≡ RoundAnswer.Spent → allowance ≡ Some done.units) }
     ensures calls { RoundCalls F.made facts.old facts.new position.now winner depth result }
 {
-    if depth == 0 {
-        return Ok(RoundDone {
-            round: looked(position, winner, facts),
-            units: 0,
-        });
-    }
     let most = match allowance {
         Some(units) => units,
         None => u32::MAX,
     };
     let mut left = most;
-    let round = search(alloc, position, winner, depth, &mut left, facts)?;
+    let round = search_root(alloc, position, winner, depth, &mut left, facts)?;
     Ok(RoundDone {
         round,
         units: most - left,
     })
 }
 
-/// A round of depth 0: the position is asked for, and else looked at.
-fn looked<F: Facts>(position: &Position, winner: Color, facts: &mut F) -> RoundAnswer
+/// Searches the position of a round, which is asked for whatever the depth.
+fn search_root<F: Facts>(
+    alloc: Global,
+    position: &Position,
+    winner: Color,
+    depth: u8,
+    left: &mut u32,
+    facts: &mut F,
+) -> Result<RoundAnswer, NoMemory>
     requires ready { F.ready facts.old }
+    requires few { depth ≤ 8 }
     ensures stays_ready { F.ready facts.new }
-    ensures holds { IsAnswer position.now winner 0 32 result }
-    ensures calls { RoundCalls F.made facts.old facts.new position.now winner 0 (Ok (record { round = result; units = 0 })) }
+    ensures less { left.new ≤ left.old }
+    ensures units { IfOk result (λ answer. AreUnits position.now depth (left.old - left.new)) }
+    ensures holds { IfOk result (IsAnswer position.now winner depth (32 + depth)) }
+    ensures spent { result ≡ Ok RoundAnswer.Spent → left.new ≡ 0 }
+    ensures calls { RootSearches F.made facts.old facts.new position.now winner depth (left.old - left.new) result }
+{
+    if depth <= 1 {
+        return Ok(looked(position, winner, depth, left, facts));
+    }
+    search(alloc, position, winner, depth, left, facts)
+}
+
+/// Searches a position to one ply or none, after it was asked for.
+fn looked<F: Facts>(
+    position: &Position,
+    winner: Color,
+    depth: u8,
+    left: &mut u32,
+    facts: &mut F,
+) -> RoundAnswer
+    requires ready { F.ready facts.old }
+    requires few { depth ≤ 1 }
+    ensures stays_ready { F.ready facts.new }
+    ensures less { left.new ≤ left.old }
+    ensures units { AreUnits position.now depth (left.old - left.new) }
+    ensures holds { IsAnswer position.now winner depth (32 + depth) result }
+    ensures spent { result ≡ RoundAnswer.Spent → left.new ≡ 0 }
+    ensures calls { RootSearches F.made facts.old facts.new position.now winner depth (left.old - left.new) (Ok result) }
 {
     match ask(position, winner, facts) {
-        Probe::Found(row) => match decided(position, winner, &row, 0) {
+        Probe::Found(row) => match decided(position, winner, &row, depth) {
             Some(answer) => answer,
-            None => look(position, winner),
+            None => search_shallow(position, winner, depth, left),
         },
-        Probe::Miss => look(position, winner),
+        Probe::Miss => search_shallow(position, winner, depth, left),
     }
 }

@@ -12,7 +12,7 @@ ghost use Rattle.helpmate.specs.Searches.{Expands, Searches};
 
 use crate::answers::RoundAnswer;
 use crate::deciding::decided;
-use crate::last::search_last_ply;
+use crate::last::search_shallow;
 use cha_board::{Color, Position};
 use cha_fact::{Facts, Key, Line, Probe, Proved};
 use cha_list::NoMemory;
@@ -29,16 +29,6 @@ pub fn ask<F: Facts>(position: &Position, winner: Color, facts: &mut F) -> Probe
     facts.probe(&Key::of(position, winner))
 }
 
-/// Whether a position is a mate, as an answer for depth 0.
-pub fn look(position: &Position, winner: Color) -> RoundAnswer
-    ensures holds { IsAnswer position.now winner 0 0 result }
-{
-    if is_mate(position, winner) {
-        return RoundAnswer::Mate(Line::new());
-    }
-    RoundAnswer::NoneWithin
-}
-
 /// The mate before a move, from the one after it.
 fn led(position: &Position, winner: Color, first: Move, rest: &Line) -> Line
     requires legal { Contains (legal_moves position.now) first }
@@ -53,8 +43,8 @@ fn led(position: &Position, winner: Color, first: Move, rest: &Line) -> Line
     }
 }
 
-/// Searches a position to a depth: it is asked for, and expanded if the answer does not decide. `left` is how many more
-/// positions may be expanded.
+/// Searches a position to a depth: from 2 plies on it is asked for, and expanded if the answer does not decide. `left` is how
+/// many more positions may be expanded.
 #[cycle(searching)]
 pub fn search<F: Facts>(
     alloc: Global,
@@ -73,8 +63,8 @@ pub fn search<F: Facts>(
     ensures spent { result ≡ Ok RoundAnswer.Spent → left.new ≡ 0 }
     ensures calls { Searches F.made facts.old facts.new position.now winner depth (left.old - left.new) result }
 {
-    if depth == 0 {
-        return Ok(look(position, winner));
+    if depth <= 1 {
+        return Ok(search_shallow(position, winner, depth, left));
     }
     match ask(position, winner, facts) {
         Probe::Found(row) => match decided(position, winner, &row, depth) {
@@ -85,8 +75,8 @@ pub fn search<F: Facts>(
     }
 }
 
-/// Searches a position to a depth by searching each position after a legal move to one ply less; for the last ply, the moves
-/// that mate are enough. What comes out without a mate is given to keep.
+/// Searches a position to a depth by searching each position after a legal move to one ply less. What comes out without a mate
+/// is given to keep.
 #[cycle(searching)]
 fn expand<F: Facts>(
     alloc: Global,
@@ -97,7 +87,7 @@ fn expand<F: Facts>(
     facts: &mut F,
 ) -> Result<RoundAnswer, NoMemory>
     requires ready { F.ready facts.old }
-    requires some { 0 < depth }
+    requires some { 1 < depth }
     requires few { depth ≤ 8 }
     ensures stays_ready { F.ready facts.new }
     ensures less { left.new ≤ left.old }
@@ -113,9 +103,6 @@ fn expand<F: Facts>(
         return Ok(RoundAnswer::Spent);
     }
     *left -= 1;
-    if depth == 1 {
-        return Ok(search_last_ply(position, winner, facts));
-    }
     let moves = legal(alloc, position)?;
     for m in &moves {
         let next = after(position, *m);

@@ -6,3 +6,4 @@ pub mod Ending
 pub mod Crewing
 pub mod Knowing
 pub mod Crossing
+mod PassesTaken

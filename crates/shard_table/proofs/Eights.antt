@@ -1,5 +1,5 @@
 -- What is done to each of the eight in turn.
-use Rattle.std.proofs.Common.{◌≡◌, ◌∙◌, refl, sym, ap, subst, ℕ, zero, suc, ◌+◌, ◌<◌, List, [], ◌∷◌, length, Some, slice_get, slice_index_or, arith}
+use Rattle.std.proofs.Common.{◌≡◌, ◌≢◌, ◌∙◌, refl, sym, ap, subst, ℕ, zero, suc, ◌+◌, ◌<◌, List, [], ◌∷◌, length, Some, slice_get, slice_index_or, arith}
 use Rattle.std.proofs.lemmas.Option.{same_Some}
 use Rattle.std.specs.Bool.{⊤}
 use Rattle.turn_cell.specs.Histories.{IsLegalHistory}
@@ -7,7 +7,7 @@ use Rattle.turn_cell.specs.Passes.{SplitOff, Joined, start, seen, splits, joins,
 use Rattle.shard_table.proofs.PassAt.{pass_get}
 use Rattle.shard_table.specs.ShardRows.{Rows}
 use Rattle.shard_table.specs.Shards.{ShardStep, empty}
-use Rattle.shard_table.specs.Tables.{ShardPass, pass_at, seen_at, OthersStay, IsOfTable, IsFirstPass, splits_of, joins_of}
+use Rattle.shard_table.specs.Tables.{ShardPass, pass_at, seen_at, IsOfTable, IsFirstPass, splits_of, joins_of}
 use Rattle.shard_table.specs.declared.table.Table.{Table}
 use Rattle.shard_table.specs.declared.table.TablePass.{TablePass}
 
@@ -63,29 +63,29 @@ module _ (Q : ℕ → Type 0) where
   pub below : (n : ℕ) → Upwards 0 n → (k : ℕ) → k < n → Q k
   below n h k lt = subst Q (let e : 0 + k ≡ k = omega arith in e) (below_at 0 n h k lt)
 
--- the passes at i and behind it change in turn as P says, each beside one of the passes X, and each without the others
-module _ (P : ShardPass → ShardPass → ShardPass → Type 0) (X : ℕ → ShardPass) where
+-- what is seen at i and behind it changes in turn as P says, each beside one of the passes X, and each without the others
+module _ {A : Type 0} (at : TablePass → ℕ → A) (P : A → A → ShardPass → Type 0) (X : ℕ → ShardPass) where
   abbrev pub Steps : ℕ → ℕ → TablePass → TablePass → Type 0
   Steps i zero s t = s ≡ t
-  Steps i (suc n) s t = (m : TablePass) × P (pass_at s i) (pass_at m i) (X i) × OthersStay i s m × Steps (suc i) n m t
+  Steps i (suc n) s t = (m : TablePass) × P (at s i) (at m i) (X i) × ((j : ℕ) → j ≢ i → at m j ≡ at s j) × Steps (suc i) n m t
 
-  stay : (i n : ℕ) (s t : TablePass) → Steps i n s t → (k : ℕ) → k < i → pass_at t k ≡ pass_at s k
-  stay i zero s t h k lt = ap (λ x. pass_at x k) (sym h)
+  stay : (i n : ℕ) (s t : TablePass) → Steps i n s t → (k : ℕ) → k < i → at t k ≡ at s k
+  stay i zero s t h k lt = ap (λ x. at x k) (sym h)
   stay i (suc n) s t h k lt = stay (suc i) n h.0 t h.3 k (omega (arith, lt)) ∙ h.2 k (λ e. omega (arith, lt, e))
 
-  stepped_at : (i n : ℕ) (s t : TablePass) → Steps i n s t → (k : ℕ) → k < n → P (pass_at s (i + k)) (pass_at t (i + k)) (X (i + k))
+  stepped_at : (i n : ℕ) (s t : TablePass) → Steps i n s t → (k : ℕ) → k < n → P (at s (i + k)) (at t (i + k)) (X (i + k))
   stepped_at i zero s t h k lt = absurd (omega (arith, lt))
   stepped_at i (suc n) s t h zero lt =
-      subst (λ n. P (pass_at s n) (pass_at t n) (X n)) (let e : i ≡ i + 0 = omega arith in e)
-      (subst (λ v. P (pass_at s i) v (X i)) (sym (stay (suc i) n h.0 t h.3 i (omega arith))) h.1)
+      subst (λ n. P (at s n) (at t n) (X n)) (let e : i ≡ i + 0 = omega arith in e)
+      (subst (λ v. P (at s i) v (X i)) (sym (stay (suc i) n h.0 t h.3 i (omega arith))) h.1)
   stepped_at i (suc n) s t h (suc k) lt =
       let on = stepped_at (suc i) n h.0 t h.3 k (omega (arith, lt)) in
-      let at : pass_at h.0 (suc i + k) ≡ pass_at s (suc i + k) = h.2 (suc i + k) (λ e. omega (arith, e)) in
-      subst (λ n. P (pass_at s n) (pass_at t n) (X n)) (let e : suc i + k ≡ i + suc k = omega arith in e)
-      (subst (λ v. P v (pass_at t (suc i + k)) (X (suc i + k))) at on)
+      let same : at h.0 (suc i + k) ≡ at s (suc i + k) = h.2 (suc i + k) (λ e. omega (arith, e)) in
+      subst (λ n. P (at s n) (at t n) (X n)) (let e : suc i + k ≡ i + suc k = omega arith in e)
+      (subst (λ v. P v (at t (suc i + k)) (X (suc i + k))) same on)
 
-  pub stepped : (s t : TablePass) → Steps 0 8 s t → (k : ℕ) → k < 8 → P (pass_at s k) (pass_at t k) (X k)
-  stepped s t h k lt = subst (λ n. P (pass_at s n) (pass_at t n) (X n)) (let e : 0 + k ≡ k = omega arith in e) (stepped_at 0 8 s t h k lt)
+  pub stepped : (s t : TablePass) → Steps 0 8 s t → (k : ℕ) → k < 8 → P (at s k) (at t k) (X k)
+  stepped s t h k lt = subst (λ n. P (at s n) (at t n) (X n)) (let e : 0 + k ≡ k = omega arith in e) (stepped_at 0 8 s t h k lt)
 
 abbrev pub JoinsTo : ShardPass → ShardPass → ShardPass → Type 0
 JoinsTo old new other = Joined old other new

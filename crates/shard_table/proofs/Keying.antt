@@ -1,5 +1,5 @@
 -- When two keys are one.
-use Rattle.std.proofs.Common.{◌≡◌, ℕ, true, List, nat_eq, IsTrue, ◌↔◌, refl, subst}
+use Rattle.std.proofs.Common.{◌≡◌, ℕ, Bool, true, false, List, nat_eq, IsTrue, ◌↔◌, refl, sym, subst}
 use Rattle.std.proofs.lemmas.Bool.{and_parts}
 use Rattle.std.proofs.lemmas.Bool.Decides.{Decides-eqb}
 use Rattle.std.proofs.lemmas.Slice.Eq.{slice_eq-Decides}
@@ -44,3 +44,14 @@ eq_at ws us Black Black = refl
 pub eq_is_same : (a b : Key) → eq-value.it a b ≡ same_key a b
 unfolding key_from
 eq_is_same a b = eq_at a.packed.words b.packed.words a.winner b.winner
+
+bool_same : (a b : Bool) → (a ≡ true → b ≡ true) → (b ≡ true → a ≡ true) → a ≡ b
+bool_same true b f g = sym (f refl)
+bool_same false true f g = g refl
+bool_same false false f g = refl
+
+-- the test does not tell its two keys apart
+pub same_back : (a b : Key) → same_key b a ≡ same_key a b
+same_back a b = bool_same (same_key b a) (same_key a b)
+    (λ e. subst (λ k. same_key a k ≡ true) (sym (key_exact b a e)) (key_itself a))
+    (λ e. subst (λ k. same_key b k ≡ true) (sym (key_exact a b e)) (key_itself b))

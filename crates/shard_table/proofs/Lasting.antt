@@ -145,7 +145,7 @@ stored_holds entries row rows Better new some true_row step holds =
 stored_holds entries row rows Kept new some true_row step holds =
     subst (Holds entries) (sym step.3)
     (fronted entries (row_key row) rows step.0 step.0 holds step.1 (found_key (row_key row) rows step.0 step.1) (found_true (row_key row) rows step.0 holds.truths step.1))
-stored_holds entries row rows Dropped new some true_row step holds = subst (Holds entries) (sym step.1) holds
+stored_holds entries row rows Dropped new some true_row step holds = absurd step
 
 probed_holds : (entries : ℕ) (key : Key) (rows : List Claim) (reply : Probe) (new : List Claim) → Probes key rows reply new → Holds entries rows → Holds entries new
 probed_holds entries key rows (Found row) new step holds =

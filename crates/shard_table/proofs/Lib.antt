@@ -9,3 +9,4 @@ mod Eights
 pub mod Knowing
 pub mod OneEntry
 pub mod Sending
+mod Listing

@@ -4,12 +4,14 @@ use Rattle.std.proofs.lemmas.Option.{same_Some}
 use Rattle.turn_cell.specs.declared.object.Object.{Ghosts}
 use Rattle.turn_cell.specs.declared.cells.Pass.{Pass}
 use Rattle.turn_cell.specs.declared.cells.TurnCell.{TurnCell}
-use Rattle.turn_cell.specs.Passes.{known, IsOf, Turned}
+use Rattle.turn_cell.specs.Histories.{AreTheirs}
+use Rattle.turn_cell.specs.Passes.{known, seen, taken, IsOf, Turned}
+use Rattle.turn_cell.specs.declared.object.TakenBack.{TakenBack}
 use Rattle.cha_fact.specs.declared.calls.FactCall.{FactCall}
 use Rattle.cha_fact.specs.declared.calls.FactReply.{FactReply}
 use Rattle.shard_table.specs.ShardRows.{Rows}
 use Rattle.shard_table.specs.Shards.{ShardStep}
-use Rattle.shard_table.specs.Tables.{ShardPass, pass_or}
+use Rattle.shard_table.specs.Tables.{ShardPass, pass_or, taken_or}
 
 module _ {A : Type 0} where
   pub get_index : (xs : List A) (k : ℕ) (d : A) → k < length xs → slice_get xs k ≡ Some (slice_index_or xs k d)
@@ -23,6 +25,9 @@ module _ {A : Type 0} where
   get_set (x ∷ xs) zero (suc j) a b e = inr ((λ h. omega (arith, h)), e)
   get_set (x ∷ xs) (suc k) zero a b e = inr ((λ h. omega (arith, h)), e)
   get_set (x ∷ xs) (suc k) (suc j) a b e = ⊎_elim (λ h. inl (ap suc h.0, h.1)) (λ h. inr ((λ g. h.0 (let i = g in omega (arith, i))), h.1)) (get_set xs k j a b e)
+
+abbrev pub both : {A B : Type 0} → A → B → A × B
+both a b = (a, b)
 
 module _ {G : Ghosts Rows FactCall FactReply} where
   pub pass_index : (ps : List (Pass Rows FactCall FactReply G)) (k : ℕ) (d : Pass Rows FactCall FactReply G) → k < length ps → known (slice_index_or ps k d) ≡ pass_or ps k
@@ -58,6 +63,34 @@ module _ {G : Ghosts Rows FactCall FactReply} where
       → Turned ShardStep first (known (slice_index_or ps k d)) call reply (known q) → Turned ShardStep start (pass_or ps k) call reply (pass_or (slice_set ps k q) k)
   turned_at start first is ps k d q call reply lt t =
       both_at (λ v w. Turned ShardStep start v call reply w) ps k d q lt (subst (λ s. Turned ShardStep s (known (slice_index_or ps k d)) call reply (known q)) is t)
+
+  taken_index : (ps : List (Pass Rows FactCall FactReply G)) (k : ℕ) (d : Pass Rows FactCall FactReply G) → k < length ps → taken (slice_index_or ps k d) ≡ taken_or ps k
+  taken_index [] k d lt = absurd (omega (arith, lt))
+  taken_index (p ∷ ps) zero d lt = refl
+  taken_index (p ∷ ps) (suc k) d lt = taken_index ps k d (omega (arith, lt))
+
+  taken_set : (ps : List (Pass Rows FactCall FactReply G)) (k : ℕ) (q : Pass Rows FactCall FactReply G) → k < length ps → taken_or (slice_set ps k q) k ≡ taken q
+  taken_set [] k q lt = absurd (omega (arith, lt))
+  taken_set (p ∷ ps) zero q lt = refl
+  taken_set (p ∷ ps) (suc k) q lt = taken_set ps k q (omega (arith, lt))
+
+  taken_else : (ps : List (Pass Rows FactCall FactReply G)) (k j : ℕ) (q : Pass Rows FactCall FactReply G) → j ≢ k → taken_or (slice_set ps k q) j ≡ taken_or ps j
+  taken_else [] k j q apart = refl
+  taken_else (p ∷ ps) zero zero q apart = absurd (apart refl)
+  taken_else (p ∷ ps) zero (suc j) q apart = refl
+  taken_else (p ∷ ps) (suc k) zero q apart = refl
+  taken_else (p ∷ ps) (suc k) (suc j) q apart = taken_else ps k j q (λ e. apart (ap suc e))
+
+  pub whole_else : (ps : List (Pass Rows FactCall FactReply G)) (k j : ℕ) (q : Pass Rows FactCall FactReply G) → j ≢ k → both (taken_or (slice_set ps k q) j) (pass_or (slice_set ps k q) j) ≡ both (taken_or ps j) (pass_or ps j)
+  whole_else ps k j q apart = let a = taken_else ps k j q apart in let b = pass_else ps k j q apart in λ i. both (a i) (b i)
+
+  -- the pass at its place took another one back
+  pub taken_both : (ps : List (Pass Rows FactCall FactReply G)) (k : ℕ) (d q : Pass Rows FactCall FactReply G) (x : TakenBack FactCall FactReply) → k < length ps → taken q ≡ x ∷ taken (slice_index_or ps k d) → AreTheirs (taken q) (seen q)
+      → (taken_or (slice_set ps k q) k ≡ x ∷ taken_or ps k) × AreTheirs (taken_or (slice_set ps k q) k) (pass_or (slice_set ps k q) k).seen
+  taken_both ps k d q x lt grown theirs = (
+    taken_set ps k q lt ∙ (grown ∙ ap (λ xs. x ∷ xs) (taken_index ps k d lt)),
+    subst (λ v. AreTheirs (taken_or (slice_set ps k q) k) v.seen) (sym (pass_set ps k q lt)) (subst (λ xs. AreTheirs xs (seen q)) (sym (taken_set ps k q lt)) theirs),
+  )
 
   module _ (cells : List (TurnCell Rows FactCall FactReply)) (ps : List (Pass Rows FactCall FactReply G)) (k : ℕ) (d : TurnCell Rows FactCall FactReply) (q : Pass Rows FactCall FactReply G) (lt : k < length cells) where
     -- all eight are of their cells where the one that changed is

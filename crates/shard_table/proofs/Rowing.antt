@@ -5,12 +5,9 @@ use Rattle.std.specs.Option.{option_map_or}
 use Rattle.lru.specs.LruCache.{LruCache, promoted, put_entries, displaced}
 use Rattle.cha_fact.specs.declared.key.Key.{Key}
 use Rattle.cha_fact.specs.Truths.{Claim}
-use Rattle.shard_table.specs.ShardRows.{row_key, AreKeyed}
+use Rattle.shard_table.specs.ShardRows.{row_key, AreKeyed, rows_of}
 use Rattle.shard_table.specs.Shards.{same_key, find_row, without}
 use Rattle.shard_table.proofs.Keying.{key_exact}
-
-abbrev pub rows_of : List (Key × Claim) → List Claim
-rows_of es = map (λ e. e.1) es
 
 abbrev keyed_head : (e : Key × Claim) (es : List (Key × Claim)) → AreKeyed (e ∷ es) → row_key e.1 ≡ e.0
 unfolding AreKeyed

@@ -96,7 +96,7 @@ module _ (key : Key) (n : ℕ) where
       (λ e. let same = one_found (row_key row) old s.0 h.0 s.1 (subst (λ k. find_row k old ≡ Some h.0) e h.1) in
       let r = ap (λ (c : Claim). rank_of c.fact) same in let le = h.2 in omega (arith, r, le))
       (λ apart. without_else key (row_key row) old apart ∙ h.1))
-  kept_by_store entries row old new Dropped s h stays = subst (Has key n) (sym s.1) h
+  kept_by_store entries row old new Dropped s h stays = absurd s
 
   kept_by_probe : (asked : Key) (old new : List Claim) (reply : Probe) → Probes asked old reply new → Has key n old → Has key n new
   kept_by_probe asked old new (Found row) p h = subst (Has key n) (sym p.1)

@@ -4,11 +4,11 @@ use Rattle.std.proofs.lemmas.List.{take_all}
 use Rattle.std.specs.Map.{lookup}
 use Rattle.lru.specs.LruCache.{LruCache, promoted, put_entries, displaced}
 use Rattle.cha_fact.specs.declared.key.Key.{Key}
-use Rattle.cha_fact.specs.declared.calls.Stored.TheVariants.{Added, Evicted, Better, Kept, Dropped}
+use Rattle.cha_fact.specs.declared.calls.Stored.TheVariants.{Added, Evicted, Better, Kept}
 use Rattle.cha_fact.specs.Truths.{Claim, rank_of}
-use Rattle.shard_table.specs.ShardRows.{row_key, AreKeyed}
+use Rattle.shard_table.specs.ShardRows.{row_key, AreKeyed, rows_of}
 use Rattle.shard_table.specs.Shards.{same_key, find_row, without, Stores}
-use Rattle.shard_table.proofs.Rowing.{rows_of, length_rows, lookup_row, promoted_rows, put_there, put_new, displaced_new, not_full, key_at}
+use Rattle.shard_table.proofs.Rowing.{length_rows, lookup_row, promoted_rows, put_there, put_new, displaced_new, not_full, key_at}
 
 module _ (eq : Key → Key → Bool) (agrees : (a b : Key) → eq a b ≡ same_key a b) (c : LruCache Key Claim) (keyed : AreKeyed c.entries) (row : Claim) (k : Key) (is : k ≡ row_key row) (old : List Claim) (shown : rows_of c.entries ≡ old) where
   finds : (o : Option Claim) → lookup (eq k) c.entries ≡ o → find_row (row_key row) old ≡ o
@@ -28,9 +28,6 @@ module _ (eq : Key → Key → Bool) (agrees : (a b : Key) → eq a b ≡ same_k
   better_there entries before new found more moved =
       let rows = put_there eq k (agrees k) c row (sym is) keyed before found in
       ((before, finds (Some before) found, more, ap rows_of moved ∙ rows.0 ∙ ap (λ rest. row ∷ rest) elsewhere), subst AreKeyed (sym moved) rows.1)
-
-  pub dropped_there : (entries : ℕ) (new : LruCache Key Claim) → lookup (eq k) c.entries ≡ None → new ≡ c → Stores entries row old Dropped (rows_of new.entries)
-  dropped_there entries new none same = (finds None none, ap (λ d. rows_of d.entries) same ∙ shown)
 
   module _ (few : length c.entries ≤ c.cap) (some : 0 < c.cap) (entries : ℕ) (cap : c.cap ≡ entries) (new : LruCache Key Claim) (moved : new.entries ≡ put_entries eq c k row) (none : lookup (eq k) c.entries ≡ None) where
     count : length old ≡ length c.entries

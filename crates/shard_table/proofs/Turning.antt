@@ -1,5 +1,5 @@
 -- What one turn of a probe or a store tells.
-use Rattle.std.proofs.Common.{◌≡◌, ◌∙◌, refl, sym, ap, subst, ℕ, List, [], ◌∷◌, ◌++◌}
+use Rattle.std.proofs.Common.{◌≡◌, ◌≢◌, ◌∙◌, refl, sym, ap, subst, ℕ, List, [], ◌∷◌, ◌++◌}
 use Rattle.turn_cell.specs.declared.object.Entry.{Entry}
 use Rattle.turn_cell.specs.Histories.{IsLegalHistory, entry}
 use Rattle.turn_cell.specs.Passes.{Known, Turned}
@@ -31,7 +31,7 @@ stores_one entries row old a b Added s t = s.2 ∙ sym t.2
 stores_one entries row old a b (Evicted k) s t = s.3 ∙ sym t.3
 stores_one entries row old a b Better s t = s.3 ∙ sym t.3
 stores_one entries row old a b Kept s t = s.3 ∙ (ap (λ x. x ∷ without (row_key row) old) (one_found (row_key row) old s.0 t.0 s.1 t.1) ∙ sym t.3)
-stores_one entries row old a b Dropped s t = s.1 ∙ sym t.1
+stores_one entries row old a b Dropped s t = absurd s
 
 probes_one : (key : Key) (old a b : List Claim) (reply : Probe) → Probes key old reply a → Probes key old reply b → a ≡ b
 probes_one key old a b (Found row) s t = s.1 ∙ sym t.1
@@ -118,6 +118,12 @@ module _ (start : Rows) (v w : Known FactCall FactReply) where
         → (after : List Claim) × Stores start.entries row rows.rows reply after
     stores before rows e s l =
         (t.last.rows, subst (λ n. Stores n row rows.rows reply t.last.rows) (legal_room before start rows l) (step_from (Store row) (StoredAs reply) t before rows e s l).0)
+
+    none_dropped : (entries : ℕ) (old new : List Claim) (r : Stored) → Stores entries row old r new → r ≡ Dropped → ⊥
+    none_dropped entries old new r step is = subst (λ x. Stores entries row old x new) is step
+
+    pub keeps : reply ≢ Dropped
+    keeps is = let h = last_step (Store row) (StoredAs reply) t in none_dropped h.0.entries h.0.rows t.last.rows reply h.2.0 is
 
 -- a row that is true is true of the position and the side whose key it has
 pub true_of : (row : Claim) (q : Board) (winner : Color) → IsValid row.position → IsValid q → row_key row ≡ key_of q winner → IsTrueOf row.position row.winner row.fact → IsTrueOf q winner row.fact

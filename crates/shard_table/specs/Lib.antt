@@ -7,4 +7,6 @@ pub mod Makes
 pub mod Making
 -- inside the crate
 pub mod Replays
+pub mod Places
 pub mod Eights
+pub mod Wholes

@@ -36,7 +36,7 @@ Probes key old (Found row) new = (find_row key old ≡ Some row) × (new ≡ row
 Probes key old Miss new = (find_row key old ≡ None) × (new ≡ old)
 
 -- a store of a row among at most so many: its key had none and there was room, or the last row goes, or it says more than
--- the row of its key, or no more, or its key had none and there is no memory
+-- the row of its key, or no more; none is dropped, since there is room for all rows
 abbrev pub Stores : ℕ → Claim → List Claim → Stored → List Claim → Type 0
 Stores entries row old Added new = (find_row (row_key row) old ≡ None) × (length old < entries) × (new ≡ row ∷ old)
 Stores entries row old (Evicted key) new =
@@ -46,7 +46,7 @@ Stores entries row old Better new =
     (before : Claim) × (find_row (row_key row) old ≡ Some before) × (rank_of before.fact < rank_of row.fact) × (new ≡ row ∷ without (row_key row) old)
 Stores entries row old Kept new =
     (before : Claim) × (find_row (row_key row) old ≡ Some before) × (rank_of row.fact ≤ rank_of before.fact) × (new ≡ before ∷ without (row_key row) old)
-Stores entries row old Dropped new = (find_row (row_key row) old ≡ None) × (new ≡ old)
+Stores entries row old Dropped new = ⊥
 
 -- a call, its reply, and the shard before and after it
 abbrev pub ShardStep : Rows → FactCall → FactReply → Rows → Type 0

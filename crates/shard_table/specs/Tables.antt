@@ -2,9 +2,10 @@
 use Rattle.std.specs.Prelude.{◌≡◌, ◌≢◌, ℕ, zero, suc, ◌+◌, ◌<◌, ◌%◌, List, [], ◌∷◌, ◌++◌, map, sum, slice_get, Some, None}
 use Rattle.turn_cell.specs.declared.object.Object.{Ghosts}
 use Rattle.turn_cell.specs.declared.object.Entry.{Entry}
+use Rattle.turn_cell.specs.declared.object.TakenBack.{TakenBack}
 use Rattle.turn_cell.specs.declared.cells.Pass.{Pass}
-use Rattle.turn_cell.specs.Histories.{IsLegalHistory, IsWellKnown}
-use Rattle.turn_cell.specs.Passes.{Known, known, IsOf, Turned, SplitOff, Joined}
+use Rattle.turn_cell.specs.Histories.{IsLegalHistory, IsWellKnown, taken_back, AreTheirs}
+use Rattle.turn_cell.specs.Passes.{Known, known, taken, IsOf, Turned, SplitOff, Joined}
 use Rattle.cha_board.specs.Packing.{color_code}
 use Rattle.cha_fact.specs.declared.key.Key.{Key}
 use Rattle.cha_fact.specs.declared.calls.Probe.{Probe}
@@ -34,6 +35,12 @@ module _ {G : Ghosts Rows FactCall FactReply} where
   pass_or (p ∷ ps) zero = known p
   pass_or (p ∷ ps) (suc k) = pass_or ps k
 
+  -- the passes that the one at a place of a list took back
+  abbrev pub taken_or : List (Pass Rows FactCall FactReply G) → ℕ → List (TakenBack FactCall FactReply)
+  taken_or [] k = []
+  taken_or (p ∷ ps) zero = taken p
+  taken_or (p ∷ ps) (suc k) = taken_or ps k
+
 -- the pass of shard k
 abbrev pub pass_at : TablePass → ℕ → ShardPass
 pass_at pass k = pass_or pass.passes k
@@ -45,6 +52,10 @@ seen_at pass k = (pass_at pass k).seen
 -- its own entries there
 abbrev pub mine_at : TablePass → ℕ → History
 mine_at pass k = (pass_at pass k).mine
+
+-- the passes of shard k that it took back, the last one first
+abbrev pub taken_at : TablePass → ℕ → List (TakenBack FactCall FactReply)
+taken_at pass k = taken_or pass.passes k
 
 -- each of the eight passes is of the table's cell at its place
 unfoldable pub IsOfTable : Table → TablePass → Type 0
@@ -111,6 +122,10 @@ SplitsAll old new other = (k : ℕ) → k < 8 → SplitOff (pass_at old k) (pass
 -- another pass was taken back at each shard
 abbrev pub JoinsAll : TablePass → TablePass → TablePass → Type 0
 JoinsAll old other new = (k : ℕ) → k < 8 → Joined (pass_at old k) (pass_at other k) (pass_at new k)
+
+-- it comes to those that were taken back before at each shard, and the entries of each of them there are its own
+abbrev pub TakesAll : TablePass → TablePass → TablePass → Type 0
+TakesAll old other new = (k : ℕ) → k < 8 → (taken_at new k ≡ taken_back (pass_at other k).number (mine_at other k) ∷ taken_at old k) × AreTheirs (taken_at new k) (seen_at new k)
 
 -- each shard is what the calls leave that the pass has seen there
 abbrev pub AreReplays : ℕ → TablePass → List Rows → Type 0

@@ -4,7 +4,8 @@ ghost use Rattle.std.specs.Prelude.{◌≡◌, ◌<◌, ◌≤◌, ◌+◌, ◌-
 ghost use Rattle.turn_cell.specs.Histories.{IsLegalHistory};
 ghost use Rattle.turn_cell.specs.Passes.{IsOf, IsFirst, start, known, seen, mine, splits, joins, SplitOff, Joined};
 ghost use Rattle.shard_table.specs.Shards.{ShardStep, empty};
-ghost use Rattle.shard_table.specs.Tables.{IsOfTable, IsFirstPass, IsNewPass, KnowsWell, SplitsAll, JoinsAll, AreReplays, OthersStay, pass_at, splits_of, joins_of};
+ghost use Rattle.shard_table.specs.Wholes.{whole_at, TakesTo, WholesStay};
+ghost use Rattle.shard_table.specs.Tables.{IsOfTable, IsFirstPass, IsNewPass, KnowsWell, SplitsAll, JoinsAll, TakesAll, AreReplays, OthersStay, pass_at, splits_of, joins_of};
 
 use crate::shard::Shard;
 use crate::table::{StillOut, Table, TablePass};
@@ -51,6 +52,8 @@ fn join_at(table: &Table, pass: &mut TablePass, other: Pass<Shard>, shard: usize
     ensures of { IsOfTable table.now pass.new }
     ensures joined { Joined (pass_at pass.old shard) (known other) (pass_at pass.new shard) }
     ensures others { OthersStay shard pass.old pass.new }
+    ensures taken { TakesTo (whole_at pass.old shard) (whole_at pass.new shard) (known other) }
+    ensures taken_others { WholesStay shard pass.old pass.new }
 {
     table.cells[shard].join(&mut pass.passes[shard], other)
 }
@@ -97,6 +100,7 @@ fn join_each(table: &Table, pass: &mut TablePass, other: TablePass)
     requires first { IsFirstPass pass.old }
     ensures of { IsOfTable table.now pass.new }
     ensures joined { JoinsAll pass.old other pass.new }
+    ensures taken { TakesAll pass.old other pass.new }
 {
     let others = other.into_passes();
     join_at(table, pass, others.first, 0);
@@ -132,7 +136,7 @@ fn close_each(table: Table, pass: TablePass) -> [Shard; 8]
 }
 
 impl Table {
-    /// Eight empty shards, each for 1 to 65,536 rows, and the table's first pass.
+    /// Eight empty shards, each with room for 1 to 65,536 rows, and the table's first pass.
     pub fn new(alloc: Global, entries: u32) -> Result<(Table, TablePass), NoMemory>
         requires some { 1 ≤ entries }
         requires few { entries ≤ 65536 }
@@ -183,6 +187,7 @@ impl Table {
         ensures of { IsOfTable self.now pass.new }
         ensures first { IsFirstPass pass.new }
         ensures joined { JoinsAll pass.old other pass.new }
+        ensures taken { TakesAll pass.old other pass.new }
         ensures knows { KnowsWell self.now pass.new }
     {
         join_each(self, pass, other);

@@ -1,9 +1,10 @@
 //! A list of true facts, the most recently used first.
 
-ghost use Rattle.std.specs.Prelude.{◌≡◌, ◌≤◌, [], IfOk};
+ghost use Rattle.std.specs.Prelude.{◌≡◌, ◌≢◌, ◌≤◌, [], IfOk};
 ghost use Rattle.cha_fact.specs.Entries.{IsOfKey};
 ghost use Rattle.shard_table.specs.Shards.{Probes, Stores};
 
+use crate::{cached, listed};
 use cha_fact::{Key, Probe, Proved, Stored};
 use cha_list::NoMemory;
 use lru::LruCache;
@@ -14,26 +15,30 @@ use std::num::NonZeroUsize;
 /// What is known of positions and sides, each under its own key, the most recently used first. There is a most that it has;
 /// past that, what was used longest ago goes.
 ///
-/// Contracts see the list, and how many rows it may have. It takes memory as it fills.
+/// Contracts see the list, and how many rows it may have. Room for all of them is made with the shard, so that each row that
+/// is given is kept. They lie in a cache that takes memory as it fills; where it is refused some, they move into that room,
+/// where a look-up goes row by row.
 #[derive(Drop)]
 pub struct Shard {
     cache: LruCache<Key, Proved>,
+    listed: Vec<Proved>,
     entries: u32,
 }
 
 impl Model for Shard {
-    ghost use Rattle.std.specs.Prelude.{◌≡◌, map};
-    ghost use Rattle.shard_table.specs.ShardRows.{Rows, AreKeyed};
+    ghost use Rattle.std.specs.Prelude.{◌++◌};
+    ghost use Rattle.std.specs.Vec.{vec_capacity};
+    ghost use Rattle.shard_table.specs.ShardRows.{Rows, rows_of, AreKept};
 
     ghost Value = { Rows };
 
-    ghost view = { λ s. record { rows = map (λ e. e.1) s.cache.entries; entries = s.entries } };
+    ghost view = { λ s. record { rows = s.listed.items ++ rows_of s.cache.entries; entries = s.entries } };
 
-    ghost invariant = { λ s. AreKeyed s.cache.entries × (s.cache.cap ≡ s.entries) };
+    ghost invariant = { λ s. AreKept s.entries s.cache.cap s.cache.entries (vec_capacity s.listed) s.listed.items };
 }
 
 impl Shard {
-    /// The shard without rows, for at most `entries` of them.
+    /// The shard without rows, with room for as many as `entries`.
     pub fn new(alloc: Global, entries: u32) -> Result<Shard, NoMemory>
         requires some { 1 ≤ entries }
         requires few { entries ≤ 65536 }
@@ -42,8 +47,13 @@ impl Shard {
         let Some(most) = NonZeroUsize::new(entries as usize) else {
             unreachable!()
         };
+        let listed = Vec::with_capacity(alloc, entries as usize)?;
         let cache = LruCache::sparse(alloc, most)?;
-        Ok(Shard { cache, entries })
+        Ok(Shard {
+            cache,
+            listed,
+            entries,
+        })
     }
 
     /// Asks for the row of a key, which then is the most recently used. It takes no memory.
@@ -52,45 +62,29 @@ impl Shard {
         ensures of_key { IsOfKey key.now result }
         ensures entries { self.new.entries ≡ self.old.entries }
     {
-        match self.cache.peek(key) {
-            Some(row) => {
-                let row = row.copy();
-                self.cache.promote(key);
-                Probe::Found(row)
-            }
-            None => Probe::Miss,
+        if self.listed.is_empty() {
+            return cached::probe(&mut self.cache, key);
         }
+        listed::probe(&mut self.listed, key)
     }
 
-    /// Gives a row to keep: a key that is not there gets it, and one that is there gets it where it says more.
+    /// Gives a row to keep: a key that is not there gets it, and one that is there gets it where it says more. It is never
+    /// dropped, also where memory is refused.
     pub fn store(&mut self, row: Proved) -> Stored
         ensures reply { Stores self.old.entries row self.old.rows result self.new.rows }
+        ensures kept { result ≢ Stored.Dropped }
         ensures entries { self.new.entries ≡ self.old.entries }
     {
-        let key = row.key();
-        // That there are no more rows than there may be.
-        let _len = self.cache.len();
-        match self.cache.peek(&key) {
-            Some(old) => {
-                if row.rank() <= old.rank() {
-                    self.cache.promote(&key);
-                    return Stored::Kept;
+        if self.listed.is_empty() {
+            return match cached::store(&mut self.cache, row) {
+                Ok(stored) => stored,
+                Err(row) => {
+                    listed::move_rows(&mut self.cache, &mut self.listed);
+                    listed::store(&mut self.listed, self.entries, row)
                 }
-                let Ok(_) = self.cache.put(key, row) else {
-                    unreachable!()
-                };
-                Stored::Better
-            }
-            None => {
-                let Ok(gone) = self.cache.push(key, row) else {
-                    return Stored::Dropped;
-                };
-                match gone {
-                    None => Stored::Added,
-                    Some((last, _)) => Stored::Evicted(last),
-                }
-            }
+            };
         }
+        listed::store(&mut self.listed, self.entries, row)
     }
 
     /// How many rows it may have.

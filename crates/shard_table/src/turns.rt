@@ -1,6 +1,6 @@
 //! A probe and a store, each a turn at the shard of its key.
 
-ghost use Rattle.std.specs.Prelude.{◌≡◌, ◌<◌, ℕ};
+ghost use Rattle.std.specs.Prelude.{◌≡◌, ◌≢◌, ◌<◌, ℕ};
 ghost use Rattle.cha_board.specs.Board.{Board, IsValid};
 ghost use Rattle.cha_board.specs.declared.men.Color.{Color as Side};
 ghost use Rattle.cha_fact.specs.Entries.{IsOfKey};
@@ -96,7 +96,7 @@ impl Table {
 
     /// Gives a row to keep, by one turn at the shard of its key. It may wait for other turns there.
     ///
-    /// `Stored::Dropped` comes for want of memory alone, and never for a key that has a row.
+    /// The row is kept, or one of its key that says no less: a table has room for all its rows, and never drops one.
     pub fn store<R: Wait>(&self, rt: &R, pass: &mut TablePass, row: Proved) -> Stored
         requires { IsOfTable self.now pass.old }
         ensures of { IsOfTable self.now pass.new }
@@ -105,6 +105,7 @@ impl Table {
         ensures knows { KnowsWell self.now pass.new }
         ensures first { StaysFirst pass.old pass.new }
         ensures exactly { StoresExactly self.now pass.new row result }
+        ensures kept { result ≢ Stored.Dropped }
     {
         let key = row.key();
         match turn(rt, self, pass, &key, FactCall::Store(row)) {

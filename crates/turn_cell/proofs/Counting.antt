@@ -1,39 +1,18 @@
--- How many views wait or live, after a change of one.
-use Rattle.std.proofs.Common.{◌≡◌, sym, ap, subst, ℕ, zero, suc, ◌+◌, ◌≤◌, cond, is_some, Some, None, length, List, [], ◌∷◌, ◌++◌, set, arith, true, refl}
-use Rattle.std.specs.declared.option.Option.{Option}
+-- How many views live, after a change of one.
+use Rattle.std.proofs.Common.{◌≡◌, sym, ap, subst, ℕ, zero, suc, ◌+◌, ◌≤◌, cond, List, [], ◌∷◌, ◌++◌, set, arith, true, refl}
 use mathlib.Core.Option.{some, some-injective, some-ne-none}
 use lib.ListN.{get_elem?}
-use Rattle.turn_cell.specs.Rule.{waits, count_waiting, lives, count_living}
+use Rattle.turn_cell.specs.Rule.{lives, count_living}
 use Rattle.turn_cell.specs.declared.views.View.{View}
 
-one_few : (o : Option ℕ) → cond (is_some o) 1 0 ≤ 1
-one_few None = omega arith
-one_few (Some t) = omega arith
-
 module _ {V C R : Type 0} where
-  abbrev pub one : View V C R → ℕ
-  one v = cond (waits v) 1 0
-
   abbrev pub life : View V C R → ℕ
   life v = cond (lives v) 1 0
-
-  pub waiting_set : (xs : List (View V C R)) (i : ℕ) (a b : View V C R) → get_elem? xs i ≡ some a → count_waiting (set xs i b) + one a ≡ count_waiting xs + one b
-  waiting_set [] i a b at = absurd (some-ne-none a (sym at))
-  waiting_set (x ∷ xs) zero a b at = subst (λ y. one b + count_waiting xs + one y ≡ one x + count_waiting xs + one b) (some-injective x a at) (omega arith)
-  waiting_set (x ∷ xs) (suc i) a b at = let h = waiting_set xs i a b at in omega (arith, h)
 
   pub living_set : (xs : List (View V C R)) (i : ℕ) (a b : View V C R) → get_elem? xs i ≡ some a → count_living (set xs i b) + life a ≡ count_living xs + life b
   living_set [] i a b at = absurd (some-ne-none a (sym at))
   living_set (x ∷ xs) zero a b at = subst (λ y. life b + count_living xs + life y ≡ life x + count_living xs + life b) (some-injective x a at) (omega arith)
   living_set (x ∷ xs) (suc i) a b at = let h = living_set xs i a b at in omega (arith, h)
-
-  pub waiting_few : (xs : List (View V C R)) → count_waiting xs ≤ length xs
-  waiting_few [] = omega arith
-  waiting_few (x ∷ xs) = let h = waiting_few xs in let o = one_few x.ticket in omega (arith, h, o)
-
-  pub waiting_more : (xs : List (View V C R)) (w : View V C R) → count_waiting (xs ++ w ∷ []) ≡ count_waiting xs + one w
-  waiting_more [] w = omega arith
-  waiting_more (x ∷ xs) w = let h = waiting_more xs w in omega (arith, h)
 
   pub living_more : (xs : List (View V C R)) (w : View V C R) → count_living (xs ++ w ∷ []) ≡ count_living xs + life w
   living_more [] w = omega arith
@@ -42,7 +21,7 @@ module _ {V C R : Type 0} where
   pub life_one : (v : View V C R) → lives v ≡ true → life v ≡ 1
   life_one v h = ap (λ b. let n : ℕ = cond b 1 0 in n) h
 
-  -- one that lives is waiting
+  -- one that lives is counted
   pub living_some : (xs : List (View V C R)) (i : ℕ) (v : View V C R) → get_elem? xs i ≡ some v → lives v ≡ true → 1 ≤ count_living xs
   living_some [] i v at h = absurd (some-ne-none v (sym at))
   living_some (x ∷ xs) zero v at h = let e = ap life (some-injective x v at) in let o = life_one v h in omega (arith, e, o)

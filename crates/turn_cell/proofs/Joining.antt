@@ -1,24 +1,25 @@
 -- A pass that is taken returned keeps the rule.
-use Rattle.std.proofs.Common.{◌≡◌, ◌≢◌, ◌∙◌, sym, ap, subst, refl, ℕ, ◌+◌, ◌≤◌, inl, inr, ⊎_elim, true, false, cond, is_some, List, length, set, Some, None, arith, length-set}
+use Rattle.std.proofs.Common.{◌≡◌, ◌≢◌, ◌∙◌, sym, ap, subst, refl, ℕ, ◌+◌, ◌≤◌, inl, inr, ⊎_elim, true, false, List, length, set, arith, length-set}
 use mathlib.Core.Option as maybe
 use lib.ListN.{get_elem?}
 use Rattle.atomic_table.proofs.Lists.{set_else}
 use Rattle.atomic_table.specs.Table.{State}
 use mathlib.Core.Logic.{dite}
 use native.Mathlib.Decide.{ℕ_discrete}
-use Rattle.turn_cell.proofs.Counting.{waiting_set, living_set, life_one, one}
+use Rattle.turn_cell.proofs.Counting.{living_set, life_one}
 use Rattle.turn_cell.proofs.Prefix.{both_in, longer_in, longer_all, longer_all', squeeze}
 use Rattle.turn_cell.proofs.Same.{there, set_there}
 use Rattle.turn_cell.proofs.Splitting.{is_first, splits_known, joins_known}
-use Rattle.turn_cell.specs.Histories.{IsPrefix, entries_of, longer_of}
+use Rattle.turn_cell.specs.Histories.{IsPrefix, entries_of, longer_of, IsOneOf, taken_back}
+use Rattle.turn_cell.specs.declared.object.TakenBack.{TakenBack}
 use Rattle.turn_cell.specs.Views.{shorter_of}
-use Rattle.turn_cell.specs.Rule.{TakesTurns, Fits, SomeHasTurn, OwnNumbers, OwnTickets, SomeHasSeenAll, lives}
+use Rattle.turn_cell.specs.Rule.{TakesTurns, Fits, SomeHasTurn, OwnNumbers, OneTurn, SomeHasSeenAll, lives}
 use Rattle.turn_cell.specs.Views.{after_join, spent_view}
 use Rattle.turn_cell.specs.declared.views.View.{View}
 use Rattle.turn_cell.specs.declared.views.Held.{Held}
 
 module _ {V C R : Type 0} (step : V → C → R → V → Type 0) (start : V) (s : State (Held V C R) (View V C R)) (k : TakesTurns step start s) (id : ℕ) (v : View V C R) (at : get_elem? s.views id ≡ maybe.some v) (live : lives v ≡ true) (first : v.number ≡ 0)
-    (idle : v.ticket ≡ None) (no_turn : v.has_turn ≡ false) (to : ℕ) (w : View V C R) (apart : to ≡ id → ⊥) (at' : get_elem? (set s.views id (after_join v w)) to ≡ maybe.some w) (live' : lives w ≡ true) (idle' : w.ticket ≡ None) (no_turn' : w.has_turn ≡ false) where
+    (no_turn : v.has_turn ≡ false) (to : ℕ) (w : View V C R) (apart : to ≡ id → ⊥) (at' : get_elem? (set s.views id (after_join v w)) to ≡ maybe.some w) (live' : lives w ≡ true) (no_turn' : w.has_turn ≡ false) where
   abbrev one_view : View V C R
   one_view = after_join v w
 
@@ -35,10 +36,10 @@ module _ {V C R : Type 0} (step : V → C → R → V → Type 0) (start : V) (s
   there' : get_elem? s.views to ≡ maybe.some w
   there' = ⊎_elim (λ x. absurd (apart x.0)) (λ x. x.1) (there s.views id v one_view at to w at')
 
-  fv : Fits start k.history k.drawn v
+  fv : Fits start k.history v
   fv = k.each id v at
 
-  fw : Fits start k.history k.drawn w
+  fw : Fits start k.history w
   fw = k.each to w there'
 
   both : IsPrefix (longer_of v.seen w.seen) k.history × IsPrefix (shorter_of v.seen w.seen) k.history
@@ -47,32 +48,33 @@ module _ {V C R : Type 0} (step : V → C → R → V → Type 0) (start : V) (s
   parts : IsPrefix v.seen (longer_of v.seen w.seen) × IsPrefix w.seen (longer_of v.seen w.seen)
   parts = both_in v.seen w.seen k.history both.0 both.1
 
-  gone_is : (n : ℕ) → Some w.number ≡ Some n → w.number ≡ n
-  gone_is n e = cc
+  abbrev this : TakenBack C R
+  this = taken_back w.number w.mine
 
-  fits_one : Fits start k.history k.drawn one_view
+  fits_one : Fits start k.history one_view
   fits_one = record {
     origin = fv.origin;
     before = both.0;
     joined_shorter = both.1;
     own = fv.own;
     own_seen = λ l. squeeze v.number v.seen (longer_of v.seen w.seen) k.history v.mine parts.0 both.0 (fv.own_seen l) (fv.own l);
-    joined_number = λ n g. subst (λ m. entries_of m k.history ≡ w.mine) (gone_is n g) (fw.own live');
-    joined_number_seen = λ n g. subst (λ m. entries_of m (longer_of v.seen w.seen) ≡ w.mine) (gone_is n g) (squeeze w.number w.seen (longer_of v.seen w.seen) k.history w.mine parts.1 both.0 (fw.own_seen live') (fw.own live'));
-    ticket = fv.ticket;
+    taken = λ x g. ⊎_elim (λ e. subst (λ (y : TakenBack C R). entries_of y.number k.history ≡ y.mine) e (fw.own live')) (λ h. fv.taken x h) g;
+    taken_seen = λ x g. ⊎_elim
+        (λ e. subst (λ (y : TakenBack C R). entries_of y.number (longer_of v.seen w.seen) ≡ y.mine) e (squeeze w.number w.seen (longer_of v.seen w.seen) k.history w.mine parts.1 both.0 (fw.own_seen live') (fw.own live')))
+        (λ h. squeeze x.number v.seen (longer_of v.seen w.seen) k.history x.mine parts.0 both.0 (fv.taken_seen x h) (fv.taken x h))
+        g;
     has_turn = λ t. let no = no_turn in cc;
   }
 
-  fits_spent : Fits start k.history k.drawn spent_view
+  fits_spent : Fits start k.history spent_view
   fits_spent = record {
     origin = λ o e. cc;
     before = (k.history, refl);
     joined_shorter = (k.history, refl);
     own = λ l. cc;
     own_seen = λ l. cc;
-    joined_number = λ n g. cc;
-    joined_number_seen = λ n g. cc;
-    ticket = λ t e. cc;
+    taken = λ x g. absurd g;
+    taken_seen = λ x g. absurd g;
     has_turn = λ t. cc;
   }
 
@@ -91,9 +93,9 @@ module _ {V C R : Type 0} (step : V → C → R → V → Type 0) (start : V) (s
   spent_dead : (u : View V C R) → spent_view ≡ u → lives u ≡ true → ⊥
   spent_dead u e l = let none : lives dead ≡ true = ap (λ (x : View V C R). lives x) e ∙ l in cc
 
-  each : (j : ℕ) (u : View V C R) → Place j u → Fits start k.history k.drawn u
-  each j u (is_one i e) = subst (Fits start k.history k.drawn) e fits_one
-  each j u (is_spent i e) = subst (Fits start k.history k.drawn) e fits_spent
+  each : (j : ℕ) (u : View V C R) → Place j u → Fits start k.history u
+  each j u (is_one i e) = subst (Fits start k.history) e fits_one
+  each j u (is_spent i e) = subst (Fits start k.history) e fits_spent
   each j u (is_other i i' e) = k.each j u e
 
   -- a pass that lives has its old number at its old place, which isn't the other's
@@ -114,30 +116,27 @@ module _ {V C R : Type 0} (step : V → C → R → V → Type 0) (start : V) (s
       let x = lived i a la (place i a e) in let y = lived j b lb (place j b f) in
       k.numbers i j x.old y.old x.was y.was x.lived y.lived (x.number ∙ (same ∙ sym y.number))
 
-  departs : (i j n : ℕ) (a b : View V C R) → Place i a → Lived j b → a.joined_number ≡ Some n → b.number ≢ n
-  departs i j n a b (is_one h e) y joined_number same =
-      let is : w.number ≡ n = gone_is n (ap (λ (x : View V C R). x.joined_number) e ∙ joined_number) in
-      y.away (k.numbers j to y.old w y.was there' y.lived live' (y.number ∙ (same ∙ sym is)))
-  departs i j n a b (is_spent h e) y joined_number same = let none : dead.joined_number ≡ Some n = ap (λ (x : View V C R). x.joined_number) e ∙ joined_number in cc
-  departs i j n a b (is_other h h' e) y joined_number same = k.away i j n a y.old e y.was joined_number y.lived (y.number ∙ same)
+  departs : (i j : ℕ) (x : TakenBack C R) (a b : View V C R) → Place i a → Lived j b → IsOneOf a.taken x → b.number ≢ x.number
+  departs i j x a b (is_one h e) y has same = ⊎_elim
+      (λ is. y.away (k.numbers j to y.old w y.was there' y.lived live' (y.number ∙ (same ∙ ap (λ (z : TakenBack C R). z.number) (sym is)))))
+      (λ before. k.away id j x v y.old at y.was before y.lived (y.number ∙ same))
+      (subst (λ (z : View V C R). IsOneOf z.taken x) (sym e) has)
+  departs i j x a b (is_spent h e) y has same = subst (λ (z : View V C R). IsOneOf z.taken x) (sym e) has
+  departs i j x a b (is_other h h' e) y has same = k.away i j x a y.old e y.was has y.lived (y.number ∙ same)
 
-  belows : (j : ℕ) (u : View V C R) → Place j u → (u.number ≤ k.made) × ((n : ℕ) → u.joined_number ≡ Some n → n ≤ k.made)
-  belows j u (is_one i e) = subst (λ (x : View V C R). (x.number ≤ k.made) × ((n : ℕ) → x.joined_number ≡ Some n → n ≤ k.made)) e ((k.up_to id v at).0, λ n g. subst (λ m. m ≤ k.made) (gone_is n g) (k.up_to to w there').0)
-  belows j u (is_spent i e) = subst (λ (x : View V C R). (x.number ≤ k.made) × ((n : ℕ) → x.joined_number ≡ Some n → n ≤ k.made)) e (omega arith, λ n g. cc)
+  belows : (j : ℕ) (u : View V C R) → Place j u → (u.number ≤ k.made) × ((x : TakenBack C R) → IsOneOf u.taken x → x.number ≤ k.made)
+  belows j u (is_one i e) = subst (λ (z : View V C R). (z.number ≤ k.made) × ((x : TakenBack C R) → IsOneOf z.taken x → x.number ≤ k.made)) e
+      ((k.up_to id v at).0, λ x g. ⊎_elim (λ is. subst (λ (y : TakenBack C R). y.number ≤ k.made) is (k.up_to to w there').0) (λ before. (k.up_to id v at).1 x before) g)
+  belows j u (is_spent i e) = subst (λ (z : View V C R). (z.number ≤ k.made) × ((x : TakenBack C R) → IsOneOf z.taken x → x.number ≤ k.made)) e (omega arith, λ x g. absurd g)
   belows j u (is_other i i' e) = k.up_to j u e
-
-  no_ticket : (i t : ℕ) (a : View V C R) → Place i a → a.ticket ≡ Some t → get_elem? s.views i ≡ maybe.some a
-  no_ticket i t a (is_one h e) has = let none : v.ticket ≡ Some t = ap (λ (x : View V C R). x.ticket) e ∙ has in let no = idle in cc
-  no_ticket i t a (is_spent h e) has = let none : dead.ticket ≡ Some t = ap (λ (x : View V C R). x.ticket) e ∙ has in cc
-  no_ticket i t a (is_other h h' e) has = e
-
-  tickets : OwnTickets views
-  tickets i j t a b e f ha hb = k.tickets i j t a b (no_ticket i t a (place i a e) ha) (no_ticket j t b (place j b f) hb) ha hb
 
   was_turn : (j : ℕ) (u : View V C R) → Place j u → u.has_turn ≡ true → get_elem? s.views j ≡ maybe.some u
   was_turn j u (is_one h e) has = let none : v.has_turn ≡ true = ap (λ (x : View V C R). x.has_turn) e ∙ has in let no = no_turn in cc
   was_turn j u (is_spent h e) has = let none : dead.has_turn ≡ true = ap (λ (x : View V C R). x.has_turn) e ∙ has in cc
   was_turn j u (is_other h h' e) has = e
+
+  turns : OneTurn views
+  turns i j a b e f ha hb = k.turns i j a b (was_turn i a (place i a e) ha) (was_turn j b (place j b f) hb) ha hb
 
   at_one : get_elem? views id ≡ maybe.some one_view
   at_one = set_else mid to id spent_view (λ e. apart (sym e)) ∙ set_there s.views id v one_view at
@@ -173,16 +172,10 @@ module _ {V C R : Type 0} (step : V → C → R → V → Type 0) (start : V) (s
   pub join_kept : TakesTurns step start (record { words = s.words; homes = s.homes; views = set (set s.views id (after_join v w)) to spent_view })
   join_kept = record {
     history = k.history;
-    drawn = k.drawn;
+    word = k.word;
     made = k.made;
     returned = k.returned + 1;
     words = k.words;
-    waiting =
-        let a = waiting_set s.views id v one_view at in
-        let b = waiting_set mid to w spent_view at' in
-        let c = k.waiting in
-        let x : one w ≡ 0 = ap (λ o. let n : ℕ = cond (is_some o) 1 0 in n) idle' in
-        omega (arith, a, b, c, x);
     places = length-set mid to spent_view ∙ (length-set s.views id one_view ∙ k.places);
     few = k.few;
     living =
@@ -198,8 +191,8 @@ module _ {V C R : Type 0} (step : V → C → R → V → Type 0) (start : V) (s
     above = k.above;
     each = λ j u e. each j u (place j u e);
     numbers = numbers;
-    away = λ i j n a b e f g lb. departs i j n a b (place i a e) (lived j b lb (place j b f)) g;
-    tickets = tickets;
+    away = λ i j x a b e f g lb. departs i j x a b (place i a e) (lived j b lb (place j b f)) g;
+    turns = turns;
     seen_all = seen_all;
-    slot = ⊎_elim (λ h. inl (h.0, h.1, h.2, h.3, h.4, λ j u e t. h.5 j u (was_turn j u (place j u e) t) t)) (λ h. inr (h.0, some_turns h.1)) k.slot;
+    slot = ⊎_elim (λ h. inl (h.0, h.1, h.2, h.3, h.4, λ j u e t. h.5 j u (was_turn j u (place j u e) t) t, h.6)) (λ h. inr (h.0, some_turns h.1, h.2)) k.slot;
   }

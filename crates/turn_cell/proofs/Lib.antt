@@ -2,8 +2,7 @@ mod Counting
 mod Prefix
 mod Same
 mod Opened
-mod Drawing
-mod Looking
+mod SlotTaken
 mod Serving
 mod Splitting
 mod Joining

@@ -6,8 +6,10 @@ use Rattle.atomic_table.proofs.Lists.{at_set, set_else}
 use mathlib.Core.Logic.{dite}
 use native.Mathlib.Decide.{ℕ_discrete}
 use Rattle.turn_cell.proofs.Counting.{living_set, life}
-use Rattle.turn_cell.specs.Rule.{OwnNumbers, OwnTickets, FirstCounts, NumbersUpTo, StayAway, SomeHasSeenAll, lives, count_living}
+use Rattle.turn_cell.specs.Rule.{OwnNumbers, OneTurn, FirstCounts, NumbersUpTo, StayAway, SomeHasSeenAll, lives, count_living}
+use Rattle.turn_cell.specs.Histories.{IsOneOf}
 use Rattle.turn_cell.specs.declared.object.Entry.{Entry}
+use Rattle.turn_cell.specs.declared.object.TakenBack.{TakenBack}
 use Rattle.turn_cell.specs.declared.views.View.{View}
 
 pub set_there : {A : Type 0} (l : List A) (i : ℕ) (a b : A) → get_elem? l i ≡ maybe.some a → get_elem? (set l i b) i ≡ maybe.some b
@@ -19,13 +21,13 @@ set_there (x ∷ l) (suc i) a b at = set_there l i a b at
 pub record Like {V C R : Type 0} (v w : View V C R) : Type 0 where
   pub origin : v.origin ≡ w.origin
   pub number : v.number ≡ w.number
-  pub joined_number : v.joined_number ≡ w.joined_number
+  pub taken : v.taken ≡ w.taken
 
 module _ {V C R : Type 0} (views : List (View V C R)) (id : ℕ) (v w : View V C R) (at : get_elem? views id ≡ maybe.some v) where
   pub there : (j : ℕ) (u : View V C R) → get_elem? (set views id w) j ≡ maybe.some u → ((j ≡ id) × (w ≡ u)) ⊎ ((j ≢ id) × (get_elem? views j ≡ maybe.some u))
   there j u e = at_set views id j w u e
 
-  -- what is at a place: its old view lives, with this number and this number joined_number, at the same place
+  -- what is at a place: its old view lives, with this number and these passes taken back, at the same place
   pub record Was (j : ℕ) (u : View V C R) : Type 0 where
     pub old : View V C R
     pub place : get_elem? views j ≡ maybe.some old
@@ -34,11 +36,14 @@ module _ {V C R : Type 0} (views : List (View V C R)) (id : ℕ) (v w : View V C
   pub was : Like v w → (j : ℕ) (u : View V C R) → get_elem? (set views id w) j ≡ maybe.some u → Was j u
   was l j u e = ⊎_elim
       (λ t. record { old = v; place = ap (λ i. get_elem? views i) t.0 ∙ at; like = subst (λ x. Like v x) t.1 l })
-      (λ t. record { old = u; place = t.1; like = record { origin = refl; number = refl; joined_number = refl } })
+      (λ t. record { old = u; place = t.1; like = record { origin = refl; number = refl; taken = refl } })
       (there j u e)
 
   lived : (x u : View V C R) → Like x u → lives u ≡ true → lives x ≡ true
   lived x u l h = subst (λ o. is_some o ≡ true) (sym l.origin) h
+
+  taken_before : (y : TakenBack C R) (x u : View V C R) → Like x u → IsOneOf u.taken y → IsOneOf x.taken y
+  taken_before y x u l h = subst (λ xs. IsOneOf xs y) (sym l.taken) h
 
   pub numbers_same : Like v w → OwnNumbers views → OwnNumbers (set views id w)
   numbers_same l own i j a b e f la lb same =
@@ -46,14 +51,14 @@ module _ {V C R : Type 0} (views : List (View V C R)) (id : ℕ) (v w : View V C
       own i j x.old y.old x.place y.place (lived x.old a x.like la) (lived y.old b y.like lb) (x.like.number ∙ (same ∙ sym y.like.number))
 
   pub departed_same : Like v w → StayAway views → StayAway (set views id w)
-  departed_same l d i j n a b e f joined_number lb same =
+  departed_same l d i j n a b e f has lb same =
       let x = was l i a e in let y = was l j b f in
-      d i j n x.old y.old x.place y.place (x.like.joined_number ∙ joined_number) (lived y.old b y.like lb) (y.like.number ∙ same)
+      d i j n x.old y.old x.place y.place (taken_before n x.old a x.like has) (lived y.old b y.like lb) (y.like.number ∙ same)
 
-  pub tickets_same : v.ticket ≡ w.ticket → OwnTickets views → OwnTickets (set views id w)
-  tickets_same n own i j t a b e f ha hb = ⊎_elim
-      (λ x. ⊎_elim (λ y. x.0 ∙ sym y.0) (λ y. x.0 ∙ own id j t v b at y.1 (n ∙ (ap (λ (z : View V C R). z.ticket) x.1 ∙ ha)) hb) (there j b f))
-      (λ x. ⊎_elim (λ y. own i id t a v x.1 at ha (n ∙ (ap (λ (z : View V C R). z.ticket) y.1 ∙ hb)) ∙ sym y.0) (λ y. own i j t a b x.1 y.1 ha hb) (there j b f))
+  pub turns_same : v.has_turn ≡ w.has_turn → OneTurn views → OneTurn (set views id w)
+  turns_same n one i j a b e f ha hb = ⊎_elim
+      (λ x. ⊎_elim (λ y. x.0 ∙ sym y.0) (λ y. x.0 ∙ one id j v b at y.1 (n ∙ (ap (λ (z : View V C R). z.has_turn) x.1 ∙ ha)) hb) (there j b f))
+      (λ x. ⊎_elim (λ y. one i id a v x.1 at ha (n ∙ (ap (λ (z : View V C R). z.has_turn) y.1 ∙ hb)) ∙ sym y.0) (λ y. one i j a b x.1 y.1 ha hb) (there j b f))
       (there i a e)
 
   pub head_same : (made returned : ℕ) → Like v w → v.splits ≡ w.splits → v.joins ≡ w.joins → FirstCounts views made returned → FirstCounts (set views id w) made returned
@@ -70,7 +75,7 @@ module _ {V C R : Type 0} (views : List (View V C R)) (id : ℕ) (v w : View V C
 
   pub below_same : (made : ℕ) → Like v w → NumbersUpTo views made → NumbersUpTo (set views id w) made
   below_same made l h j u e = let x = was l j u e in let b = h j x.old x.place in
-      (subst (λ m. m ≤ made) x.like.number b.0, λ n g. b.1 n (x.like.joined_number ∙ g))
+      (subst (λ m. m ≤ made) x.like.number b.0, λ y g. b.1 y (taken_before y x.old u x.like g))
 
   pub room_same : (made : ℕ) → length views ≡ made + 1 → length (set views id w) ≡ made + 1
   room_same made h = length-set views id w ∙ h

@@ -1,16 +1,17 @@
 -- A new pass keeps the rule.
-use Rattle.std.proofs.Common.{◌≡◌, ◌∙◌, sym, ap, subst, refl, ℕ, ◌+◌, ◌<◌, ◌⊎◌, inl, inr, ⊎_elim, true, List, [], ◌∷◌, ◌++◌, length, set, Some, arith, length-set, length-append, zero, suc}
+use Rattle.std.proofs.Common.{◌≡◌, ◌∙◌, sym, ap, subst, refl, ℕ, ◌+◌, ◌<◌, ◌⊎◌, inl, inr, ⊎_elim, true, List, [], ◌∷◌, ◌++◌, length, set, arith, length-set, length-append, zero, suc}
 use mathlib.Core.Option as maybe
 use lib.ListN.{get_elem?}
 use Rattle.atomic_table.proofs.Lists.{at_longer, set_else}
 use Rattle.atomic_table.specs.Table.{State}
 use mathlib.Core.Logic.{dite}
 use native.Mathlib.Decide.{ℕ_discrete}
-use Rattle.turn_cell.proofs.Counting.{waiting_set, waiting_more, living_more, life_one}
+use Rattle.turn_cell.proofs.Counting.{living_more, life_one}
 use Rattle.turn_cell.proofs.Prefix.{none_seen}
-use Rattle.turn_cell.proofs.Same.{there, numbers_same, tickets_same, departed_same, knows_same, below_same, alive_same, set_there, Like}
-use Rattle.turn_cell.specs.Histories.{entries_of}
-use Rattle.turn_cell.specs.Rule.{TakesTurns, Fits, NoneHasTurn, SomeHasTurn, OwnNumbers, OwnTickets, NumbersUpTo, StayAway, SomeHasSeenAll, lives}
+use Rattle.turn_cell.proofs.Same.{there, numbers_same, turns_same, departed_same, knows_same, below_same, alive_same, set_there, Like}
+use Rattle.turn_cell.specs.Histories.{entries_of, IsOneOf}
+use Rattle.turn_cell.specs.declared.object.TakenBack.{TakenBack}
+use Rattle.turn_cell.specs.Rule.{TakesTurns, Fits, NoneHasTurn, SomeHasTurn, OwnNumbers, OneTurn, NumbersUpTo, StayAway, SomeHasSeenAll, lives}
 use Rattle.turn_cell.specs.Views.{after_split, split_view}
 use Rattle.turn_cell.specs.declared.views.View.{View}
 use Rattle.turn_cell.specs.declared.views.Held.{Held}
@@ -54,32 +55,31 @@ module _ {V C R : Type 0} (step : V → C → R → V → Type 0) (start : V) (s
   known = splits_known step start s k id v at live first
 
   like : Like v left
-  like = record { origin = refl; number = refl; joined_number = refl }
+  like = record { origin = refl; number = refl; taken = refl }
 
-  fits_left : Fits start k.history k.drawn left
-  fits_left = let f = k.each id v at in record { origin = f.origin; before = f.before; joined_shorter = f.joined_shorter; own = f.own; own_seen = f.own_seen; joined_number = f.joined_number; joined_number_seen = f.joined_number_seen; ticket = f.ticket; has_turn = f.has_turn }
+  fits_left : Fits start k.history left
+  fits_left = let f = k.each id v at in record { origin = f.origin; before = f.before; joined_shorter = f.joined_shorter; own = f.own; own_seen = f.own_seen; taken = f.taken; taken_seen = f.taken_seen; has_turn = f.has_turn }
 
   none_new : entries_of (v.splits + 1) k.history ≡ []
   none_new = k.above (v.splits + 1) (let g = known in omega (arith, g))
 
-  fits_right : Fits start k.history k.drawn right
+  fits_right : Fits start k.history right
   fits_right = let f = k.each id v at in record {
     origin = f.origin;
     before = f.before;
     joined_shorter = (k.history, refl);
     own = λ l. none_new;
     own_seen = λ l. none_seen (v.splits + 1) v.seen k.history f.before none_new;
-    joined_number = λ n g. cc;
-    joined_number_seen = λ n g. cc;
-    ticket = λ t h. cc;
+    taken = λ x g. absurd g;
+    taken_seen = λ x g. absurd g;
     has_turn = λ h. cc;
   }
 
   where_is : (j : ℕ) (u : View V C R) → get_elem? views j ≡ maybe.some u → (get_elem? mid j ≡ maybe.some u) ⊎ ((j ≡ length mid) × (right ≡ u))
   where_is j u e = snoc_at mid right u j e
 
-  each_mid : (j : ℕ) (u : View V C R) → get_elem? mid j ≡ maybe.some u → Fits start k.history k.drawn u
-  each_mid j u e = ⊎_elim (λ x. subst (Fits start k.history k.drawn) x.1 fits_left) (λ x. k.each j u x.1) (there s.views id v left at j u e)
+  each_mid : (j : ℕ) (u : View V C R) → get_elem? mid j ≡ maybe.some u → Fits start k.history u
+  each_mid j u e = ⊎_elim (λ x. subst (Fits start k.history) x.1 fits_left) (λ x. k.each j u x.1) (there s.views id v left at j u e)
 
   mid_below : NumbersUpTo mid k.made
   mid_below = below_same s.views id v left at k.made like k.up_to
@@ -90,37 +90,37 @@ module _ {V C R : Type 0} (step : V → C → R → V → Type 0) (start : V) (s
   number_right : (u : View V C R) → right ≡ u → u.number ≡ v.splits + 1
   number_right u e = ap (λ (x : View V C R). x.number) (sym e)
 
+  no_turn : (u : View V C R) → right ≡ u → u.has_turn ≡ true → ⊥
+  no_turn u e has = let none : right.has_turn ≡ true = ap (λ (x : View V C R). x.has_turn) e ∙ has in cc
+
   numbers : OwnNumbers views
   numbers i j a b e f la lb same = ⊎_elim
       (λ x. ⊎_elim (λ y. numbers_same s.views id v left at like k.numbers i j a b x y la lb same) (λ y. absurd (not_new i a x (same ∙ number_right b y.1))) (where_is j b f))
       (λ x. ⊎_elim (λ y. absurd (not_new j b y (sym same ∙ number_right a x.1))) (λ y. x.0 ∙ sym y.0) (where_is j b f))
       (where_is i a e)
 
-  none_gone : (n : ℕ) (u : View V C R) → right ≡ u → u.joined_number ≡ Some n → ⊥
-  none_gone n u e has = let none : right.joined_number ≡ Some n = ap (λ (x : View V C R). x.joined_number) e ∙ has in cc
+  none_gone : (x : TakenBack C R) (u : View V C R) → right ≡ u → IsOneOf u.taken x → ⊥
+  none_gone x u e has = subst (λ (z : View V C R). IsOneOf z.taken x) (sym e) has
 
   away : StayAway views
-  away i j n a b e f joined_number lb same = ⊎_elim
+  away i j n a b e f has lb same = ⊎_elim
       (λ x. ⊎_elim
-      (λ y. departed_same s.views id v left at like k.away i j n a b x y joined_number lb same)
-      (λ y. let m = (mid_below i a x).1 n joined_number in let g = known in let r = number_right b y.1 in omega (arith, m, g, r, same))
+      (λ y. departed_same s.views id v left at like k.away i j n a b x y has lb same)
+      (λ y. let m = (mid_below i a x).1 n has in let g = known in let r = number_right b y.1 in omega (arith, m, g, r, same))
       (where_is j b f))
-      (λ x. none_gone n a x.1 joined_number)
+      (λ x. none_gone n a x.1 has)
       (where_is i a e)
 
-  no_ticket : (t : ℕ) (u : View V C R) → right ≡ u → u.ticket ≡ Some t → ⊥
-  no_ticket t u e has = let none : right.ticket ≡ Some t = ap (λ (x : View V C R). x.ticket) e ∙ has in cc
-
-  tickets : OwnTickets views
-  tickets i j t a b e f ha hb = ⊎_elim
-      (λ x. ⊎_elim (λ y. tickets_same s.views id v left at refl k.tickets i j t a b x y ha hb) (λ y. absurd (no_ticket t b y.1 hb)) (where_is j b f))
-      (λ x. absurd (no_ticket t a x.1 ha))
+  turns : OneTurn views
+  turns i j a b e f ha hb = ⊎_elim
+      (λ x. ⊎_elim (λ y. turns_same s.views id v left at refl k.turns i j a b x y ha hb) (λ y. absurd (no_turn b y.1 hb)) (where_is j b f))
+      (λ x. absurd (no_turn a x.1 ha))
       (where_is i a e)
 
   none_turns : NoneHasTurn s.views → NoneHasTurn views
   none_turns h j u e turn = ⊎_elim
       (λ x. ⊎_elim (λ y. h id v at (ap (λ (z : View V C R). z.has_turn) y.1 ∙ turn)) (λ y. h j u y.1 turn) (there s.views id v left at j u x))
-      (λ x. let none : right.has_turn ≡ true = ap (λ (z : View V C R). z.has_turn) x.1 ∙ turn in cc)
+      (λ x. no_turn u x.1 turn)
       (where_is j u e)
 
   some_turns : SomeHasTurn s.views → SomeHasTurn views
@@ -136,11 +136,10 @@ module _ {V C R : Type 0} (step : V → C → R → V → Type 0) (start : V) (s
   pub split_kept : TakesTurns step start (record { words = s.words; homes = s.homes; views = set s.views id (after_split v) ++ split_view v ∷ [] })
   split_kept = record {
     history = k.history;
-    drawn = k.drawn;
+    word = k.word;
     made = k.made + 1;
     returned = k.returned;
     words = k.words;
-    waiting = let h = waiting_set s.views id v left at in let m = waiting_more mid right in let c = k.waiting in omega (arith, h, m, c);
     places = length-append mid (right ∷ []) ∙ ap (λ n. n + 1) (length-set s.views id left ∙ k.places);
     few = let g = known in omega (arith, few, g);
     living = let a = alive_same s.views id v left at k.made k.returned like k.living in let m = living_more mid right in let l = life_one right live in omega (arith, a, m, l);
@@ -150,10 +149,10 @@ module _ {V C R : Type 0} (step : V → C → R → V → Type 0) (start : V) (s
         (λ x. (let n = number_right u x.1 in let g = known in omega (arith, n, g), λ n g. absurd (none_gone n u x.1 g)))
         (where_is j u e);
     above = λ n lt. k.above n (omega (arith, lt));
-    each = λ j u e. ⊎_elim (λ x. each_mid j u x) (λ x. subst (Fits start k.history k.drawn) x.1 fits_right) (where_is j u e);
+    each = λ j u e. ⊎_elim (λ x. each_mid j u x) (λ x. subst (Fits start k.history) x.1 fits_right) (where_is j u e);
     numbers = numbers;
     away = away;
-    tickets = tickets;
+    turns = turns;
     seen_all = seen_all;
-    slot = ⊎_elim (λ h. inl (h.0, h.1, h.2, h.3, h.4, none_turns h.5)) (λ h. inr (h.0, some_turns h.1)) k.slot;
+    slot = ⊎_elim (λ h. inl (h.0, h.1, h.2, h.3, h.4, none_turns h.5, h.6)) (λ h. inr (h.0, some_turns h.1, h.2)) k.slot;
   }

@@ -1,6 +1,7 @@
 -- Histories of calls: what is called legal, whose entries are whose, and what goes on from what.
-use Rattle.std.specs.Prelude.{◌≡◌, ℕ, List, [], ◌∷◌, ◌++◌, filter, nat_eq, nat_lt, length, cond}
+use Rattle.std.specs.Prelude.{◌≡◌, ℕ, ◌⊎◌, List, [], ◌∷◌, ◌++◌, filter, nat_eq, nat_lt, length, cond}
 use Rattle.turn_cell.specs.declared.object.Entry.{Entry}
+use Rattle.turn_cell.specs.declared.object.TakenBack.{TakenBack}
 
 module _ {C R : Type 0} where
   -- the entry of one call: the number of the pass that made it, the call, and its reply
@@ -31,3 +32,16 @@ module _ {C R : Type 0} where
   -- the longer of two lists, and the first where they are as long
   abbrev pub longer_of : List (Entry C R) → List (Entry C R) → List (Entry C R)
   longer_of xs ys = cond (nat_lt (length xs) (length ys)) ys xs
+
+  -- a pass that was taken back, with its number and its entries
+  abbrev pub taken_back : ℕ → List (Entry C R) → TakenBack C R
+  taken_back number mine = record { number = number; mine = mine }
+
+  -- it is one of these
+  abbrev pub IsOneOf : List (TakenBack C R) → TakenBack C R → Type 0
+  IsOneOf [] x = ⊥
+  IsOneOf (y ∷ taken) x = (y ≡ x) ⊎ IsOneOf taken x
+
+  -- the entries in a history of each pass that was taken back are those that it made
+  abbrev pub AreTheirs : List (TakenBack C R) → List (Entry C R) → Type 0
+  AreTheirs taken history = (x : TakenBack C R) → IsOneOf taken x → entries_of x.number history ≡ x.mine

@@ -3,6 +3,7 @@ use Rattle.std.specs.Prelude.{◌≡◌, ℕ, ◌+◌, List, [], ◌∷◌, ◌+
 use Rattle.turn_cell.specs.Histories.{entry, entries_of, IsLegalHistory, IsPrefix, longer_of}
 use Rattle.turn_cell.specs.declared.object.Object.{Ghosts}
 use Rattle.turn_cell.specs.declared.object.Entry.{Entry}
+use Rattle.turn_cell.specs.declared.object.TakenBack.{TakenBack}
 use Rattle.turn_cell.specs.declared.views.View.{View}
 use Rattle.turn_cell.specs.declared.cells.TurnCell.{TurnCell}
 use Rattle.turn_cell.specs.declared.cells.Pass.{Pass}
@@ -40,6 +41,10 @@ module _ {V C R : Type 0} {G : Ghosts V C R} where
   -- its own entries
   abbrev pub mine : Pass V C R G → List (Entry C R)
   mine pass = (known pass).mine
+
+  -- the passes that it took back, the last one first
+  abbrev pub taken : Pass V C R G → List (TakenBack C R)
+  taken pass = pass.seat.me.0.taken
 
   -- how many passes the first pass split off
   abbrev pub splits : Pass V C R G → ℕ

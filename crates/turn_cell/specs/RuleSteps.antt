@@ -1,10 +1,10 @@
 -- What each kind of step tells the pass that takes it.
-use Rattle.std.specs.Prelude.{◌≡◌, ◌≢◌, ◌≤◌, ◌⊎◌, ℕ, ◌%◌, ◌^◌, List, [], ◌∷◌, Some, IfSome}
+use Rattle.std.specs.Prelude.{◌≡◌, ◌≢◌, ◌≤◌, ◌⊎◌, ℕ, List, [], ◌∷◌, Some, IfSome}
 use Rattle.std.specs.declared.option.Option.{Option}
 use Rattle.std.specs.declared.snapshot.Snapshot.{Snapshot}
 use Rattle.atomic_table.specs.Table.{Me, Step}
-use Rattle.turn_cell.specs.Histories.{entries_of, IsLegalHistory, IsPrefix}
-use Rattle.turn_cell.specs.Views.{with_ticket, with_turn, after_call, after_meeting}
+use Rattle.turn_cell.specs.Histories.{entries_of, IsLegalHistory, IsPrefix, AreTheirs}
+use Rattle.turn_cell.specs.Views.{with_turn, after_call, after_meeting}
 use Rattle.turn_cell.specs.declared.object.Entry.{Entry}
 use Rattle.turn_cell.specs.declared.views.Held.{Held}
 use Rattle.turn_cell.specs.declared.views.View.{View}
@@ -14,17 +14,12 @@ abbrev pub IsLegalFrom : {V C R : Type 0} → (V → C → R → V → Type 0) �
 IsLegalFrom {V} step origin history last = (o : Snapshot V) → origin ≡ Some o → IsLegalHistory step o.value history last
 
 module _ {V C R : Type 0} where
-  -- a ticket is drawn
-  abbrev pub Draws : Step (Held V C R) → Me (Held V C R) (View V C R) → ℕ → Me (Held V C R) (View V C R) → Type 0
-  Draws s old found new = (t : ℕ) × (found ≡ t % 2 ^ 64) × (new ≡ (with_ticket old.0 t, old.1))
-
-  -- where its ticket is served, the pass has the turn, the slot, and has seen the whole history; else nothing changed
-  abbrev pub Looks : (V → C → R → V → Type 0) → Step (Held V C R) → Me (Held V C R) (View V C R) → ℕ → Me (Held V C R) (View V C R) → Type 0
-  Looks step s old found new =
+  -- where the word was 0, the pass has the turn, the slot, and has seen the whole history; else nothing changed for it
+  abbrev pub Takes : (V → C → R → V → Type 0) → Step (Held V C R) → Me (Held V C R) (View V C R) → ℕ → Me (Held V C R) (View V C R) → Type 0
+  Takes step s old found new =
       ((history : List (Entry C R)) × (held : Held V C R) × (value : V) × IsPrefix old.0.seen history × (entries_of old.0.number history ≡ old.0.mine)
-      × (held.value ≡ Some value) × IsLegalFrom step old.0.origin history value × (new ≡ (with_turn old.0 history, (0, held) ∷ old.1))
-      × ((t : ℕ) × (old.0.ticket ≡ Some t) × (found ≡ t % 2 ^ 64)))
-      ⊎ ((new ≡ old) × ((t : ℕ) → old.0.ticket ≡ Some t → found ≢ t % 2 ^ 64))
+      × (held.value ≡ Some value) × IsLegalFrom step old.0.origin history value × (new ≡ (with_turn old.0 history, (0, held) ∷ old.1)) × (found ≡ 0))
+      ⊎ ((new ≡ old) × (found ≢ 0))
 
   -- a pass that had this view has the turn, and the slot with the value that the whole history leaves
   abbrev pub HasTurn : (V → C → R → V → Type 0) → View V C R → Me (Held V C R) (View V C R) → Type 0
@@ -39,4 +34,4 @@ module _ {V C R : Type 0} where
   -- both lists of a join are prefixes of one history, the entries of both passes in it are those that each knew, and no more passes came back than were made
   abbrev pub Meets : Step (Held V C R) → Me (Held V C R) (View V C R) → ℕ → Me (Held V C R) (View V C R) → Type 0
   Meets s old found new = (history : List (Entry C R)) × IsPrefix old.0.seen history × IsPrefix old.0.joined_shorter history
-      × ((n : ℕ) → old.0.joined_number ≡ Some n → entries_of n old.0.seen ≡ old.0.joined_mine) × (entries_of old.0.number old.0.seen ≡ old.0.mine) × (old.0.joins ≤ old.0.splits) × (new ≡ (after_meeting old.0, old.1))
+      × AreTheirs old.0.taken old.0.seen × (entries_of old.0.number old.0.seen ≡ old.0.mine) × (old.0.joins ≤ old.0.splits) × (new ≡ (after_meeting old.0, old.1))

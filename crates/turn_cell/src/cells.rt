@@ -10,7 +10,7 @@ use crate::rule::{CellSeat, CellTable};
 /// A value at which passes take turns.
 pub struct TurnCell<V: Object> {
     pub(crate) table: CellTable<V, V::Call, V::Reply>,
-    ghost sizes: { (table.shared.table_id.words ≡ 2) × (table.shared.table_id.slots ≡ 1) },
+    ghost sizes: { (table.shared.table_id.words ≡ 1) × (table.shared.table_id.slots ≡ 1) },
 }
 
 /// The right to take turns at one cell. It can move to another thread where the value can.

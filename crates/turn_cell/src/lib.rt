@@ -17,4 +17,4 @@ mod views;
 
 pub use cells::{Pass, Still, TurnCell};
 pub use law::a_pass_knows_one_history;
-pub use object::{Entry, Object};
+pub use object::{Entry, Object, TakenBack};

@@ -1,4 +1,6 @@
-//! What passes take turns at, and what is said of one call.
+//! What passes take turns at, and what is said of one call, and of a pass that was taken back.
+
+use std::collections::LinkedList;
 
 /// A value that changes by calls.
 ///
@@ -27,4 +29,12 @@ pub struct Entry<C, R> {
     pub call: C,
     /// What it was answered.
     pub reply: R,
+}
+
+/// A pass that was taken back: its number, and the entries of its calls. Contracts list such; no value of it is made.
+pub struct TakenBack<C, R> {
+    /// The number of the pass.
+    pub number: u64,
+    /// The entries of its calls.
+    pub mine: LinkedList<Entry<C, R>>,
 }

@@ -32,7 +32,7 @@ pub(crate) fn open<V: Object>(
     ),
     (V, NoMemory),
 >
-    ensures table { IfOk result (λ t. (t.1.table_id ≡ t.0.shared.table_id) × (t.0.shared.table_id.words ≡ 2) × (t.0.shared.table_id.slots ≡ 1)) }
+    ensures table { IfOk result (λ t. (t.1.table_id ≡ t.0.shared.table_id) × (t.0.shared.table_id.words ≡ 1) × (t.0.shared.table_id.slots ≡ 1)) }
     ensures key { IfOk result (λ t. t.0.shared.key.value ≡ value) }
     ensures seat { IfOk result (λ t. t.1.me ≡ (first_view t.0.shared.key, [])) }
     ensures value_returned { IfErr result (λ refused. refused.0 ≡ value) }
@@ -49,7 +49,7 @@ pub(crate) fn open<V: Object>(
             return Err((value_of(failed.value), NoMemory));
         }
     }
-    match Table::new(alloc, &[0, 0], slots, &key) {
+    match Table::new(alloc, &[0], slots, &key) {
         Ok(both) => Ok(both),
         Err(refused) => {
             let Refused { mut slots } = refused;

@@ -1,13 +1,13 @@
 //! The rule of a cell, and the kinds of steps that passes take under it.
 //!
-//! A cell is a ticket lock over a table of two words and one slot. Word 0 is the number served, which is the length of the
-//! history; word 1 is the number of tickets drawn; the slot holds the value. A pass draws a ticket, looks at the number
-//! served until it is that ticket, and then has the turn and the slot. It takes the value out, makes its call, puts the
-//! value back, and adds one to the number served: at that step the call joins the history.
+//! A cell is a lock over a table of one word and one slot, which holds the value. The word is 0 while the slot is at home, 1
+//! while it is out, and 2 while it is out and passes may sleep on the word. A pass that finds 0 as it writes another number
+//! has the turn and the slot. It takes the value out, makes its call, puts the value back, and writes 0: at that step the
+//! call joins the history, whose order is thus the order in which the slot was taken.
 
 ghost use Rattle.turn_cell.specs.Rule.{TakesTurns};
 ghost use Rattle.turn_cell.specs.Views.{first_view, spent_view, after_split, split_view, after_join};
-ghost use Rattle.turn_cell.specs.RuleSteps.{Draws, Looks, Serves, Meets};
+ghost use Rattle.turn_cell.specs.RuleSteps.{Takes, Serves, Meets};
 
 use crate::object::Object;
 use crate::views::{Held, View};
@@ -28,23 +28,16 @@ impl<V: Object> TableRule<Held<V, V::Call, V::Reply>, View<V, V::Call, V::Reply>
     ghost first = { λ key. first_view key };
 }
 
-/// A ticket is drawn.
-pub(crate) struct Drawing;
-
-impl<V, C, R> Play<Held<V, C, R>, View<V, C, R>> for Drawing {
-    ghost then = { Draws };
-}
-
-/// The number served is looked at.
-pub(crate) struct Looking<V> {
+/// The slot is taken where it is at home.
+pub(crate) struct Taking<V> {
     object: PhantomData<V>,
 }
 
-impl<V: Object> Play<Held<V, V::Call, V::Reply>, View<V, V::Call, V::Reply>> for Looking<V> {
-    ghost then = { Looks V.step };
+impl<V: Object> Play<Held<V, V::Call, V::Reply>, View<V, V::Call, V::Reply>> for Taking<V> {
+    ghost then = { Takes V.step };
 }
 
-/// The next ticket is served, and the call that was made joins the history.
+/// The slot goes home, and the call that was made joins the history.
 pub(crate) struct Serving;
 
 impl<V, C, R> Play<Held<V, C, R>, View<V, C, R>> for Serving {
@@ -69,7 +62,7 @@ impl<V, C, R> Join<View<V, C, R>> for Joining {
     ghost spent = { spent_view };
 }
 
-/// The number served is looked at after a join, which tells how the two passes fit one history.
+/// The word is looked at after a join, which tells how the two passes fit one history.
 pub(crate) struct Meeting;
 
 impl<V, C, R> Play<Held<V, C, R>, View<V, C, R>> for Meeting {

@@ -1,7 +1,7 @@
 //! A pass split off, and a pass taken back.
 
-ghost use Rattle.std.specs.Prelude.{◌≡◌, ◌<◌, ◌≤◌, ◌+◌, [], Some};
-ghost use Rattle.turn_cell.specs.Histories.{entries_of};
+ghost use Rattle.std.specs.Prelude.{◌≡◌, ◌<◌, ◌≤◌, ◌+◌, [], ◌∷◌, Some};
+ghost use Rattle.turn_cell.specs.Histories.{entries_of, taken_back, AreTheirs};
 ghost use Rattle.turn_cell.specs.Passes.{known_in, Joined};
 ghost use Rattle.turn_cell.specs.Views.{after_split, split_view, IsIdle};
 
@@ -13,7 +13,7 @@ pub(crate) fn split_off<V: Object>(
     shared: &CellShared<V, V::Call, V::Reply>,
     seat: &mut CellSeat<V, V::Call, V::Reply>,
 ) -> CellSeat<V, V::Call, V::Reply>
-    requires table { (seat.old.table_id ≡ shared.now.table_id) × (shared.now.table_id.words ≡ 2) }
+    requires table { (seat.old.table_id ≡ shared.now.table_id) × (shared.now.table_id.words ≡ 1) }
     requires lives { seat.old.me.0.origin ≡ Some shared.now.key }
     requires first { seat.old.me.0.number ≡ 0 }
     requires few { seat.old.me.0.splits < 1000 }
@@ -34,13 +34,15 @@ pub(crate) fn take_back<V: Object>(
     seat: &mut CellSeat<V, V::Call, V::Reply>,
     other: CellSeat<V, V::Call, V::Reply>,
 )
-    requires table { (seat.old.table_id ≡ shared.now.table_id) × (other.table_id ≡ shared.now.table_id) × (shared.now.table_id.words ≡ 2) }
+    requires table { (seat.old.table_id ≡ shared.now.table_id) × (other.table_id ≡ shared.now.table_id) × (shared.now.table_id.words ≡ 1) }
     requires lives { (seat.old.me.0.origin ≡ Some shared.now.key) × (other.me.0.origin ≡ Some shared.now.key) }
     requires first { seat.old.me.0.number ≡ 0 }
     requires idle { IsIdle seat.old.me × IsIdle other.me }
     ensures table { seat.new.table_id ≡ seat.old.table_id }
     ensures lives { seat.new.me.0.origin ≡ Some shared.now.key }
     ensures joined { Joined (known_in seat.old.me.0) (known_in other.me.0) (known_in seat.new.me.0) }
+    ensures taken { seat.new.me.0.taken ≡ taken_back other.me.0.number other.me.0.mine ∷ seat.old.me.0.taken }
+    ensures theirs { AreTheirs seat.new.me.0.taken seat.new.me.0.seen }
     ensures fewer { seat.new.me.0.joins ≤ seat.new.me.0.splits }
     ensures idle { IsIdle seat.new.me }
 {

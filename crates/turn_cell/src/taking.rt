@@ -1,81 +1,109 @@
 //! One turn, step by step.
 
-ghost use Rattle.std.specs.Prelude.{◌≡◌, ◌%◌, ◌^◌, ◌∷◌, [], Some, None, false, true, ℕ, MatchBool};
+ghost use Rattle.std.specs.Prelude.{◌≡◌, ◌∷◌, [], Some, None, true, MatchBool};
 ghost use Rattle.turn_cell.specs.Histories.{IsLegalHistory};
 ghost use Rattle.turn_cell.specs.Passes.{known_in, Turned};
 ghost use Rattle.turn_cell.specs.RuleSteps.{HasTurn};
-ghost use Rattle.turn_cell.specs.Views.{with_ticket, after_call, IsIdle};
+ghost use Rattle.turn_cell.specs.Views.{after_call, IsIdle};
 
 use crate::object::Object;
-use crate::rule::{CellSeat, CellShared, Drawing, Looking, Serving};
+use crate::rule::{CellSeat, CellShared, Serving, Taking};
 use crate::views::{Held, Said};
 use std::snapshot::Snapshot;
 use std::sync::Wait;
-use std::thread;
 
-// Draws a ticket.
-fn draw<V: Object>(
+// How often a pass looks at the word before it sleeps: most turns are over sooner.
+const LOOKS: u32 = 100;
+
+// Takes the slot where it is at home.
+fn take<V: Object>(
     shared: &CellShared<V, V::Call, V::Reply>,
     seat: &mut CellSeat<V, V::Call, V::Reply>,
-) -> u64
-    requires table { (seat.old.table_id ≡ shared.now.table_id) × (shared.now.table_id.words ≡ 2) }
-    requires idle { seat.old.me.0.ticket ≡ None }
-    requires empty { seat.old.me.1 ≡ [] }
-    ensures table { seat.new.table_id ≡ seat.old.table_id }
-    ensures drawn { (t : ℕ) × (result ≡ t % 2 ^ 64) × (seat.new.me ≡ (with_ticket seat.old.me.0 t, [])) }
-{
-    shared.fetch_add::<Drawing>(seat, 1, 1)
-}
-
-// Whether the ticket is served. The seat then has the turn and the slot.
-fn look<V: Object>(
-    shared: &CellShared<V, V::Call, V::Reply>,
-    seat: &mut CellSeat<V, V::Call, V::Reply>,
-    ticket: u64,
 ) -> bool
-    requires table { (seat.old.table_id ≡ shared.now.table_id) × (shared.now.table_id.words ≡ 2) }
+    requires table { (seat.old.table_id ≡ shared.now.table_id) × (shared.now.table_id.words ≡ 1) }
     requires lives { seat.old.me.0.origin ≡ Some shared.now.key }
-    requires ticket { (t : ℕ) × (seat.old.me.0.ticket ≡ Some t) × (ticket ≡ t % 2 ^ 64) }
-    requires waits { seat.old.me.0.has_turn ≡ false }
     requires empty { seat.old.me.1 ≡ [] }
     ensures table { seat.new.table_id ≡ seat.old.table_id }
     ensures turn { MatchBool result (HasTurn V.step seat.old.me.0 seat.new.me) (seat.new.me ≡ seat.old.me) }
 {
-    shared.load::<Looking<V>>(seat, 0) == ticket
+    shared.compare_exchange::<Taking<V>>(seat, 0, 0, 1) == 0
 }
 
-// Waits until the ticket is served. It lets other threads run meanwhile, so that the one whose turn it is gets on.
+// The same, and where the slot is out the word then says that a pass may sleep. Where the slot was at home the word says so
+// too, and who gives it back wakes one pass too many, never one too few.
+fn take_or_mark<V: Object>(
+    shared: &CellShared<V, V::Call, V::Reply>,
+    seat: &mut CellSeat<V, V::Call, V::Reply>,
+) -> bool
+    requires table { (seat.old.table_id ≡ shared.now.table_id) × (shared.now.table_id.words ≡ 1) }
+    requires lives { seat.old.me.0.origin ≡ Some shared.now.key }
+    requires empty { seat.old.me.1 ≡ [] }
+    ensures table { seat.new.table_id ≡ seat.old.table_id }
+    ensures turn { MatchBool result (HasTurn V.step seat.old.me.0 seat.new.me) (seat.new.me ≡ seat.old.me) }
+{
+    shared.swap::<Taking<V>>(seat, 0, 2) == 0
+}
+
+// Looks at the word for a while, and takes the slot where it comes home meanwhile.
+fn take_soon<V: Object>(
+    shared: &CellShared<V, V::Call, V::Reply>,
+    seat: &mut CellSeat<V, V::Call, V::Reply>,
+) -> bool
+    requires table { (seat.old.table_id ≡ shared.now.table_id) × (shared.now.table_id.words ≡ 1) }
+    requires lives { seat.old.me.0.origin ≡ Some shared.now.key }
+    requires empty { seat.old.me.1 ≡ [] }
+    ensures table { seat.new.table_id ≡ seat.old.table_id }
+    ensures turn { MatchBool result (HasTurn V.step seat.old.me.0 seat.new.me) (seat.new.me ≡ seat.old.me) }
+{
+    for _ in 0..LOOKS {
+        if shared.peek(0) == 0 && take(shared, seat) {
+            return true;
+        }
+    }
+    false
+}
+
+// Waits until the slot is at home, and takes it. It sleeps where that takes long, so that other threads get on.
 fn wait_turn<V: Object, R: Wait>(
     rt: &R,
     shared: &CellShared<V, V::Call, V::Reply>,
     seat: &mut CellSeat<V, V::Call, V::Reply>,
-    ticket: u64,
 )
-    requires table { (seat.old.table_id ≡ shared.now.table_id) × (shared.now.table_id.words ≡ 2) }
+    requires table { (seat.old.table_id ≡ shared.now.table_id) × (shared.now.table_id.words ≡ 1) }
     requires lives { seat.old.me.0.origin ≡ Some shared.now.key }
-    requires ticket { (t : ℕ) × (seat.old.me.0.ticket ≡ Some t) × (ticket ≡ t % 2 ^ 64) }
-    requires waits { seat.old.me.0.has_turn ≡ false }
     requires empty { seat.old.me.1 ≡ [] }
     ensures table { seat.new.table_id ≡ seat.old.table_id }
     ensures turn { HasTurn V.step seat.old.me.0 seat.new.me }
 {
+    if take_soon(shared, seat) {
+        return;
+    }
     for _ in rt.forever() {
-        if look(shared, seat, ticket) {
+        if take_or_mark(shared, seat) {
             return;
         }
-        thread::yield_now();
+        shared.park(rt, 0, 2);
     }
     unreachable!()
 }
 
-// Makes a call at the value that was taken out of the slot, puts the value back, and serves the next ticket.
+// Wakes one pass where the word said that there may be one that sleeps.
+fn wake<V: Object>(shared: &CellShared<V, V::Call, V::Reply>, found: u64)
+    requires { shared.now.table_id.words ≡ 1 }
+{
+    if found == 2 {
+        shared.wake_one(0);
+    }
+}
+
+// Makes a call at the value that was taken out of the slot, puts the value back, and gives the slot back.
 fn serve<V: Object>(
     shared: &CellShared<V, V::Call, V::Reply>,
     seat: &mut CellSeat<V, V::Call, V::Reply>,
     mut value: V,
     call: V::Call,
 ) -> V::Reply
-    requires table { (seat.old.table_id ≡ shared.now.table_id) × (shared.now.table_id.words ≡ 2) }
+    requires table { (seat.old.table_id ≡ shared.now.table_id) × (shared.now.table_id.words ≡ 1) }
     requires lives { seat.old.me.0.origin ≡ Some shared.now.key }
     requires turn { seat.old.me.0.has_turn ≡ true }
     requires out { (held : _) × (seat.old.me.1 ≡ (0, held) ∷ []) × (held.value ≡ None) }
@@ -97,7 +125,8 @@ fn serve<V: Object>(
     let old = shared.exchange(seat, 0, held);
     let nothing = old.into_value();
     let None = nothing else { unreachable!() };
-    shared.fetch_add::<Serving>(seat, 0, 1);
+    let found = shared.swap::<Serving>(seat, 0, 0);
+    wake(shared, found);
     reply
 }
 
@@ -108,7 +137,7 @@ pub(crate) fn take_turn<V: Object, R: Wait>(
     seat: &mut CellSeat<V, V::Call, V::Reply>,
     call: V::Call,
 ) -> V::Reply
-    requires table { (seat.old.table_id ≡ shared.now.table_id) × (shared.now.table_id.words ≡ 2) }
+    requires table { (seat.old.table_id ≡ shared.now.table_id) × (shared.now.table_id.words ≡ 1) }
     requires lives { seat.old.me.0.origin ≡ Some shared.now.key }
     requires idle { IsIdle seat.old.me }
     ensures table { seat.new.table_id ≡ seat.old.table_id }
@@ -116,8 +145,7 @@ pub(crate) fn take_turn<V: Object, R: Wait>(
     ensures turned { Turned V.step shared.now.key.value (known_in seat.old.me.0) call result (known_in seat.new.me.0) }
     ensures idle { IsIdle seat.new.me }
 {
-    let ticket = draw(shared, seat);
-    wait_turn(rt, shared, seat, ticket);
+    wait_turn(rt, shared, seat);
     let taken = shared.exchange(
         seat,
         0,

@@ -1,8 +1,8 @@
 //! What can be done with a cell and its passes.
 
-ghost use Rattle.std.specs.Prelude.{◌≡◌, ◌<◌, ◌≤◌, ◌+◌, ◌-◌, ◌↔◌, [], IfOk, IfErr, IsErr};
-ghost use Rattle.turn_cell.specs.Histories.{IsLegalHistory};
-ghost use Rattle.turn_cell.specs.Passes.{start, known, number, seen, mine, splits, joins, IsOf, IsFirst, Turned, SplitOff, Joined};
+ghost use Rattle.std.specs.Prelude.{◌≡◌, ◌<◌, ◌≤◌, ◌+◌, ◌-◌, ◌↔◌, [], ◌∷◌, IfOk, IfErr, IsErr};
+ghost use Rattle.turn_cell.specs.Histories.{IsLegalHistory, taken_back, AreTheirs};
+ghost use Rattle.turn_cell.specs.Passes.{start, known, number, seen, mine, taken, splits, joins, IsOf, IsFirst, Turned, SplitOff, Joined};
 
 use crate::cells::{Pass, Still, TurnCell};
 use crate::object::Object;
@@ -54,7 +54,7 @@ impl<V: Object> TurnCell<V> {
         }
     }
 
-    /// Makes one call at the value. It may wait for turns of other passes to end, and lets other threads run meanwhile.
+    /// Makes one call at the value. It may wait for turns of other passes to end, and sleeps where that takes long.
     ///
     /// The pass then knows one legal history of all calls up to this one, which goes on from what it knew and ends with
     /// this call. No memory is taken but by the call itself.
@@ -84,12 +84,15 @@ impl<V: Object> TurnCell<V> {
         }
     }
 
-    /// Takes a pass back into the first one, which then knows what either knew.
+    /// Takes a pass back into the first one, which then knows what either knew. In what it knows, the entries under the number
+    /// of each pass that it ever took back are those that that pass made.
     pub fn join(&self, pass: &mut Pass<V>, other: Pass<V>)
         requires of { IsOf self.now pass.old × IsOf self.now other }
         requires first { IsFirst pass.old }
         ensures of { IsOf self.now pass.new }
         ensures joined { Joined (known pass.old) (known other) (known pass.new) }
+        ensures taken { taken pass.new ≡ taken_back (number other) (mine other) ∷ taken pass.old }
+        ensures theirs { AreTheirs (taken pass.new) (seen pass.new) }
     {
         take_back(&self.table.shared, &mut pass.seat, other.into_seat());
         pass.joins += 1;

@@ -2,14 +2,14 @@
 
 ghost use Rattle.std.specs.Prelude.{◌≡◌};
 
-use crate::object::Entry;
+use crate::object::{Entry, TakenBack};
 use std::collections::LinkedList;
 use std::snapshot::Snapshot;
 
 /// What is known of a pass. No value of it is made.
 ///
-/// The fields that begin with `joined` are set from a join to the look at the number served that ends it: a join tells its
-/// caller no more than what both views said, and that look then tells how they fit the one history.
+/// The field `joined_shorter` is set from a join to the look at the word that ends it: a join tells its caller no more than
+/// what both views said, and that look then tells how they fit the one history.
 pub(crate) struct View<V, C, R> {
     /// The first value of the cell. There is none once the pass was taken back.
     pub(crate) origin: Option<Snapshot<V>>,
@@ -19,8 +19,6 @@ pub(crate) struct View<V, C, R> {
     pub(crate) splits: u64,
     /// How many of them it took back.
     pub(crate) joins: u64,
-    /// The ticket that the pass drew and that is not served yet.
-    pub(crate) ticket: Option<u64>,
     /// The pass has the turn, and the slot.
     pub(crate) has_turn: bool,
     /// The part of the history that the pass has seen.
@@ -29,10 +27,8 @@ pub(crate) struct View<V, C, R> {
     pub(crate) mine: LinkedList<Entry<C, R>>,
     /// The shorter of the two lists that were joined.
     pub(crate) joined_shorter: LinkedList<Entry<C, R>>,
-    /// The number of the pass that was taken back.
-    pub(crate) joined_number: Option<u64>,
-    /// The entries of its calls.
-    pub(crate) joined_mine: LinkedList<Entry<C, R>>,
+    /// The passes that it took back, the last one first.
+    pub(crate) taken: LinkedList<TakenBack<C, R>>,
 }
 
 /// A call and its reply, for clauses alone.

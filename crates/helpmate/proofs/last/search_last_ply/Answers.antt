@@ -1,11 +1,20 @@
-use Rattle.helpmate.proofs.LastPly.{none_next, last_kept, last_mates}
+use Rattle.std.proofs.Common.{◌-◌, refl, arith}
+use Rattle.helpmate.proofs.Counting.{no_units}
+use Rattle.helpmate.proofs.LastPly.{one_unit, none_next}
 use Rattle.helpmate.proofs.last.search_last_ply.Goals as goal
 
-pub none-requires : goal.none-requires
-none-requires g c = none_next c.args.position.now c.args.winner c.requires.running c.in-None.ensures.none
+pub returns-then-is_mate-clause-units : goal.returns-then-is_mate-clause-units
+returns-then-is_mate-clause-units c = no_units c.args.position.now 1 (c.args.left.now - c.args.left.now) (omega arith)
 
-pub returns-in-Some-clause-calls : goal.returns-in-Some-clause-calls
-returns-in-Some-clause-calls g c = last_mates g.F.Facts.made c.args.facts.now c.args.position.now c.args.winner _ (g.met.F.Facts.none_made c.args.facts.now)
+pub returns-then-left-eq0-clause-units : goal.returns-then-left-eq0-clause-units
+returns-then-left-eq0-clause-units c = no_units c.args.position.now 1 (c.args.left.now - c.args.left.now) (omega arith)
 
-pub returns-in-None-clause-calls : goal.returns-in-None-clause-calls
-returns-in-None-clause-calls g c = last_kept g.F.Facts.made _ _ c.args.position.now c.args.winner c.none.result c.store-stored.result c.store-stored.ensures.entered c.none.ensures
+pub returns-in-Some-clause-units : goal.returns-in-Some-clause-units
+returns-in-Some-clause-units c = let some = c.if-left-eq0.false in one_unit c.args.position.now 1 c.args.left.now refl (omega (arith, some))
+
+pub returns-in-None-clause-units : goal.returns-in-None-clause-units
+returns-in-None-clause-units c = let some = c.if-left-eq0.false in one_unit c.args.position.now 1 c.args.left.now refl (omega (arith, some))
+
+pub returns-in-None-clause-holds : goal.returns-in-None-clause-holds
+returns-in-None-clause-holds c =
+    none_next c.args.position.now c.args.winner (λ mated. let is = c.is_mate.ensures.mated.1 mated in let not = c.if-is_mate.false in cc) c.in-None.ensures.none

@@ -1,24 +1,24 @@
-use Rattle.std.proofs.Common.{sym, ◌∙◌, refl}
-use Rattle.helpmate.proofs.Trying.{asks_once, follows_found, undecided, missed}
+use Rattle.std.proofs.Common.{◌-◌, Ok, sym, ◌∙◌, refl, arith}
+use Rattle.helpmate.proofs.Counting.{no_units}
+use Rattle.helpmate.proofs.Trying.{asks_once, decides, undecided, missed}
 use Rattle.helpmate.proofs.rounds.looked.Goals as goal
 
 pub returns-in-Some-clause-calls : goal.returns-in-Some-clause-calls
 returns-in-Some-clause-calls g c =
-    let q = c.args.position.now in
-    let w = c.args.winner in
-    asks_once g.F.Facts.made c.args.facts.now c.ask.new.facts q w c.ask.result c.in-Some.answer c.ask.ensures.entered
-    (follows_found 0 0 c.ask.result c.in-Found.row c.in-Some.answer c.in-Found.is (sym c.decided.ensures.value ∙ c.in-Some.is) refl)
+    decides g.F.Facts.made c.args.facts.now c.ask.new.facts c.args.position.now c.args.winner c.args.depth (c.args.left.now - c.args.left.now) c.ask.result c.in-Found.row c.in-Some.answer (Ok c.in-Some.answer) c.ask.ensures.entered
+    c.in-Found.is (sym c.decided.ensures.value ∙ c.in-Some.is) (omega arith) refl
 
 pub returns-in-None-clause-calls : goal.returns-in-None-clause-calls
 returns-in-None-clause-calls g c =
-    let q = c.args.position.now in
-    let w = c.args.winner in
-    asks_once g.F.Facts.made c.args.facts.now c.ask.new.facts q w c.ask.result c.look.result c.ask.ensures.entered
-    (undecided 0 0 c.ask.result c.in-Found.row c.in-Found.is (sym c.decided.ensures.value ∙ c.in-None.is) c.look.result)
+    let units = c.args.left.now - c.search_shallow.new.left in
+    asks_once g.F.Facts.made c.args.facts.now c.ask.new.facts c.args.position.now c.args.winner c.args.depth units c.ask.result (Ok c.search_shallow.result) c.ask.ensures.entered
+    c.requires.few (undecided c.args.depth units c.ask.result c.in-Found.row c.in-Found.is (sym c.decided.ensures.value ∙ c.in-None.is))
 
 pub returns-in-Miss-clause-calls : goal.returns-in-Miss-clause-calls
 returns-in-Miss-clause-calls g c =
-    let q = c.args.position.now in
-    let w = c.args.winner in
-    asks_once g.F.Facts.made c.args.facts.now c.ask.new.facts q w c.ask.result c.look-in-Miss.result c.ask.ensures.entered
-    (missed 0 0 c.ask.result c.in-Miss.is c.look-in-Miss.result)
+    let units = c.args.left.now - c.search_shallow-in-Miss.new.left in
+    asks_once g.F.Facts.made c.args.facts.now c.ask.new.facts c.args.position.now c.args.winner c.args.depth units c.ask.result (Ok c.search_shallow-in-Miss.result) c.ask.ensures.entered
+    c.requires.few (missed c.args.depth units c.ask.result c.in-Miss.is)
+
+pub returns-in-Some-clause-units : goal.returns-in-Some-clause-units
+returns-in-Some-clause-units g c = no_units c.args.position.now c.args.depth (c.args.left.now - c.args.left.now) (omega arith)

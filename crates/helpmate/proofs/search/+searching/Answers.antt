@@ -3,8 +3,7 @@ use Rattle.cha_moves.specs.Moves.{after}
 use Rattle.helpmate.specs.declared.answers.RoundAnswer.TheVariants.{Mate, NoneWithin, Spent}
 use Rattle.helpmate.proofs.Counting.{no_units, from_no_move, one_more_counted, all_counted}
 use Rattle.helpmate.proofs.Saying.{none_answered, no_answer}
-use Rattle.helpmate.proofs.Trying.{no_mate_yet, no_mate_more, no_mate_at_all, none_tried, one_more_tried, ends_otherwise, ends_below, all_tried, decides, expanded, undecided, missed}
-use Rattle.helpmate.proofs.LastPly.{one_unit, answer_at, calls_at}
+use Rattle.helpmate.proofs.Trying.{no_mate_yet, no_mate_more, no_mate_at_all, none_tried, one_more_tried, ends_otherwise, ends_below, all_tried, decides, of_root, expanded, undecided, missed}
 use Rattle.helpmate.proofs.search.+searching.Goals as goal
 
 pub expand-returns-then-is_mate-clause-units : goal.expand-returns-then-is_mate-clause-units
@@ -20,16 +19,6 @@ expand-returns-then-left-eq0-clause-units g t c = no_units c.args.position.now c
 pub expand-returns-then-left-eq0-clause-calls : goal.expand-returns-then-left-eq0-clause-calls
 expand-returns-then-left-eq0-clause-calls g t c =
     ends_otherwise g.F.Facts.made c.args.facts.now c.args.facts.now c.args.position.now c.args.winner c.args.depth 0 [] _ (none_tried g.F.Facts.made c.args.facts.now c.args.position.now c.args.winner 0 (g.met.F.Facts.none_made c.args.facts.now)) (λ e. cc)
-
-pub expand-returns-then-depth-eq1-clause-units : goal.expand-returns-then-depth-eq1-clause-units
-expand-returns-then-depth-eq1-clause-units g t c = (let some = c.if-left-eq0.false in one_unit c.args.position.now c.args.depth c.args.left.now c.if-depth-eq1.true (omega arith))
-
-pub expand-returns-then-depth-eq1-clause-holds : goal.expand-returns-then-depth-eq1-clause-holds
-expand-returns-then-depth-eq1-clause-holds g t c = answer_at c.args.position.now c.args.winner c.args.depth c.search_last_ply.result c.if-depth-eq1.true c.search_last_ply.ensures.holds
-
-pub expand-returns-then-depth-eq1-clause-calls : goal.expand-returns-then-depth-eq1-clause-calls
-expand-returns-then-depth-eq1-clause-calls g t c =
-    calls_at g.F.Facts.made c.args.facts.now c.search_last_ply.new.facts c.args.position.now c.args.winner c.args.depth (Ok c.search_last_ply.result) c.if-depth-eq1.true c.search_last_ply.ensures.calls
 
 pub expand-returns-in_err-moves-clause-calls : goal.expand-returns-in_err-moves-clause-calls
 expand-returns-in_err-moves-clause-calls g t c =
@@ -59,7 +48,7 @@ expand-returns-in-Mate-clause-units g t c =
     let fewer = c.loop-m.invariant.fewer in
     all_counted q c.args.depth c.args.left.now c.search.new.left (take (i + 1) ms)
     (one_more_counted q c.after-next.result (c.args.depth - 1) c.args.left.now c.loop-m.left c.search.new.left ms i c.m-item.result c.loop-m.invariant.lines c.in_ok-rest.ensures.units c.after-next.ensures c.loop-m-test.true c.m-item.is c.loop-m.invariant.listed less fewer)
-    c.requires.some (omega arith)
+    (let some = c.requires.some in omega (arith, some)) (omega arith)
 
 pub expand-returns-in-Mate-clause-calls : goal.expand-returns-in-Mate-clause-calls
 expand-returns-in-Mate-clause-calls g t c =
@@ -75,7 +64,7 @@ expand-returns-in-Spent-clause-units g t c =
     let fewer = c.loop-m.invariant.fewer in
     all_counted q c.args.depth c.args.left.now c.search.new.left (take (i + 1) ms)
     (one_more_counted q c.after-next.result (c.args.depth - 1) c.args.left.now c.loop-m.left c.search.new.left ms i c.m-item.result c.loop-m.invariant.lines c.in_ok-rest.ensures.units c.after-next.ensures c.loop-m-test.true c.m-item.is c.loop-m.invariant.listed less fewer)
-    c.requires.some (omega arith)
+    (let some = c.requires.some in omega (arith, some)) (omega arith)
 
 pub expand-returns-in-Spent-clause-calls : goal.expand-returns-in-Spent-clause-calls
 expand-returns-in-Spent-clause-calls g t c =
@@ -107,7 +96,7 @@ expand-none-requires g t c =
 
 pub expand-returns-clause-units : goal.expand-returns-clause-units
 expand-returns-clause-units g t c =
-    all_counted c.args.position.now c.args.depth c.args.left.now c.loop-m.left (take c.loop-m.m-index c.deref-m-items.result.now) c.loop-m.invariant.lines c.requires.some c.loop-m.invariant.fewer
+    all_counted c.args.position.now c.args.depth c.args.left.now c.loop-m.left (take c.loop-m.m-index c.deref-m-items.result.now) c.loop-m.invariant.lines (let some = c.requires.some in omega (arith, some)) c.loop-m.invariant.fewer
 
 pub expand-returns-clause-calls : goal.expand-returns-clause-calls
 expand-returns-clause-calls g t c =
@@ -121,24 +110,23 @@ pub search-returns-in-Some-clause-calls : goal.search-returns-in-Some-clause-cal
 search-returns-in-Some-clause-calls g t c =
     let q = c.args.position.now in
     let w = c.args.winner in
-    let some = c.if-depth-eq0.false in
-    decides g.F.Facts.made c.args.facts.now c.ask.new.facts q w c.args.depth (c.args.left.now - c.args.left.now) c.ask.result c.in-Found.row c.in-Some.answer (Ok c.in-Some.answer) c.ask.ensures.entered
-    c.in-Found.is (sym c.decided.ensures.value ∙ c.in-Some.is) (omega arith) (omega arith) refl
+    let units = c.args.left.now - c.args.left.now in
+    of_root g.F.Facts.made c.args.facts.now c.ask.new.facts q w c.args.depth units (Ok c.in-Some.answer)
+    (decides g.F.Facts.made c.args.facts.now c.ask.new.facts q w c.args.depth units c.ask.result c.in-Found.row c.in-Some.answer (Ok c.in-Some.answer) c.ask.ensures.entered
+    c.in-Found.is (sym c.decided.ensures.value ∙ c.in-Some.is) (omega arith) refl)
 
 pub search-returns-in-None-clause-calls : goal.search-returns-in-None-clause-calls
 search-returns-in-None-clause-calls g t c =
     let q = c.args.position.now in
     let w = c.args.winner in
-    let some = c.if-depth-eq0.false in
     let units = c.args.left.now - c.expand.new.left in
     expanded g.F.Facts.made c.args.facts.now c.ask.new.facts c.expand.new.facts q w c.args.depth units c.ask.result c.expand.result g.met.F.Facts.both_made c.ask.ensures.entered
-    c.expand.ensures.calls (omega arith) (undecided c.args.depth units c.ask.result c.in-Found.row c.in-Found.is (sym c.decided.ensures.value ∙ c.in-None.is))
+    c.expand.ensures.calls (undecided c.args.depth units c.ask.result c.in-Found.row c.in-Found.is (sym c.decided.ensures.value ∙ c.in-None.is))
 
 pub search-returns-in-Miss-clause-calls : goal.search-returns-in-Miss-clause-calls
 search-returns-in-Miss-clause-calls g t c =
     let q = c.args.position.now in
     let w = c.args.winner in
-    let some = c.if-depth-eq0.false in
     let units = c.args.left.now - c.expand-in-Miss.new.left in
     expanded g.F.Facts.made c.args.facts.now c.ask.new.facts c.expand-in-Miss.new.facts q w c.args.depth units c.ask.result c.expand-in-Miss.result g.met.F.Facts.both_made c.ask.ensures.entered
-    c.expand-in-Miss.ensures.calls (omega arith) (missed c.args.depth units c.ask.result c.in-Miss.is)
+    c.expand-in-Miss.ensures.calls (missed c.args.depth units c.ask.result c.in-Miss.is)

@@ -1,7 +1,7 @@
 use Rattle.std.proofs.Common.{◌∙◌, ap, arith}
 use Rattle.turn_cell.specs.Passes.{Joined, known}
 use Rattle.shard_table.specs.Tables.{IsOfTable}
-use Rattle.shard_table.proofs.PassAt.{get_index, pass_index, pass_else, both_at, of_all}
+use Rattle.shard_table.proofs.PassAt.{get_index, pass_index, pass_else, both_at, of_all, taken_both, whole_else}
 use Rattle.shard_table.proofs.passes.join_at.Goals as goal
 
 pub join-requires-clause-of : goal.join-requires-clause-of
@@ -34,3 +34,12 @@ returns-clause-joined c =
 
 pub returns-clause-others : goal.returns-clause-others
 returns-clause-others c = λ j apart. pass_else c.args.pass.now.passes c.args.shard j _ apart
+
+pub returns-clause-taken : goal.returns-clause-taken
+returns-clause-taken c =
+    let few = c.requires.shard in
+    let b = c.args.pass.now.eight in
+    taken_both c.args.pass.now.passes c.args.shard c.index-pass-shard.result _ _ (omega (arith, few, b)) c.join.ensures.taken c.join.ensures.theirs
+
+pub returns-clause-taken_others : goal.returns-clause-taken_others
+returns-clause-taken_others c = λ j apart. whole_else c.args.pass.now.passes c.args.shard j _ apart

@@ -20,7 +20,7 @@ load-requires g c =
       e.3 ∙ c.requires.table.0,
       omega (arith, c.requires.table.1),
       λ s k len at lt.
-          (after_meeting m.0, keeps, tt, met_kept _ _ s k c.split_seat-other.result.id m.0 at no_turn, (k.history, (k.each _ _ at).before, (k.each _ _ at).joined_shorter, (k.each _ _ at).joined_number_seen, (k.each _ _ at).own_seen live, omega (arith, joins), refl)),
+          (after_meeting m.0, keeps, tt, met_kept _ _ s k c.split_seat-other.result.id m.0 at no_turn, (k.history, (k.each _ _ at).before, (k.each _ _ at).joined_shorter, (k.each _ _ at).taken_seen, (k.each _ _ at).own_seen live, omega (arith, joins), refl)),
     )
 
 pub returns-clause-new : goal.returns-clause-new

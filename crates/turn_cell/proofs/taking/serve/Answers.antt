@@ -12,8 +12,8 @@ exchange-old-requires g c =
     let h = c.requires.out.1 in
     (c.requires.table.0, (c.requires.out.0, h ∙ ap (λ r. (0, c.requires.out.0) ∷ r) (sym (ap rest h))))
 
-pub fetch_add-requires : goal.fetch_add-requires
-fetch_add-requires g c =
+pub swap-found-requires : goal.swap-found-requires
+swap-found-requires g c =
     let e = c.exchange-old.ensures in
     let said : Said g.row.V-Call.Denot g.row.V-Reply.Denot = record { call = c.of-asked.result; reply = c.of-answered.result } in
     let held : Held g.row.V.Denot g.row.V-Call.Denot g.row.V-Reply.Denot = record { value = Some c.apply-reply.new.self; said = Some said } in

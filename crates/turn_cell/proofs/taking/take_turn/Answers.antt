@@ -1,6 +1,4 @@
-use Rattle.std.proofs.Common.{◌≡◌, ◌∙◌, ap, subst, refl, None, ◌∷◌}
-use Rattle.turn_cell.specs.Histories.{IsPrefix, entries_of}
-use Rattle.turn_cell.specs.Views.{with_turn}
+use Rattle.std.proofs.Common.{◌∙◌, ap, refl, None, ◌∷◌}
 use Rattle.turn_cell.proofs.Serving.{turn_told}
 use Rattle.atomic_table.specs.Table.{rest}
 use Rattle.turn_cell.specs.declared.views.Held.{Held}
@@ -15,10 +13,7 @@ serve-requires-clause-out g c =
 
 pub returns-clause-turned : goal.returns-clause-turned
 returns-clause-turned g c =
-    let d = c.draw-ticket.ensures.drawn in
-    let v1 = ap (λ m. m.0) d.2 in
     let h = c.wait_turn.ensures.turn in
-    turn_told g.V.Object.step c.args.shared.now.key.value c.args.seat.now.me.0 d.0 c.args.call c.serve.result h.0
-    (subst (λ v. IsPrefix v.seen h.0) v1 h.3) (subst (λ v. entries_of v.number h.0 ≡ v.mine) v1 h.4)
+    turn_told g.V.Object.step c.args.shared.now.key.value c.args.seat.now.me.0 c.args.call c.serve.result h.0 h.3 h.4
     c.exchange-taken.new.seat.me.0 c.serve.new.seat.me.0
-    (ap (λ m. m.0) c.exchange-taken.ensures.3 ∙ (ap (λ m. m.0) h.7 ∙ ap (λ v. with_turn v h.0) v1)) (ap (λ m. m.0) c.serve.ensures.entry) c.serve.ensures.legal
+    (ap (λ m. m.0) c.exchange-taken.ensures.3 ∙ ap (λ m. m.0) h.7) (ap (λ m. m.0) c.serve.ensures.entry) c.serve.ensures.legal

@@ -3,7 +3,7 @@ use Rattle.cha_fact.specs.declared.calls.FactCall.TheVariants.{Store}
 use Rattle.shard_table.specs.ShardRows.{row_key}
 use Rattle.shard_table.specs.Shards.{empty}
 use Rattle.shard_table.specs.Tables.{TakesTurn, pass_at, shard_number}
-use Rattle.shard_table.proofs.Turning.{no_probed, stores}
+use Rattle.shard_table.proofs.Turning.{no_probed, stores, keeps}
 use Rattle.shard_table.proofs.Knowing.{knows_well}
 use Rattle.shard_table.proofs.table.Table.store.Goals as goal
 
@@ -18,3 +18,8 @@ returns-clause-exactly g c =
 
 pub returns-clause-knows : goal.returns-clause-knows
 returns-clause-knows g c = knows_well c.args.self.now c.turn.new.pass c.turn.ensures.of
+
+pub returns-clause-kept : goal.returns-clause-kept
+returns-clause-kept g c =
+    let k = shard_number (row_key c.args.row) in
+    keeps (empty c.args.self.now.entries) (pass_at c.args.pass.now k) (pass_at c.turn.new.pass k) c.args.row c.in-Stored.stored c.in-Stored.ensures.turned

@@ -12,7 +12,7 @@ value_of-requires g c =
     let no = c.if-pass.false in
     let alone : pass.seat.me.0.splits ≡ pass.seat.me.0.joins = omega (arith, counts, fewer, no) in
     let h = closed_held g.V.Object.step c.args.self.table.shared.key.value c.into_table.result.shared.key.value (ap (λ t. t.shared.key.value) c.into_table.ensures) pass.seat.id c.into_seat.result.id (ap (λ s. s.id) c.into_seat.ensures) pass.seat.me.0 c.into_seat.result.me.0 (ap (λ s. s.me.0) c.into_seat.ensures)
-    (ap (λ o. is_some o) c.requires.of.1) c.requires.first pass.idle.1 alone _ _ c.close_with-closed.ensures.values.2 c.take-held.result c.take-held.ensures.value in
+    (ap (λ o. is_some o) c.requires.of.1) c.requires.first pass.idle.0 alone _ _ c.close_with-closed.ensures.values.2 c.take-held.result c.take-held.ensures.value in
     (h.0, h.1)
 
 pub returns-clause-value : goal.returns-clause-value
@@ -23,5 +23,5 @@ returns-clause-value g c =
     let no = c.if-pass.false in
     let alone : pass.seat.me.0.splits ≡ pass.seat.me.0.joins = omega (arith, counts, fewer, no) in
     let h = closed_held g.V.Object.step c.args.self.table.shared.key.value c.into_table.result.shared.key.value (ap (λ t. t.shared.key.value) c.into_table.ensures) pass.seat.id c.into_seat.result.id (ap (λ s. s.id) c.into_seat.ensures) pass.seat.me.0 c.into_seat.result.me.0 (ap (λ s. s.me.0) c.into_seat.ensures)
-    (ap (λ o. is_some o) c.requires.of.1) c.requires.first pass.idle.1 alone _ _ c.close_with-closed.ensures.values.2 c.take-held.result c.take-held.ensures.value in
+    (ap (λ o. is_some o) c.requires.of.1) c.requires.first pass.idle.0 alone _ _ c.close_with-closed.ensures.values.2 c.take-held.result c.take-held.ensures.value in
     subst (λ u. IsLegalHistory g.V.Object.step c.args.self.table.shared.key.value pass.seat.me.0.seen u) (same_Some _ _ (sym h.1 ∙ c.value_of.ensures)) h.2

@@ -1,5 +1,5 @@
 # make            proves and builds the program, and leaves it as ./cha
-# make run        shows it on a sample
+# make run        judges a sample: by ./cha where it is up to date, else by a build without proofs (a minute)
 # make test       the gate: all proofs, must-fail edits, tests and programs
 # make install    copies the program to PREFIX/bin (PREFIX=/usr/local)
 # make lib        builds libcha.a and libcha.so; make install-lib copies them, the header and cha.pc
@@ -20,8 +20,8 @@ cha: $(SOURCES) | kit
 	@cd crates/cha_main && rt run -- position < /dev/null > /dev/null
 	@cp $(PROGRAM) cha
 
-run: cha
-	@./cha adjudicate < docs/sample.pgn
+run:
+	@tools/run.sh
 
 test: kit
 	rt ci

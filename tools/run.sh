@@ -4,12 +4,10 @@
 #
 #     tools/run.sh [WORD ..] < INPUT        by default: adjudicate < docs/sample.pgn
 set -u
+cd "$(dirname "$0")/.." || exit 2
 if [ $# -eq 0 ]; then
-    cd "$(dirname "$0")/.." || exit 2
     set -- adjudicate
     exec < docs/sample.pgn
-else
-    cd "$(dirname "$0")/.." || exit 2
 fi
 
 if [ -x cha ] && [ -z "$(find HANDLES crates.txt crates/*/src crates/*/specs crates/*/proofs -type f -newer cha -print -quit)" ]; then
@@ -20,19 +18,24 @@ if ! command -v rt > /dev/null; then
     exit 2
 fi
 
-log=$(mktemp) || exit 2
+room=$(mktemp -d) || exit 2
 ticks=
-trap 'rm -f "$log"; [ -z "$ticks" ] || kill "$ticks" 2> /dev/null' EXIT
+trap 'rm -rf "$room"; [ -z "$ticks" ] || kill "$ticks" 2> /dev/null' EXIT
 echo "there is no proved ./cha of these sources: compiling the program without its proofs, which takes about a minute" >&2
 if [ -t 2 ]; then
     while sleep 5; do printf '\r%d s' "$SECONDS" >&2; done &
     ticks=$!
 fi
-(cd crates/cha_main && exec rt try -- "$@") 2> "$log"
+(cd crates/cha_main && exec rt try -- "$@") > "$room/out" 2> "$room/err"
 status=$?
-[ -t 2 ] && printf '\r' >&2
-if ! grep -q '^run=ended' "$log"; then
-    cat "$log" >&2
+if [ -n "$ticks" ]; then
+    kill "$ticks"
+    ticks=
+    printf '\r        \r' >&2
+fi
+cat "$room/out"
+if ! grep -q '^run=ended' "$room/err"; then
+    cat "$room/err" >&2
     exit 2
 fi
 echo "This build is compiled and not proved. 'make' proves it and leaves ./cha: that takes about 20 minutes on four idle processors." >&2

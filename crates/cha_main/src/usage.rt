@@ -138,7 +138,7 @@ fn say_further(rt: &HostRuntime, command: Command, given: Given) -> io::Result<(
 /// Writes which words may stand at a place.
 fn say_expected(rt: &HostRuntime, expected: Expected) -> io::Result<()> {
     match expected {
-        Expected::ACommand => {
+        Expected::First => {
             let mut before = "";
             for command in COMMANDS {
                 eprint!(rt; "{before}{}", command_name(command))?;

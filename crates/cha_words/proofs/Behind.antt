@@ -8,7 +8,7 @@ use Rattle.cha_words.specs.declared.table.Setting.{Setting}
 use Rattle.cha_words.specs.declared.table.Setting.TheVariants.{Budget, Workers, Depth, Entries, Certs}
 use Rattle.cha_words.specs.declared.given.Progress.{Progress}
 use Rattle.cha_words.specs.declared.faults.Expected.{Expected}
-use Rattle.cha_words.specs.declared.faults.Expected.TheVariants.{ACommand, Behind}
+use Rattle.cha_words.specs.declared.faults.Expected.TheVariants.{First, Behind}
 use Rattle.cha_words.specs.Language.{command_named, range, order_by, order_of}
 use Rattle.cha_words.specs.Reading.{value_in, nothing, order_from, order_with, IsGivenIn, Stands, TakesWord}
 use Rattle.cha_words.specs.Faults.{IsFaultOf}
@@ -63,6 +63,7 @@ fault_at c p words i stands within same stops =
       within = within;
       before = (goes.0, goes.1, same goes.0 ∙ goes.2);
       wrong = λ inside. stops;
+      stands = stands;
       expected = same;
     }
 
@@ -76,6 +77,7 @@ fault_end c p words i stands within at_end same none =
       within = within;
       before = (goes.0, goes.1, same goes.0 ∙ goes.2);
       wrong = λ inside. absurd (omega (arith, inside, at_end));
+      stands = stands;
       expected = same;
     }
 
@@ -93,6 +95,7 @@ fault_whole c word words i what e f = record {
   within = omega (arith, f.within);
   before = (f.before.0, f.before.1, behind_word c word (take i words ++ f.before.0) e ∙ f.before.2);
   wrong = λ inside more. behind_word c word (take (suc i) words ++ more) e ∙ f.wrong (omega (arith, inside)) more;
+  stands = f.stands;
   expected = λ more. behind_word c word (take i words ++ more) e ∙ f.expected more;
 }
 
@@ -101,23 +104,25 @@ check_ordered : order_of (codes "check" ∷ []) ≡ Some CheckCert
 unfolding order_of order_by command_named
 check_ordered = refl
 
-pub no_command : (word : List ℕ) (words : List (List ℕ)) → command_named word ≡ None → IsFaultOf order_of (word ∷ words) 0 ACommand
+pub no_command : (word : List ℕ) (words : List (List ℕ)) → command_named word ≡ None → IsFaultOf order_of (word ∷ words) 0 First
 unfolding order_of
 no_command word words e = record {
   refused = rw e refl;
   within = omega arith;
   before = (codes "check" ∷ [], CheckCert, check_ordered);
   wrong = λ inside more. rw e refl;
+  stands = tt;
   expected = λ more. refl;
 }
 
-pub no_words : IsFaultOf order_of [] 0 ACommand
+pub no_words : IsFaultOf order_of [] 0 First
 unfolding order_of
 no_words = record {
   refused = refl;
   within = omega arith;
   before = (codes "check" ∷ [], CheckCert, check_ordered);
   wrong = λ inside more. absurd (omega (arith, inside));
+  stands = tt;
   expected = λ more. refl;
 }
 

@@ -176,7 +176,7 @@ said_fits c g word said fits e = record { settings = λ t. same t; said = can_be
     same Certs = fits.settings Certs
 
 -- the name of an option that takes a number
-closed_words : (c : Command) (g : Given) (s : Setting) → open_in c g s ≡ None → (words : List (List ℕ)) → order_from c g (parts_awaiting (Some s) words) ≡ None
+pub closed_words : (c : Command) (g : Given) (s : Setting) → open_in c g s ≡ None → (words : List (List ℕ)) → order_from c g (parts_awaiting (Some s) words) ≡ None
 closed_words c g s e [] = rw (awaited_end s) (value_closed c g s [] e [])
 closed_words c g s e (word ∷ words) = rw (awaited_part s word words) (value_closed c g s word e (parts_awaiting None words))
 

@@ -63,7 +63,7 @@ unfolding order_from
 no_more c g n e = ap (λ n. made_of c n (Some g.said)) e
 
 -- some words make an order
-abbrev CanGo : (List (List ℕ) → Option Order) → Type 0
+abbrev pub CanGo : (List (List ℕ) → Option Order) → Type 0
 CanGo orders = (more : List (List ℕ)) × (order : Order) × (orders more ≡ Some order)
 
 ends : (c : Command) (g : Given) (n : Numbers) (said : Said) (order : Order) → numbers_from c g [] ≡ Some n → g.said ≡ said → made_of c (Some n) (Some said) ≡ Some order → CanGo (λ more. order_from c g (parts_awaiting None more))
@@ -80,11 +80,11 @@ by_said Mates g n Nothing e s h = (codes "w" ∷ [], ListMates White n.workers n
 by_said Mates g n (Sided side) e s h = ends Mates g n (Sided side) (ListMates side n.workers n.depth) e s refl
 by_said c g n said e s h = absurd h
 
-given_goes : (c : Command) (g : Given) → Fits c g → CanGo (λ more. order_from c g (parts_awaiting None more))
+pub given_goes : (c : Command) (g : Given) → Fits c g → CanGo (λ more. order_from c g (parts_awaiting None more))
 given_goes c g fits = let n = whole c g in by_said c g n.0 g.said n.1 refl fits.said
 
 -- a number that an option takes behind each command that takes it
-abbrev some_number : Setting → List ℕ
+abbrev pub some_number : Setting → List ℕ
 some_number Certs = codes "1"
 some_number _ = codes "2"
 
@@ -116,10 +116,10 @@ has_number Mates Budget = tt
 has_number Mates Entries = tt
 has_number Mates Certs = tt
 
-has_own : (c : Command) (s : Setting) (r : Range) → range c s ≡ Some r → (n : ℕ) × (number r.least r.most (some_number s) ≡ Some n)
+pub has_own : (c : Command) (s : Setting) (r : Range) → range c s ≡ Some r → (n : ℕ) × (number r.least r.most (some_number s) ≡ Some n)
 has_own c s r e = subst (λ o. HasNumber o s) e (has_number c s)
 
-number_goes : (c : Command) (g : Given) (s : Setting) (r : Range) → Fits c g → open_in c g s ≡ Some r → CanGo (λ more. order_from c g (parts_awaiting (Some s) more))
+pub number_goes : (c : Command) (g : Given) (s : Setting) (r : Range) → Fits c g → open_in c g s ≡ Some r → CanGo (λ more. order_from c g (parts_awaiting (Some s) more))
 number_goes c g s r fits e =
     let n = has_own c s r (opened (value_in s g) (range c s) r e) in
     let goes = given_goes c (put s n.0 g) (put_fits c g s r (some_number s) n.0 fits e n.1) in

@@ -116,6 +116,6 @@ awaited_none c p s e = rw (e, awaited_end s) (sym (none_awaited c p.given s (ope
 pub settled_end : (c : Command) (p : Progress) (o : Option Order) → p.awaited ≡ None → o ≡ order_from c p.given [] → o ≡ order_with c p []
 settled_end c p o e h = rw (e, no_part) h
 
-pub is_open : (o : Option Range) → IsSome o → (r : Range) × (o ≡ Some r)
+pub is_open : {A : Type 0} (o : Option A) → IsSome o → (r : A) × (o ≡ Some r)
 is_open (Some r) h = (r, refl)
 is_open None h = cc

@@ -4,4 +4,5 @@ pub mod Choosing
 pub mod Ending
 pub mod Completing
 pub mod Behind
+pub mod Expecting
 pub mod Counts

@@ -1,13 +1,15 @@
 //! What is wrong with words that order nothing.
 
+ghost use Rattle.cha_words.specs.Faults.{NamesStand, NumbersStand, FurtherStand};
+
 use crate::given::Progress;
 use crate::table::Command;
 
 /// What words have to be at a place.
 #[derive(Clone, Copy, Debug, PartialEq, Eq)]
 pub enum Expected {
-    /// A command, and the words behind it.
-    ACommand,
+    /// The first word, which is a command.
+    First,
     /// Words behind this command, and behind others that have given this.
     Behind(Command, Progress),
 }
@@ -20,3 +22,12 @@ pub struct UsageFault {
     /// What is expected there.
     pub expected: Expected,
 }
+
+/// The law of what may stand where words are read so far: an option's name exactly where `open_range` has numbers for the option,
+/// where none awaits its number; a number exactly in the range of the option that awaits it; and a word that is no option exactly if
+/// it is what `argument_of` names.
+pub fn expected_words_can_stand()
+    ensures names { NamesStand }
+    ensures numbers { NumbersStand }
+    ensures further { FurtherStand }
+{}

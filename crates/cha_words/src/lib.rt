@@ -10,7 +10,7 @@ mod numbers;
 mod orders;
 mod table;
 
-pub use faults::{Expected, UsageFault};
+pub use faults::{Expected, UsageFault, expected_words_can_stand};
 pub use given::{Given, Progress, Said, open_range};
 pub use orders::{Order, games_are_some, mates_are_bounded, parse, usage_fault};
 pub use table::{

@@ -126,7 +126,7 @@ fn read(words: &[String]) -> Result<Order, UsageFault>
     let [word, behind @ ..] = words else {
         return Err(UsageFault {
             index: 0,
-            expected: Expected::ACommand,
+            expected: Expected::First,
         });
     };
     match command_of(word.as_str()) {
@@ -139,7 +139,7 @@ fn read(words: &[String]) -> Result<Order, UsageFault>
         },
         None => Err(UsageFault {
             index: 0,
-            expected: Expected::ACommand,
+            expected: Expected::First,
         }),
     }
 }

@@ -310,7 +310,7 @@ fn faults_name_the_first_wrong_word_and_what_may_stand_there(rt: HostRuntime) ->
     let alloc = rt.alloc();
     let none = usage_fault(&[]).expect(&rt, "no words order nothing");
     assert_eq!(rt; none.index, 0);
-    assert!(rt; none.expected == Expected::ACommand);
+    assert!(rt; none.expected == Expected::First);
     for (line, index, expected) in FAULTS {
         let words = words_of(alloc, line)?;
         let fault = usage_fault(words.as_slice()).expect(&rt, line);

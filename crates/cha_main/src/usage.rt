@@ -148,7 +148,7 @@ fn say_expected(rt: &HostRuntime, expected: Expected) -> io::Result<()> {
         }
         Expected::Behind(command, progress) => {
             if let Some(setting) = progress.awaited
-                && let Some(range) = range_of(command, setting)
+                && let Some(range) = open_range(command, progress.given, setting)
             {
                 return eprint!(rt; "a number from {} to {}", range.least, range.most);
             }

@@ -4,8 +4,7 @@ use crate::random_rows::{MORE_RANDOM_ROWS, RANDOM_ROWS};
 use cha_board::Color;
 use cha_limits::Limits;
 use cha_words::{
-    Argument, Expected, Order, SETTINGS, argument_of, open_range, parse, range_of, setting_name,
-    usage_fault,
+    Argument, Expected, Order, SETTINGS, argument_of, open_range, parse, setting_name, usage_fault,
 };
 use std::alloc::Global;
 use std::test::Fail;
@@ -284,7 +283,7 @@ fn expected_text(alloc: Global, expected: Expected) -> Result<String, Fail> {
         return Ok(text);
     };
     if let Some(setting) = progress.awaited
-        && let Some(range) = range_of(command, setting)
+        && let Some(range) = open_range(command, progress.given, setting)
     {
         let text = format!(in alloc; "{} to {}", range.least, range.most)?;
         return Ok(text);

@@ -1,14 +1,16 @@
-# make            proves and builds the program, and leaves it as ./cha
-# make run        shows it on a sample
-# make test       the gate: all proofs, must-fail edits, tests and programs
+# make            proves and builds the program, and leaves it as ./cha (some 20 minutes the first time)
+# make run        judges a sample: by ./cha where it is up to date, else by a build without proofs (a minute)
+# make test       the whole gate: rt ci, and the tests of the library, the documents and the release
 # make install    copies the program to PREFIX/bin (PREFIX=/usr/local)
 # make lib        builds libcha.a and libcha.so; make install-lib copies them, the header and cha.pc
 # make lib-test   runs both from C, under sanitizers, and from Python
+# make text-test  runs the command lines that the documents print, and compares the completions with the usage
+# make dist       makes a release in dist/; make dist-test uses it elsewhere, without the kit
 PREFIX ?= /usr/local
 PROGRAM = crates/cha_main/out/cha_main
 SOURCES = HANDLES crates.txt $(shell find crates/*/src crates/*/specs crates/*/proofs -type f)
 
-.PHONY: all run test install clean kit lib lib-test install-lib
+.PHONY: all run test install clean kit lib lib-test install-lib text-test dist dist-test
 
 all: cha
 
@@ -20,11 +22,11 @@ cha: $(SOURCES) | kit
 	@cd crates/cha_main && rt run -- position < /dev/null > /dev/null
 	@cp $(PROGRAM) cha
 
-run: cha
-	@./cha adjudicate < docs/sample.pgn
+run:
+	@tools/run.sh
 
 test: kit
-	rt ci
+	@tools/gate.py
 
 install: cha
 	install -d $(DESTDIR)$(PREFIX)/bin
@@ -56,12 +58,22 @@ lib-test: lib cha
 	./library/test
 	CHA_LIBRARY=./libcha.so python3 library/test.py ./cha $(FILES)
 
+text-test: cha
+	tools/printed.py ./cha
+	tools/completions.py --check ./cha
+
+dist: cha lib
+	tools/dist.sh
+
+dist-test: dist
+	tools/dist-test.sh
+
 install-lib: lib
 	install -d $(DESTDIR)$(PREFIX)/lib/pkgconfig $(DESTDIR)$(PREFIX)/include
 	install -m 644 include/cha.h $(DESTDIR)$(PREFIX)/include/cha.h
 	install -m 644 libcha.a $(DESTDIR)$(PREFIX)/lib/libcha.a
 	install -m 755 libcha.so $(DESTDIR)$(PREFIX)/lib/libcha.so
-	sed 's|@PREFIX@|$(PREFIX)|' library/cha.pc.in > $(DESTDIR)$(PREFIX)/lib/pkgconfig/cha.pc
+	sed 's|@PREFIX@|$(PREFIX)|; s|@VERSION@|'$$(cat VERSION)'|' library/cha.pc.in > $(DESTDIR)$(PREFIX)/lib/pkgconfig/cha.pc
 
 clean:
-	rm -rf cha libcha.a libcha.so library/test crates/*/out
+	rm -rf cha libcha.a libcha.so library/test dist crates/*/out

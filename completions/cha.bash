@@ -1,13 +1,12 @@
-# Completion of the words of cha for bash: source this file.
+# Completion of the words of cha for bash: source this file. Written by tools/completions.py from `cha --help`.
 _cha() {
     local word=${COMP_WORDS[COMP_CWORD]} before=${COMP_WORDS[COMP_CWORD - 1]} command=${COMP_WORDS[1]} words=
     if [ "$COMP_CWORD" -eq 1 ]; then
         words='adjudicate position check mates gen'
-    elif [[ $before == --budget || $before == --workers || $before == --depth || $before == --entries ]]; then
-        words=
-    else
+    elif [[ ! $before =~ ^(--budget|--depth|--entries|--workers)$ ]]; then
         case $command in
-            adjudicate | position) words='--budget --workers --depth --entries --certs' ;;
+            adjudicate) words='--budget --workers --depth --entries --certs' ;;
+            position) words='--budget --workers --depth --entries --certs' ;;
             mates) words='w b --workers --depth' ;;
             gen) words='--budget --workers --depth --entries' ;;
         esac

@@ -29,9 +29,10 @@ void __wrap_free(void *block) {
     __real_free(block);
 }
 
-static int failures;
+static long checks, failures;
 
 static void want(int holds, const char *what) {
+    checks += 1;
     if (!holds) {
         failures += 1;
         printf("not so: %s\n", what);
@@ -122,6 +123,6 @@ int main(void) {
     want(cha_check(text, sizeof accepted - 1) == CHA_DONE, "a certificate of two nodes is accepted");
     want(cha_check(text, sizeof accepted - 2) == CHA_NOT_ACCEPTED, "without its last byte it is not");
     want(taken == 0, "checks give back what they took");
-    printf("%zu runs, %ld refused allocations, %d failures\n", sizeof runs / sizeof *runs, tried, failures);
+    printf("%zu runs, %ld refused allocations\n%ld passed, %ld failed\n", sizeof runs / sizeof *runs, tried, checks - failures, failures);
     return failures != 0;
 }

@@ -55,4 +55,7 @@ class Library(unittest.TestCase):
         self.assertEqual((found.white.kind, found.white.positions, found.white.depth), ("undecided", 1, 2))
 
 
-unittest.main(argv=sys.argv[:1])
+result = unittest.main(argv=sys.argv[:1], exit=False).result
+wrong = len(result.failures) + len(result.errors)
+print(f"{result.testsRun - wrong} passed, {wrong} failed")
+sys.exit(wrong != 0)

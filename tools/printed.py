@@ -1,6 +1,6 @@
 #!/usr/bin/env python3
 """Runs each command line that README.md, docs/ and the manual page print behind `$`, and compares what comes out with what is printed
-below it. A line that the manual page displays alone has to end well.
+below it, standard error with standard output. A line that the manual page displays alone has to end well.
 
     tools/printed.py [PROGRAM]
 
@@ -68,7 +68,7 @@ def main():
                 if done.returncode != 0 if printed is None else done.stdout.splitlines() != printed:
                     wrong += 1
                     print(f"{os.path.relpath(path, TOP)}: {command}\n--- printed\n" + "\n".join(printed or []) + f"\n--- comes out\n{done.stdout}")
-    print(f"{run} command lines, {wrong} otherwise than printed")
+    print(f"{run - wrong} passed, {wrong} failed")
     return 1 if wrong else 0
 
 

@@ -1,119 +1,121 @@
 -- What is ordered once all the words are read.
-use Rattle.std.proofs.Common.{◌≡◌, ℕ, Bool, true, false, List, [], ◌∷◌, map, length, get_or, drop, take, ◌-◌, ◌≤◌, String, Global, string_bytes, arith, Option, Some, None, refl, ◌∙◌}
-use Rattle.std.specs.Option.{unwrap_or}
-use Rattle.std.proofs.lemmas.List.{take_all}
-use Rattle.cha_words.specs.declared.settings.Setting.{Setting}
-use Rattle.cha_words.specs.declared.settings.Setting.TheVariants.{Budget, Workers, Depth, Entries}
-use Rattle.cha_words.specs.declared.given.Given.{Given}
+use Rattle.std.proofs.Common.{◌≡◌, ℕ, ◌==◌, [], ◌∷◌, Option, Some, None, IsSome, IfSome, refl, sym, ap, ◌∙◌, arith}
 use Rattle.cha_limits.specs.Bounds.{Bounds}
+use Rattle.cha_board.specs.declared.men.Color.{Color}
 use Rattle.cha_words.specs.declared.orders.Order.{Order}
-use Rattle.cha_words.specs.declared.orders.Order.TheVariants.{AdjudicateGames, JudgePositions, CheckCert, GenGames}
-use Rattle.cha_words.specs.declared.commands.Command.{Command}
-use Rattle.cha_words.specs.declared.commands.Command.TheVariants.{Adjudicate, Position, Check, Gen, Mates}
-use Rattle.cha_words.specs.declared.given.Numbers.{Numbers}
-use Rattle.cha_words.specs.declared.given.Numbers.TheVariants.{Unsaid, Seeded, Counted}
-use Rattle.cha_words.specs.Language.{judged, generated, command_named, order_by, order_behind, order_of}
-use Rattle.cha_words.specs.Reading.{nothing, chosen_from, limits_from, asked_from, plain_from, games_from, order_from, HasRanges, TakesAll, parts_awaiting}
-use Rattle.cha_words.proofs.Cutting.{cut_same}
-use Rattle.cha_words.proofs.Parts.{word_refused, no_games}
+use Rattle.cha_words.specs.declared.orders.Order.TheVariants.{AdjudicateGames, JudgePositions, CheckCert, GenGames, ListMates}
+use Rattle.cha_words.specs.declared.table.Command.{Command}
+use Rattle.cha_words.specs.declared.table.Command.TheVariants.{Adjudicate, Position, Check, Gen, Mates}
+use Rattle.cha_words.specs.declared.table.Setting.{Setting}
+use Rattle.cha_words.specs.declared.table.Setting.TheVariants.{Budget, Workers, Depth, Entries, Certs}
+use Rattle.cha_words.specs.declared.table.Range.{Range}
+use Rattle.cha_words.specs.declared.given.Given.{Given}
+use Rattle.cha_words.specs.declared.given.Said.{Said}
+use Rattle.cha_words.specs.declared.given.Said.TheVariants.{Nothing, Games, Sided}
+use Rattle.cha_words.specs.declared.given.Progress.{Progress}
+use Rattle.cha_words.specs.Language.{Numbers, range, all_of, bounds, made, made_of}
+use Rattle.cha_words.specs.Language.Part.{Value}
+use Rattle.cha_words.specs.Reading.{open_in, chosen_from, numbers_from, order_from, order_with}
+use Rattle.cha_words.proofs.Digits.{no_number}
+use Rattle.cha_words.proofs.Cutting.{awaited_end, no_part}
+use Rattle.cha_words.proofs.Choosing.{value_closed, value_bad}
 
-chosen_at : (o : Option ℕ) (usual : ℕ) (s : Setting) → chosen_from o usual s [] ≡ Some (unwrap_or o usual)
-chosen_at None usual s = refl
-chosen_at (Some n) usual s = refl
+-- each option has a number where no more words come
+ends : (r : Option Range) (o : Option ℕ) → (n : ℕ) × (chosen_from r o [] ≡ Some n)
+ends None None = (0, refl)
+ends (Some r) None = (r.usual, refl)
+ends r (Some n) = (n, refl)
 
-pub limits_at : (workers : ℕ) (g : Given) → limits_from workers g [] ≡ Some (record { budget = unwrap_or g.budget 20000; depth = unwrap_or g.depth 4; workers = unwrap_or g.workers workers; entries = unwrap_or g.entries 4096 })
-limits_at workers g = rw (chosen_at g.budget 20000 Budget, chosen_at g.depth 4 Depth, chosen_at g.workers workers Workers, chosen_at g.entries 4096 Entries) refl
+all_five : (b w d e c : Option ℕ) → ((n : ℕ) × (b ≡ Some n)) → ((n : ℕ) × (w ≡ Some n)) → ((n : ℕ) × (d ≡ Some n)) → ((n : ℕ) × (e ≡ Some n)) → ((n : ℕ) × (c ≡ Some n)) → (n : Numbers) × (all_of b w d e c ≡ Some n)
+all_five b w d e c hb hw hd he hc = (record { budget = hb.0; workers = hw.0; depth = hd.0; entries = he.0; certs = hc.0 }, rw (hb.1, hw.1, hd.1, he.1, hc.1) refl)
 
-asked_at : (certs : Bool) → asked_from certs [] ≡ Some certs
-asked_at true = refl
-asked_at false = refl
+pub whole : (c : Command) (g : Given) → (n : Numbers) × (numbers_from c g [] ≡ Some n)
+whole c g = all_five _ _ _ _ _ (ends (range c Budget) g.budget) (ends (range c Workers) g.workers) (ends (range c Depth) g.depth) (ends (range c Entries) g.entries) (ends (range c Certs) g.certs)
 
-pub games_ordered : (g : Given) (l : Bounds) → limits_from 2 g [] ≡ Some l → g.numbers ≡ Unsaid → order_from Adjudicate g [] ≡ Some (AdjudicateGames l g.certs)
+-- each of five numbers
+pub record Five (b w d e c : Option ℕ) (n : Numbers) : Type 0 where
+  pub budget : b ≡ Some n.budget
+  pub workers : w ≡ Some n.workers
+  pub depth : d ≡ Some n.depth
+  pub entries : e ≡ Some n.entries
+  pub certs : c ≡ Some n.certs
+
+pub five : (b w d e c : Option ℕ) (n : Numbers) → all_of b w d e c ≡ Some n → Five b w d e c n
+five (Some b) (Some w) (Some d) (Some e) (Some c) n h =
+    let same : record { budget = b; workers = w; depth = d; entries = e; certs = c } ≡ n = cc in record {
+      budget = ap (λ (m : Numbers). Some m.budget) same;
+      workers = ap (λ (m : Numbers). Some m.workers) same;
+      depth = ap (λ (m : Numbers). Some m.depth) same;
+      entries = ap (λ (m : Numbers). Some m.entries) same;
+      certs = ap (λ (m : Numbers). Some m.certs) same;
+    }
+five None w d e c n h = cc
+five (Some b) None d e c n h = cc
+five (Some b) (Some w) None e c n h = cc
+five (Some b) (Some w) (Some d) None c n h = cc
+five (Some b) (Some w) (Some d) (Some e) None n h = cc
+
+pub of_some : {A : Type 0} (x y : A) → Some x ≡ Some y → x ≡ y
+of_some x y e = cc
+
+pub at_end : (c : Command) (g : Given) (n : Numbers) → numbers_from c g [] ≡ Some n → order_from c g [] ≡ made c n g.said
 unfolding order_from
-games_ordered g l e n = rw (e, asked_at g.certs, n) refl
+at_end c g n e = ap (λ o. made_of c o (Some g.said)) e
 
-pub positions_ordered : (g : Given) (l : Bounds) → limits_from 2 g [] ≡ Some l → g.numbers ≡ Unsaid → order_from Position g [] ≡ Some (JudgePositions l g.certs)
-unfolding order_from
-positions_ordered g l e n = rw (e, asked_at g.certs, n) refl
+unmade : (c : Command) (said : Said) (n : Numbers) → (c ≡ Adjudicate → said ≡ Nothing → ⊥) → (c ≡ Position → said ≡ Nothing → ⊥) → (c ≡ Check → said ≡ Nothing → ⊥) → ((seed count : ℕ) → c ≡ Gen → said ≡ Games seed count → ⊥)
+    → ((side : Color) → c ≡ Mates → said ≡ Sided side → ⊥) → made c n said ≡ None
+unmade Adjudicate Nothing n ha hp hc hg hm = absurd (ha refl refl)
+unmade Position Nothing n ha hp hc hg hm = absurd (hp refl refl)
+unmade Check Nothing n ha hp hc hg hm = absurd (hc refl refl)
+unmade Gen (Games seed count) n ha hp hc hg hm = absurd (hg seed count refl refl)
+unmade Mates (Sided side) n ha hp hc hg hm = absurd (hm side refl refl)
+unmade c said n ha hp hc hg hm = refl
 
-word_left : (make : Bounds → Bool → Order) (l : Option Bounds) (certs : Option Bool) (numbers : Numbers) → (numbers ≡ Unsaid → ⊥) → judged make l certs (plain_from numbers []) ≡ None
-word_left make l certs Unsaid h = absurd (h refl)
-word_left make l certs (Seeded s) h = word_refused make l certs [] []
-word_left make l certs (Counted s n) h = word_refused make l certs [] []
+module _ (c : Command) (g : Given) (n : Numbers) (is : numbers_from c g [] ≡ Some n) where
+  each : Five (chosen_from (range c Budget) g.budget []) (chosen_from (range c Workers) g.workers []) (chosen_from (range c Depth) g.depth []) (chosen_from (range c Entries) g.entries []) (chosen_from (range c Certs) g.certs []) n
+  each = five _ _ _ _ _ n is
 
-pub games_refused : (g : Given) → (g.numbers ≡ Unsaid → ⊥) → order_from Adjudicate g [] ≡ None
-unfolding order_from
-games_refused g h = word_left _ _ _ g.numbers h
+  limited : (l : Bounds) → IfSome (numbers_from c g []) (λ n. l ≡ bounds n) → l ≡ bounds n
+  limited l h = let k = rw is at h in k
 
-pub positions_refused : (g : Given) → (g.numbers ≡ Unsaid → ⊥) → order_from Position g [] ≡ None
-unfolding order_from
-positions_refused g h = word_left _ _ _ g.numbers h
+  pub games_made : (l : Bounds) (k : ℕ) → c ≡ Adjudicate → g.said ≡ Nothing → IfSome (numbers_from c g []) (λ n. l ≡ bounds n) → chosen_from (range c Certs) g.certs [] ≡ Some k → Some (AdjudicateGames l (k == 1)) ≡ order_from c g []
+  games_made l k e s h certs =
+      let same : k ≡ n.certs = of_some k n.certs (sym certs ∙ each.certs) in
+      rw (at_end c g n is, e, s, limited l h, same) refl
 
-certs_generated : (l : Option Bounds) (certs : Bool) (numbers : Numbers) → certs ≡ true → generated l (asked_from certs []) (games_from numbers []) ≡ None
-certs_generated None true numbers e = refl
-certs_generated (Some l) true numbers e = refl
-certs_generated l false numbers e = cc
+  pub positions_made : (l : Bounds) (k : ℕ) → c ≡ Position → g.said ≡ Nothing → IfSome (numbers_from c g []) (λ n. l ≡ bounds n) → chosen_from (range c Certs) g.certs [] ≡ Some k → Some (JudgePositions l (k == 1)) ≡ order_from c g []
+  positions_made l k e s h certs =
+      let same : k ≡ n.certs = of_some k n.certs (sym certs ∙ each.certs) in
+      rw (at_end c g n is, e, s, limited l h, same) refl
 
-pub gen_with_certs : (g : Given) → g.certs ≡ true → order_from Gen g [] ≡ None
-unfolding order_from
-gen_with_certs g e = certs_generated _ g.certs g.numbers e
+  pub check_made : c ≡ Check → g.said ≡ Nothing → Some CheckCert ≡ order_from c g []
+  check_made e s = rw (at_end c g n is, e, s) refl
 
-pub gen_ordered : (g : Given) (l : Bounds) (seed count : ℕ) → limits_from 1 g [] ≡ Some l → g.certs ≡ false → g.numbers ≡ Counted seed count → order_from Gen g [] ≡ Some (GenGames l seed count)
-unfolding order_from
-gen_ordered g l seed count e f n = rw (e, f, n) refl
+  pub games_generated : (l : Bounds) (seed count : ℕ) → c ≡ Gen → g.said ≡ Games seed count → IfSome (numbers_from c g []) (λ n. l ≡ bounds n) → Some (GenGames l seed count) ≡ order_from c g []
+  games_generated l seed count e s h = rw (at_end c g n is, e, s, limited l h) refl
 
-number_missing : (l : Option Bounds) (certs : Option Bool) (numbers : Numbers) → ((seed count : ℕ) → numbers ≡ Counted seed count → ⊥) → generated l certs (games_from numbers []) ≡ None
-number_missing l certs Unsaid h = no_games l certs
-number_missing l certs (Seeded s) h = no_games l certs
-number_missing l certs (Counted s n) h = absurd (h s n refl)
+  pub mates_made : (side : Color) (w d : ℕ) → c ≡ Mates → g.said ≡ Sided side → chosen_from (range c Workers) g.workers [] ≡ Some w → chosen_from (range c Depth) g.depth [] ≡ Some d → Some (ListMates side w d) ≡ order_from c g []
+  mates_made side w d e s hw hd =
+      let workers : w ≡ n.workers = of_some w n.workers (sym hw ∙ each.workers) in
+      let depth : d ≡ n.depth = of_some d n.depth (sym hd ∙ each.depth) in
+      rw (at_end c g n is, e, s, workers, depth) refl
 
-pub gen_refused : (g : Given) → ((seed count : ℕ) → g.numbers ≡ Counted seed count → ⊥) → order_from Gen g [] ≡ None
-unfolding order_from
-gen_refused g h = number_missing _ _ g.numbers h
+  -- a command whose further words are not complete
+  pub not_made : (c ≡ Adjudicate → g.said ≡ Nothing → ⊥) → (c ≡ Position → g.said ≡ Nothing → ⊥) → (c ≡ Check → g.said ≡ Nothing → ⊥) → ((seed count : ℕ) → c ≡ Gen → g.said ≡ Games seed count → ⊥)
+      → ((side : Color) → c ≡ Mates → g.said ≡ Sided side → ⊥) → None ≡ order_from c g []
+  not_made ha hp hc hg hm = rw (at_end c g n is) (sym (unmade c g.said n ha hp hc hg hm))
 
-pub by_nothing : (c : Command) (words : List (List ℕ)) → (c ≡ Check → ⊥) → (c ≡ Mates → ⊥) → order_by c words ≡ order_from c nothing (parts_awaiting None words)
-unfolding order_by order_from
-by_nothing Adjudicate words h k = rw (cut_same words) refl
-by_nothing Position words h k = rw (cut_same words) refl
-by_nothing Gen words h k = rw (cut_same words) refl
-by_nothing Check words h k = absurd (h refl)
-by_nothing Mates words h k = absurd (k refl)
+-- an option whose number never comes
+none_awaited : (c : Command) (g : Given) (s : Setting) (o : Option Range) → open_in c g s ≡ o → order_from c g (Value s [] ∷ []) ≡ None
+none_awaited c g s None e = value_closed c g s [] e []
+none_awaited c g s (Some r) e = value_bad c g s r [] e (no_number r.least r.most [] (λ is. let some = is.some in omega (arith, some))) []
 
-pub all_taken : (c : Command) (words : List (List ℕ)) (g : Given) → (c ≡ Check → ⊥) → (c ≡ Mates → ⊥) → TakesAll words (Some g) → order_by c words ≡ order_from c g []
-unfolding TakesAll
-all_taken c words g h k taken = by_nothing c words h k ∙ taken.1 c
+pub awaited_none : (c : Command) (p : Progress) (s : Setting) → p.awaited ≡ Some s → None ≡ order_with c p []
+awaited_none c p s e = rw (e, awaited_end s) (sym (none_awaited c p.given s (open_in c p.given s) refl))
 
-pub all_refused : (c : Command) (words : List (List ℕ)) → (c ≡ Check → ⊥) → (c ≡ Mates → ⊥) → TakesAll words None → order_by c words ≡ None
-unfolding TakesAll
-all_refused c words h k taken = by_nothing c words h k ∙ taken c
+pub settled_end : (c : Command) (p : Progress) (o : Option Order) → p.awaited ≡ None → o ≡ order_from c p.given [] → o ≡ order_with c p []
+settled_end c p o e h = rw (e, no_part) h
 
-pub all_ranged : (words : List (List ℕ)) (g : Given) → TakesAll words (Some g) → HasRanges g
-unfolding TakesAll
-all_ranged words g taken = taken.0
-
--- a check takes no word
-pub check_alone : (words : List (String Global)) → length words ≤ 0 → order_by Check (map string_bytes words) ≡ Some CheckCert
-unfolding order_by
-check_alone [] few = refl
-check_alone (word ∷ words) few = absurd (omega (arith, few))
-
-pub check_more : (words : List (String Global)) → 1 ≤ length words → order_by Check (map string_bytes words) ≡ None
-unfolding order_by
-check_more [] some = absurd (omega (arith, some))
-check_more (word ∷ words) some = refl
-
--- all the words by the first and the rest
-pub no_words : (words : List (String Global)) → length words ≤ 0 → order_of (map string_bytes words) ≡ None
-unfolding order_of
-no_words [] few = refl
-no_words (word ∷ words) few = absurd (omega (arith, few))
-
-pub words_by_first : (words behind : List (String Global)) (item : String Global) (text : List ℕ) (o : Option Command) → words ≡ item ∷ behind → text ≡ string_bytes item → command_named text ≡ o → order_of (map string_bytes words) ≡ order_behind o (map string_bytes behind)
-unfolding order_of
-words_by_first words behind item text o cut reads names = rw (cut, ← reads, names) refl
-
-pub first_and_rest : (words : List (String Global)) (item : String Global) → 1 ≤ length words → item ≡ get_or words 0 item → words ≡ item ∷ take (length words - 1) (drop 1 words)
-first_and_rest [] item some is = absurd (omega (arith, some))
-first_and_rest (word ∷ words) item some is =
-    let all : take (length (word ∷ words) - 1) words ≡ words = take_all (length (word ∷ words) - 1) words (omega arith) in
-    rw (all, ← is) refl
+pub is_open : {A : Type 0} (o : Option A) → IsSome o → (r : A) × (o ≡ Some r)
+is_open (Some r) h = (r, refl)
+is_open None h = cc

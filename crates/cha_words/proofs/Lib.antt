@@ -1,9 +1,8 @@
-pub mod Choosing
-pub mod Cutting
-pub mod Ending
-pub mod OneByOne
-pub mod Parts
 pub mod Digits
-pub mod Ranges
+pub mod Cutting
+pub mod Choosing
+pub mod Ending
+pub mod Completing
+pub mod Behind
+pub mod Expecting
 pub mod Counts
-pub mod Listing

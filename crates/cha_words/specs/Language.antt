@@ -1,5 +1,5 @@
 -- The language of the command words, which leave out the program's name (this project). A word is a list of bytes.
-use Rattle.std.specs.Prelude.{ℕ, ◌==◌, ◌&&◌, true, false, Bool, if◌then◌else◌, nat_le, List, [], ◌∷◌, map, length, filter, filter_map, Option, Some, None, codes, string_bytes}
+use Rattle.std.specs.Prelude.{ℕ, ◌==◌, ◌&&◌, Bool, if◌then◌else◌, nat_le, List, [], ◌∷◌, map, length, filter_map, Option, Some, None, option_map, true, false, codes, string_bytes}
 use Rattle.std.specs.Str.{bytes_eq, all_ascii_digits}
 use Rattle.std.specs.Str.Parse.{digits_value}
 use Rattle.std.specs.List.{before_first, after_first}
@@ -10,10 +10,15 @@ use Rattle.cha_board.specs.declared.men.Color.TheVariants.{White, Black}
 use Rattle.cha_limits.specs.Bounds.{Bounds}
 use Rattle.cha_words.specs.declared.orders.Order.{Order}
 use Rattle.cha_words.specs.declared.orders.Order.TheVariants.{AdjudicateGames, JudgePositions, CheckCert, GenGames, ListMates}
-use Rattle.cha_words.specs.declared.commands.Command.{Command}
-use Rattle.cha_words.specs.declared.commands.Command.TheVariants.{Adjudicate, Position, Check, Gen, Mates}
-use Rattle.cha_words.specs.declared.settings.Setting.{Setting}
-use Rattle.cha_words.specs.declared.settings.Setting.TheVariants.{Budget, Workers, Depth, Entries}
+use Rattle.cha_words.specs.declared.table.Command.{Command}
+use Rattle.cha_words.specs.declared.table.Command.TheVariants.{Adjudicate, Position, Check, Gen, Mates}
+use Rattle.cha_words.specs.declared.table.Setting.{Setting}
+use Rattle.cha_words.specs.declared.table.Setting.TheVariants.{Budget, Workers, Depth, Entries, Certs}
+use Rattle.cha_words.specs.declared.table.Range.{Range}
+use Rattle.cha_words.specs.declared.table.Argument.{Argument}
+use Rattle.cha_words.specs.declared.table.Argument.TheVariants.{Seed, Count, Side}
+use Rattle.cha_words.specs.declared.given.Said.{Said}
+use Rattle.cha_words.specs.declared.given.Said.TheVariants.{Nothing, Seeded, Games, Sided}
 
 -- 1 to 20 ASCII digits that write a number from least to most
 unfoldable pub is_number : ℕ → ℕ → List ℕ → Bool
@@ -34,31 +39,57 @@ command_named word =
     else (if bytes_eq word (codes "gen") then Some Gen
     else (if bytes_eq word (codes "mates") then Some Mates else None))))
 
--- the option with a number that a word names, letter by letter
+-- the option that a word names, letter by letter
 unfoldable pub setting_named : List ℕ → Option Setting
 setting_named word =
     if bytes_eq word (codes "--budget") then Some Budget
     else (if bytes_eq word (codes "--workers") then Some Workers
     else (if bytes_eq word (codes "--depth") then Some Depth
-    else (if bytes_eq word (codes "--entries") then Some Entries else None)))
+    else (if bytes_eq word (codes "--entries") then Some Entries
+    else (if bytes_eq word (codes "--certs") then Some Certs else None))))
 
--- the least and the greatest number of an option
-abbrev pub least_of : Setting → ℕ
-least_of Budget = 1
-least_of Workers = 1
-least_of Depth = 2
-least_of Entries = 1
+-- a flag stands alone, which counts as the number 1; any other option stands with a number
+abbrev pub is_flag : Setting → Bool
+is_flag Certs = true
+is_flag _ = false
 
-abbrev pub most_of : Setting → ℕ
-most_of Budget = 100000
-most_of Workers = 16
-most_of Depth = 8
-most_of Entries = 65536
+-- numbers from least to most, and the one that counts where the option does not stand
+abbrev pub from_to : ℕ → ℕ → ℕ → Range
+from_to least most usual = record { least = least; most = most; usual = usual }
 
--- the words behind the command fall into parts: an option with its value, --certs, and all other words
+-- the numbers of the options by which a search of verdicts is bounded, by its usual number of workers
+abbrev pub for_search : ℕ → Setting → Range
+for_search workers Budget = from_to 1 100000 20000
+for_search workers Workers = from_to 1 16 workers
+for_search workers Depth = from_to 2 8 4
+for_search workers Entries = from_to 1 65536 4096
+for_search workers Certs = from_to 0 1 0
+
+-- the table of options: the numbers that an option takes behind a command, or None where it does not stand there
+abbrev pub range : Command → Setting → Option Range
+range Adjudicate setting = Some (for_search 2 setting)
+range Position setting = Some (for_search 2 setting)
+range Check setting = None
+range Gen Certs = None
+range Gen setting = Some (for_search 1 setting)
+range Mates Workers = Some (from_to 1 16 2)
+range Mates Depth = Some (from_to 1 6 4)
+range Mates _ = None
+
+-- the table of the words that are no options: which comes next, by what such words have said
+abbrev pub next_argument : Command → Said → Option Argument
+next_argument Gen Nothing = Some Seed
+next_argument Gen (Seeded seed) = Some Count
+next_argument Mates Nothing = Some Side
+next_argument _ _ = None
+
+-- the side that a word names
+unfoldable pub side_named : List ℕ → Option Color
+side_named word = if bytes_eq word (codes "w") then Some White else (if bytes_eq word (codes "b") then Some Black else None)
+
+-- the words behind the command fall into parts: an option with its value, and all other words
 pub data Part : Type 0 where
   Value : Setting → List ℕ → Part
-  Certs : Part
   Plain : List ℕ → Part
 
 -- one word is an option's name, whose value the next word is, or a part by itself
@@ -68,21 +99,21 @@ pub data Piece : Type 0 where
 
 -- name=value, cut at the first equals sign (ASCII 61), gives an option its value, and any other word stands for itself
 abbrev pub part_by : Option Setting → List ℕ → Part
-part_by (Some setting) word = Value setting (after_first (λ b. b == 61) word)
+part_by (Some setting) word = if is_flag setting then Plain word else Value setting (after_first (λ b. b == 61) word)
 part_by None word = Plain word
 
 -- a word by itself: what stands before the first equals sign is the name, and the whole word where there is none
 unfoldable pub part_of : List ℕ → Part
 part_of word = part_by (setting_named (before_first (λ b. b == 61) word)) word
 
--- a word other than --certs
+-- a word, by the option that it names
 abbrev pub piece_by : Option Setting → List ℕ → Piece
-piece_by (Some setting) word = Name setting
+piece_by (Some setting) word = if is_flag setting then Whole (Value setting (codes "1")) else Name setting
 piece_by None word = Whole (part_of word)
 
 -- a word
 unfoldable pub piece : List ℕ → Piece
-piece word = if bytes_eq word (codes "--certs") then Whole Certs else piece_by (setting_named word) word
+piece word = piece_by (setting_named word) word
 
 -- the part that the last word is. A name there has the empty word as its value, which is no number.
 abbrev pub last_part : Piece → Part
@@ -95,7 +126,7 @@ part_before (Name setting) next behind_next behind = Value setting next ∷ behi
 part_before (Whole part) next behind_next behind = part ∷ behind
 
 -- the parts of the words: a name takes the next word as its value, whatever it is
-unfoldable pub parts : List (List ℕ) → List Part
+abbrev pub parts : List (List ℕ) → List Part
 parts [] = []
 parts (word ∷ []) = last_part (piece word) ∷ []
 parts (word ∷ next ∷ words) = part_before (piece word) next (parts words) (parts (next ∷ words))
@@ -106,120 +137,76 @@ value_for Budget (Value Budget word) = Some word
 value_for Workers (Value Workers word) = Some word
 value_for Depth (Value Depth word) = Some word
 value_for Entries (Value Entries word) = Some word
+value_for Certs (Value Certs word) = Some word
 value_for _ _ = None
-
--- the part is --certs
-abbrev pub is_certs : Part → Bool
-is_certs Certs = true
-is_certs _ = false
 
 -- the word that a part is
 abbrev pub plain_word : Part → Option (List ℕ)
 plain_word (Plain word) = Some word
 plain_word _ = None
 
--- an option's number, by its values in the words: it stands at most once, and where it does not stand it has its usual number
-abbrev pub chosen : ℕ → Setting → List (List ℕ) → Option ℕ
-chosen usual setting [] = Some usual
-chosen usual setting (word ∷ []) = number (least_of setting) (most_of setting) word
-chosen usual setting (word ∷ more ∷ words) = None
+-- an option's number, by its values in the words: it stands at most once, and where it does not stand it has its usual number;
+-- one that the command does not take does not stand, and counts as 0
+abbrev pub chosen : Option Range → List (List ℕ) → Option ℕ
+chosen None [] = Some 0
+chosen None (word ∷ words) = None
+chosen (Some range) [] = Some range.usual
+chosen (Some range) (word ∷ []) = number range.least range.most word
+chosen (Some range) (word ∷ more ∷ words) = None
 
--- the four numbers, where each is one
-abbrev pub bounds : Option ℕ → Option ℕ → Option ℕ → Option ℕ → Option Bounds
-bounds (Some budget) (Some depth) (Some workers) (Some entries) =
-    Some (record { budget = budget; depth = depth; workers = workers; entries = entries })
-bounds _ _ _ _ = None
+-- the numbers of all options
+pub record Numbers : Type 0 where
+  pub budget : ℕ
+  pub workers : ℕ
+  pub depth : ℕ
+  pub entries : ℕ
+  pub certs : ℕ
 
--- what a search may spend, by the usual number of workers
-abbrev pub limits : ℕ → List Part → Option Bounds
-limits workers cut =
-    bounds (chosen 20000 Budget (filter_map (value_for Budget) cut)) (chosen 4 Depth (filter_map (value_for Depth) cut))
-    (chosen workers Workers (filter_map (value_for Workers) cut)) (chosen 4096 Entries (filter_map (value_for Entries) cut))
+-- all of them, where each is one
+abbrev pub all_of : Option ℕ → Option ℕ → Option ℕ → Option ℕ → Option ℕ → Option Numbers
+all_of (Some budget) (Some workers) (Some depth) (Some entries) (Some certs) =
+    Some (record { budget = budget; workers = workers; depth = depth; entries = entries; certs = certs })
+all_of _ _ _ _ _ = None
 
--- whether certificates are printed: --certs stands at most once
-abbrev pub asked : List Part → Option Bool
-asked [] = Some false
-asked (part ∷ []) = Some true
-asked (part ∷ more ∷ behind) = None
+-- what a word says that is no option, behind those that said the second argument
+abbrev pub say : Option Argument → Said → List ℕ → Option Said
+say (Some Seed) said word = option_map Seeded (number 0 18446744073709551615 word)
+say (Some Count) (Seeded seed) word = option_map (Games seed) (number 1 1000 word)
+say (Some Side) said word = option_map Sided (side_named word)
+say _ said word = None
 
--- an order that takes no other words
-abbrev pub judged : (Bounds → Bool → Order) → Option Bounds → Option Bool → List (List ℕ) → Option Order
-judged make (Some spend) (Some certs) [] = Some (make spend certs)
-judged make _ _ _ = None
+-- what all words say that are no options, one behind the other
+abbrev pub say_all : Command → Option Said → List (List ℕ) → Option Said
+say_all command None words = None
+say_all command (Some said) [] = Some said
+say_all command (Some said) (word ∷ words) = say_all command (say (next_argument command said) said word) words
 
--- the seed and the number of games
-pub record Games : Type 0 where
-  pub seed : ℕ
-  pub count : ℕ
+-- what a search may spend, by the numbers of the options
+abbrev pub bounds : Numbers → Bounds
+bounds n = record { budget = n.budget; depth = n.depth; workers = n.workers; entries = n.entries }
 
--- both, where each is one
-abbrev pub games_of : Option ℕ → Option ℕ → Option Games
-games_of (Some seed) (Some count) = Some (record { seed = seed; count = count })
-games_of _ _ = None
+-- the order of a command, by the numbers of its options and what its further words say
+abbrev pub made : Command → Numbers → Said → Option Order
+made Adjudicate n Nothing = Some (AdjudicateGames (bounds n) (n.certs == 1))
+made Position n Nothing = Some (JudgePositions (bounds n) (n.certs == 1))
+made Check n Nothing = Some CheckCert
+made Gen n (Games seed count) = Some (GenGames (bounds n) seed count)
+made Mates n (Sided side) = Some (ListMates side n.workers n.depth)
+made _ n said = None
 
--- the two numbers behind gen: the seed has 64 bits
-abbrev pub seed_and_count : List (List ℕ) → Option Games
-seed_and_count (seed ∷ count ∷ []) = games_of (number 0 18446744073709551615 seed) (number 1 1000 count)
-seed_and_count _ = None
+-- the same where one of them may be refused
+abbrev pub made_of : Command → Option Numbers → Option Said → Option Order
+made_of command (Some n) (Some said) = made command n said
+made_of command _ _ = None
 
--- an order that takes both numbers, and no --certs
-abbrev pub generated : Option Bounds → Option Bool → Option Games → Option Order
-generated (Some spend) (Some false) (Some games) = Some (GenGames spend games.seed games.count)
-generated _ _ _ = None
-
--- the side that a word names
-unfoldable pub side_named : List ℕ → Option Color
-side_named word = if bytes_eq word (codes "w") then Some White else (if bytes_eq word (codes "b") then Some Black else None)
-
--- the side, where it is the one word that is no option
-abbrev pub side_in : List (List ℕ) → Option Color
-side_in [] = None
-side_in (word ∷ []) = side_named word
-side_in (word ∷ more ∷ words) = None
-
--- an option that mates takes, by its values in the words, in a range of its own
-abbrev pub chosen_up_to : ℕ → ℕ → List (List ℕ) → Option ℕ
-chosen_up_to most usual [] = Some usual
-chosen_up_to most usual (word ∷ []) = number 1 most word
-chosen_up_to most usual (word ∷ more ∷ words) = None
-
--- the part is an option that mates does not take
-abbrev pub is_barred : Part → Bool
-is_barred (Value Budget word) = true
-is_barred (Value Entries word) = true
-is_barred Certs = true
-is_barred _ = false
-
--- the shortest mates of a side, where each of what they need is one, and no option that mates does not take stands there
-abbrev pub mates_with : ℕ → ℕ → Option Color → Option Order
-mates_with workers depth None = None
-mates_with workers depth (Some side) = Some (ListMates side workers depth)
-
-abbrev pub mates_within : ℕ → Option ℕ → Option Color → Option Order
-mates_within workers None side = None
-mates_within workers (Some depth) side = mates_with workers depth side
-
-abbrev pub mates_by : Option ℕ → Option ℕ → Option Color → Option Order
-mates_by None depth side = None
-mates_by (Some workers) depth side = mates_within workers depth side
-
-abbrev pub listed : Option ℕ → Option ℕ → Option Color → List Part → Option Order
-listed workers depth side [] = mates_by workers depth side
-listed workers depth side (part ∷ barred) = None
+-- the numbers of all options, by the parts of the words
+abbrev pub numbers : Command → List Part → Option Numbers
+numbers command cut = let number_of : Setting → Option ℕ = λ setting. chosen (range command setting) (filter_map (value_for setting) cut) in
+    all_of (number_of Budget) (number_of Workers) (number_of Depth) (number_of Entries) (number_of Certs)
 
 -- what a command orders with the words behind it
 unfoldable pub order_by : Command → List (List ℕ) → Option Order
-order_by Adjudicate words = let cut = parts words in
-    judged AdjudicateGames (limits 2 cut) (asked (filter is_certs cut)) (filter_map plain_word cut)
-order_by Position words = let cut = parts words in
-    judged JudgePositions (limits 2 cut) (asked (filter is_certs cut)) (filter_map plain_word cut)
-order_by Gen words = let cut = parts words in
-    generated (limits 1 cut) (asked (filter is_certs cut)) (seed_and_count (filter_map plain_word cut))
-order_by Mates words = let cut = parts words in
-    listed (chosen_up_to 16 2 (filter_map (value_for Workers) cut)) (chosen_up_to 6 4 (filter_map (value_for Depth) cut))
-    (side_in (filter_map plain_word cut)) (filter is_barred cut)
-order_by Check [] = Some CheckCert
-order_by Check (word ∷ words) = None
+order_by command words = let cut = parts words in made_of command (numbers command cut) (say_all command (Some Nothing) (filter_map plain_word cut))
 
 -- the same where the first word may name no command
 abbrev pub order_behind : Option Command → List (List ℕ) → Option Order

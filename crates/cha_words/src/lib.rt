@@ -1,19 +1,19 @@
 //! The language of the words behind the program's name.
 //!
-//! `commands` has the first word, `settings` the options with a number, `numbers` the numbers, `given` what the parts of the
-//! words behind the command give, `mates` what those behind `mates` order, `reading` the cut into parts, `orders` what the words order, and `faults` what is wrong with
-//! words that order nothing.
+//! `table` has the commands, their options and further words, `numbers` the numbers, `given` what the words behind the command give,
+//! `orders` what the words order, and `faults` where words leave the language.
 #![tactic(auto)]
 
-mod commands;
 mod faults;
 mod given;
-mod mates;
 mod numbers;
 mod orders;
-mod reading;
-mod settings;
+mod table;
 
-pub use faults::{UsageFault, usage_fault};
-pub use orders::{Order, games_are_some, mates_are_bounded, parse};
-pub use settings::{Setting, least, most};
+pub use faults::{Expected, UsageFault, expected_words_can_stand};
+pub use given::{Given, Progress, Said, open_range};
+pub use orders::{Order, games_are_some, mates_are_bounded, parse, usage_fault};
+pub use table::{
+    Argument, COMMANDS, Command, Range, SETTINGS, Setting, argument_of, command_name, is_flag,
+    range_of, setting_name,
+};

@@ -1,18 +1,16 @@
 //! What the words order.
 
-ghost use Rattle.std.specs.Prelude.{◌≡◌, ◌≤◌, ℕ, List, Some, [], map, string_bytes, unwrap_or};
+ghost use Rattle.std.specs.Prelude.{◌≡◌, ◌≤◌, ℕ, List, Some, [], map, string_bytes, IfOk, IfErr, IfSome, IsNone, IsSome, ◌↔◌};
 ghost use Rattle.cha_limits.specs.Bounds.{Bounds};
-ghost use Rattle.cha_words.specs.Language.{least_of, most_of, limits_in, order, order_by, order_of};
-ghost use Rattle.cha_words.specs.Reading.{HasRanges, limits_from, order_from, value_in};
-ghost use Rattle.cha_words.specs.declared.commands.Command.TheVariants.{Check, Gen};
+ghost use Rattle.cha_words.specs.Language.{limits_in, bounds, order, order_by, order_of, range};
+ghost use Rattle.cha_words.specs.Faults.{IsFault, IsFaultOf};
+ghost use Rattle.cha_words.specs.Reading.{Fits, IsIn, IsSearch, Stands, chosen_from, numbers_from, order_from, order_with, value_in};
 ghost use Rattle.cha_words.specs.declared.orders.Order.TheVariants.{GenGames, ListMates};
 ghost use Rattle.cha_board.specs.declared.men.Color.{Color as Side};
 
-use crate::commands::{Command, command_of};
-use crate::given::{Given, Numbers, value};
-use crate::mates::mates_by;
-use crate::reading::given_by;
-use crate::settings::Setting;
+use crate::faults::{Expected, UsageFault};
+use crate::given::{Given, Progress, Said, value, with_word};
+use crate::table::{Command, Setting, command_of, range_of};
 use cha_board::Color;
 use cha_limits::Limits;
 
@@ -92,12 +90,21 @@ impl Order {
 pub fn parse(words: &[String]) -> Option<Order>
     ensures { result ≡ order words.now }
 {
-    match words {
-        [word, behind @ ..] => match command_of(word.as_str()) {
-            Some(command) => ordered(command, behind),
-            None => None,
-        },
-        _ => None,
+    match read(words) {
+        Ok(order) => Some(order),
+        Err(_) => None,
+    }
+}
+
+/// Where words leave the language, or None where they are in it: at the first word with which no words behind it make an order, or
+/// behind the last one, where some words would.
+pub fn usage_fault(words: &[String]) -> Option<UsageFault>
+    ensures refused { IsSome result ↔ IsNone (order words.now) }
+    ensures fault { IfSome result (λ f. IsFault (map string_bytes words.now) f) }
+{
+    match read(words) {
+        Ok(_) => None,
+        Err(fault) => Some(fault),
     }
 }
 
@@ -111,96 +118,134 @@ pub fn mates_are_bounded()
     ensures { (words : List (List ℕ)) (side : Side) (workers depth : ℕ) → order_of words ≡ Some (ListMates side workers depth) → ((1 ≤ workers) × (workers ≤ 16)) × ((1 ≤ depth) × (depth ≤ 6)) }
 {}
 
-/// What a command orders with the words behind it.
-fn ordered(command: Command, behind: &[String]) -> Option<Order>
-    ensures { result ≡ order_by command (map string_bytes behind.now) }
+/// What the words order, or where they leave the language.
+fn read(words: &[String]) -> Result<Order, UsageFault>
+    ensures order { IfOk result (λ o. order words.now ≡ Some o) }
+    ensures fault { IfErr result (λ f. IsFault (map string_bytes words.now) f) }
 {
-    match command {
-        Command::Check => checked(behind),
-        Command::Mates => mates_by(behind),
-        _ => match given_by(behind) {
-            Some(given) => order_of(command, given),
-            None => None,
+    let [word, behind @ ..] = words else {
+        return Err(UsageFault {
+            index: 0,
+            expected: Expected::First,
+        });
+    };
+    match command_of(word.as_str()) {
+        Some(command) => match read_behind(command, behind) {
+            Ok(order) => Ok(order),
+            Err(fault) => Err(UsageFault {
+                index: fault.index + 1,
+                expected: fault.expected,
+            }),
         },
+        None => Err(UsageFault {
+            index: 0,
+            expected: Expected::First,
+        }),
     }
 }
 
-/// What `check` orders with the words behind it.
-fn checked(behind: &[String]) -> Option<Order>
-    ensures { result ≡ order_by Check (map string_bytes behind.now) }
+/// What a command orders with the words behind it, or where they leave the language, counted behind the command.
+fn read_behind(command: Command, words: &[String]) -> Result<Order, UsageFault>
+    ensures order { IfOk result (λ o. order_by command (map string_bytes words.now) ≡ Some o) }
+    ensures fault { IfErr result (λ f. IsFaultOf (order_by command) (map string_bytes words.now) f.index f.expected) }
 {
-    match behind {
-        [] => Some(Order::CheckCert),
-        _ => None,
+    let mut progress = Progress {
+        given: Given {
+            budget: None,
+            workers: None,
+            depth: None,
+            entries: None,
+            certs: None,
+            said: Said::Nothing,
+        },
+        awaited: None,
+    };
+    let mut index = 0;
+    while index < words.len() {
+        match with_word(command, progress, words[index].as_str()) {
+            Some(next) => progress = next,
+            None => {
+                return Err(UsageFault {
+                    index,
+                    expected: Expected::Behind(command, progress),
+                });
+            }
+        }
+        index += 1;
+    }
+    match ended(command, progress) {
+        Some(order) => Ok(order),
+        None => Err(UsageFault {
+            index,
+            expected: Expected::Behind(command, progress),
+        }),
     }
 }
 
-/// What a command orders with what is given. A check and the shortest mates are not ordered so.
-fn order_of(command: Command, given: Given) -> Option<Order>
-    requires { HasRanges given }
+/// What a command orders where no word follows.
+fn ended(command: Command, progress: Progress) -> Option<Order>
+    requires { Stands command progress }
+    ensures { result ≡ order_with command progress [] }
+{
+    match progress.awaited {
+        Some(_) => None,
+        None => made(command, progress.given),
+    }
+}
+
+/// What a command orders with what is given.
+fn made(command: Command, given: Given) -> Option<Order>
+    requires { Fits command given }
     ensures { result ≡ order_from command given [] }
 {
-    match command {
-        Command::Adjudicate => match given.numbers {
-            Numbers::Unsaid => Some(Order::AdjudicateGames {
-                limits: limits(given, 2),
-                certs: given.certs,
-            }),
-            _ => None,
-        },
-        Command::Position => match given.numbers {
-            Numbers::Unsaid => Some(Order::JudgePositions {
-                limits: limits(given, 2),
-                certs: given.certs,
-            }),
-            _ => None,
-        },
-        Command::Gen => generated(given),
-        Command::Check => None,
-        Command::Mates => None,
-    }
-}
-
-/// What `gen` orders with what is given.
-fn generated(given: Given) -> Option<Order>
-    requires { HasRanges given }
-    ensures { result ≡ order_from Gen given [] }
-{
-    if given.certs {
-        return None;
-    }
-    match given.numbers {
-        Numbers::Counted(seed, count) => Some(Order::GenGames {
-            limits: limits(given, 1),
+    match (command, given.said) {
+        (Command::Adjudicate, Said::Nothing) => Some(Order::AdjudicateGames {
+            limits: limits(command, given),
+            certs: chosen(command, given, Setting::Certs) == 1,
+        }),
+        (Command::Position, Said::Nothing) => Some(Order::JudgePositions {
+            limits: limits(command, given),
+            certs: chosen(command, given, Setting::Certs) == 1,
+        }),
+        (Command::Check, Said::Nothing) => Some(Order::CheckCert),
+        (Command::Gen, Said::Games(seed, count)) => Some(Order::GenGames {
+            limits: limits(command, given),
             seed,
             count: count as u32,
+        }),
+        (Command::Mates, Said::Sided(side)) => Some(Order::ListMates {
+            side,
+            workers: chosen(command, given, Setting::Workers) as u32,
+            depth: chosen(command, given, Setting::Depth) as u8,
         }),
         _ => None,
     }
 }
 
-/// What a search may spend, by the usual number of workers.
-fn limits(given: Given, workers: u64) -> Limits
-    requires ranges { HasRanges given }
-    requires workers { (1 ≤ workers) × (workers ≤ 16) }
-    ensures { limits_from workers given [] ≡ Some result }
+/// What a search of verdicts may spend.
+fn limits(command: Command, given: Given) -> Limits
+    requires fits { Fits command given }
+    requires search { IsSearch command }
+    ensures { IfSome (numbers_from command given []) (λ n. result ≡ bounds n) }
 {
-    let budget = chosen(given, Setting::Budget, 20_000);
-    let depth = chosen(given, Setting::Depth, 4);
-    let spread = chosen(given, Setting::Workers, workers);
-    let entries = chosen(given, Setting::Entries, 4_096);
-    Limits::new(budget as u32, depth as u8, spread as u32, entries as u32)
+    let budget = chosen(command, given, Setting::Budget);
+    let depth = chosen(command, given, Setting::Depth);
+    let workers = chosen(command, given, Setting::Workers);
+    let entries = chosen(command, given, Setting::Entries);
+    Limits::new(budget as u32, depth as u8, workers as u32, entries as u32)
 }
 
-/// The number that is given to an option, or else its usual one.
-fn chosen(given: Given, setting: Setting, usual: u64) -> u64
-    requires ranges { HasRanges given }
-    requires usual { (least_of setting ≤ usual) × (usual ≤ most_of setting) }
-    ensures value { result ≡ unwrap_or (value_in setting given) usual }
-    ensures range { (least_of setting ≤ result) × (result ≤ most_of setting) }
+/// The number that is given to an option, or else its usual one, or 0 where the command does not take it.
+fn chosen(command: Command, given: Given, setting: Setting) -> u64
+    requires { Fits command given }
+    ensures value { chosen_from (range command setting) (value_in setting given) [] ≡ Some result }
+    ensures range { IsIn (range command setting) result }
 {
     match value(given, setting) {
         Some(number) => number,
-        None => usual,
+        None => match range_of(command, setting) {
+            Some(range) => range.usual,
+            None => 0,
+        },
     }
 }

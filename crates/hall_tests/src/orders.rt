@@ -3,7 +3,9 @@
 use crate::random_rows::{MORE_RANDOM_ROWS, RANDOM_ROWS};
 use cha_board::Color;
 use cha_limits::Limits;
-use cha_words::{Order, Setting, UsageFault, parse, usage_fault};
+use cha_words::{
+    Argument, Expected, Order, SETTINGS, argument_of, open_range, parse, setting_name, usage_fault,
+};
 use std::alloc::Global;
 use std::test::Fail;
 
@@ -221,49 +223,99 @@ fn words_order_what_the_language_says(rt: HostRuntime) -> Result<(), Fail> {
     Ok(())
 }
 
-/// Lists of words that order nothing, and the first word at which they leave the language.
-const FAULTS: &[(&str, UsageFault)] = &[
-    ("solve", UsageFault::UnknownCommand),
-    ("check --certs", UsageFault::Unexpected(2)),
-    ("position --", UsageFault::Unexpected(2)),
-    ("position --help", UsageFault::Unexpected(2)),
-    ("position 5", UsageFault::Unexpected(2)),
-    ("adjudicate --certs=yes", UsageFault::Unexpected(2)),
-    ("adjudicate --certs --certs", UsageFault::Twice(3)),
-    ("adjudicate --depth 4 --depth 4", UsageFault::Twice(4)),
+/// The options of the judging commands.
+const JUDGING: &str = " --budget --workers --depth --entries --certs";
+
+/// Lists of words that order nothing, how many words stand before the first at which they leave the language, and what may stand there:
+/// a command, a number, or the next further word and the options that did not stand.
+const FAULTS: &[(&str, usize, &str)] = &[
+    ("solve", 0, "command"),
+    ("", 0, "command"),
+    ("check --certs", 1, ""),
+    ("position --", 1, JUDGING),
+    ("position --help", 1, JUDGING),
+    ("position 5", 1, JUDGING),
+    ("adjudicate --certs=yes", 1, JUDGING),
+    ("adjudicate --certs=1", 1, JUDGING),
+    ("adjudicate --budget=0 x", 1, JUDGING),
     (
-        "adjudicate --workers 17",
-        UsageFault::OutOfRange(3, Setting::Workers),
+        "adjudicate --certs --certs",
+        2,
+        " --budget --workers --depth --entries",
     ),
     (
-        "adjudicate --budget=0",
-        UsageFault::OutOfRange(2, Setting::Budget),
+        "adjudicate --depth 4 --depth 4",
+        3,
+        " --budget --workers --entries --certs",
     ),
     (
-        "adjudicate --entries",
-        UsageFault::NoValue(Setting::Entries),
+        "position --budget 5 --budget",
+        3,
+        " --workers --depth --entries --certs",
     ),
-    ("gen", UsageFault::TooFew),
-    ("gen 1", UsageFault::TooFew),
-    ("gen x 1", UsageFault::NoSeed(2)),
-    ("gen 1 0", UsageFault::NoCount(3)),
-    ("gen 1 2 3", UsageFault::Unexpected(4)),
-    ("gen 1 2 --certs", UsageFault::Unexpected(4)),
-    ("mates", UsageFault::SideMissing),
-    ("mates x", UsageFault::NoSide(2)),
-    ("mates w --depth 7", UsageFault::NoMatesDepth(4)),
-    ("mates w --certs", UsageFault::Unexpected(3)),
-    ("mates w --budget=5", UsageFault::Unexpected(3)),
-    ("mates w w", UsageFault::Unexpected(3)),
+    ("adjudicate --workers 17", 2, "1 to 16"),
+    ("adjudicate --entries", 2, "1 to 65536"),
+    ("gen", 1, " SEED --budget --workers --depth --entries"),
+    ("gen 1", 2, " COUNT --budget --workers --depth --entries"),
+    ("gen x 1", 1, " SEED --budget --workers --depth --entries"),
+    ("gen 1 0", 2, " COUNT --budget --workers --depth --entries"),
+    ("gen 1 2 3", 3, " --budget --workers --depth --entries"),
+    (
+        "gen 1 2 --certs",
+        3,
+        " --budget --workers --depth --entries",
+    ),
+    ("mates", 1, " SIDE --workers --depth"),
+    ("mates x", 1, " SIDE --workers --depth"),
+    ("mates w --budget", 2, " --workers --depth"),
+    ("mates w --budget=5", 2, " --workers --depth"),
+    ("mates w --certs", 2, " --workers --depth"),
+    ("mates w w", 2, " --workers --depth"),
+    ("mates w --depth 7", 3, "1 to 6"),
+    ("mates w --depth", 3, "1 to 6"),
+    ("mates --workers=3 --depth 2", 4, " SIDE"),
 ];
 
+/// What may stand at a place, as a text.
+fn expected_text(alloc: Global, expected: Expected) -> Result<String, Fail> {
+    let Expected::Behind(command, progress) = expected else {
+        let text = format!(in alloc; "command")?;
+        return Ok(text);
+    };
+    if let Some(setting) = progress.awaited
+        && let Some(range) = open_range(command, progress.given, setting)
+    {
+        let text = format!(in alloc; "{} to {}", range.least, range.most)?;
+        return Ok(text);
+    }
+    let mut text = String::new(alloc);
+    match argument_of(command, progress.given.said) {
+        Some(Argument::Seed) => text.push_str(" SEED")?,
+        Some(Argument::Count) => text.push_str(" COUNT")?,
+        Some(Argument::Side) => text.push_str(" SIDE")?,
+        None => {}
+    }
+    for setting in SETTINGS {
+        if let Some(_) = open_range(command, progress.given, setting) {
+            text.push(' ')?;
+            text.push_str(setting_name(setting))?;
+        }
+    }
+    Ok(text)
+}
+
 #[test]
-fn faults_name_the_first_wrong_word(rt: HostRuntime) -> Result<(), Fail> {
+fn faults_name_the_first_wrong_word_and_what_may_stand_there(rt: HostRuntime) -> Result<(), Fail> {
     let alloc = rt.alloc();
-    assert_eq!(rt; usage_fault(&[]), Some(UsageFault::NoCommand));
-    for (line, fault) in FAULTS {
+    let none = usage_fault(&[]).expect(&rt, "no words order nothing");
+    assert_eq!(rt; none.index, 0);
+    assert!(rt; none.expected == Expected::First);
+    for (line, index, expected) in FAULTS {
         let words = words_of(alloc, line)?;
-        assert_eq!(rt; usage_fault(words.as_slice()), Some(*fault));
+        let fault = usage_fault(words.as_slice()).expect(&rt, line);
+        assert_eq!(rt; fault.index, *index);
+        let text = expected_text(alloc, fault.expected)?;
+        assert_eq!(rt; text.as_str().trim_start(), (*expected).trim_start());
     }
     for (line, ordered) in ROWS {
         let words = words_of(alloc, line)?;

@@ -1,0 +1,39 @@
+use Rattle.cha_words.proofs.Ending.{whole, games_made, positions_made, check_made, games_generated, mates_made, not_made}
+use Rattle.cha_words.proofs.orders.made.Goals.{in_default-via-in-Adjudicate+in_default, in_default-via-in-Position+in_default, in_default-via-in-Check+in_default, in_default-via-in-Gen+in_default, in_default-via-in-Mates+in_default}
+use Rattle.cha_words.proofs.orders.made.Goals as goal
+
+pub returns-in-Adjudicate-Nothing : goal.returns-in-Adjudicate-Nothing
+returns-in-Adjudicate-Nothing c =
+    let n = whole c.args.command c.args.given in
+    games_made c.args.command c.args.given n.0 n.1 c.limits.result c.chosen.result c.in-Adjudicate-Nothing.is-0 c.in-Adjudicate-Nothing.is-1 c.limits.ensures c.chosen.ensures.value
+
+pub returns-in-Position-Nothing : goal.returns-in-Position-Nothing
+returns-in-Position-Nothing c =
+    let n = whole c.args.command c.args.given in
+    positions_made c.args.command c.args.given n.0 n.1 c.limits-in-Position-Nothing.result c.chosen-in-Position-Nothing.result c.in-Position-Nothing.is-0 c.in-Position-Nothing.is-1 c.limits-in-Position-Nothing.ensures c.chosen-in-Position-Nothing.ensures.value
+
+pub returns-in-Check-Nothing : goal.returns-in-Check-Nothing
+returns-in-Check-Nothing c =
+    let n = whole c.args.command c.args.given in
+    check_made c.args.command c.args.given n.0 n.1 c.in-Check-Nothing.is-0 c.in-Check-Nothing.is-1
+
+pub returns-in-Gen-Games : goal.returns-in-Gen-Games
+returns-in-Gen-Games c =
+    let n = whole c.args.command c.args.given in
+    games_generated c.args.command c.args.given n.0 n.1 c.limits-in-Gen-Games.result c.in-Gen-Games.seed c.in-Gen-Games.count c.in-Gen-Games.is-0 c.in-Gen-Games.is-1 c.limits-in-Gen-Games.ensures
+
+pub returns-in-Mates-Sided : goal.returns-in-Mates-Sided
+returns-in-Mates-Sided c =
+    let n = whole c.args.command c.args.given in
+    mates_made c.args.command c.args.given n.0 n.1 c.in-Mates-Sided.side c.chosen-in-Mates-Sided.result c.chosen-in-Mates-Sided-2.result c.in-Mates-Sided.is-0 c.in-Mates-Sided.is-1 c.chosen-in-Mates-Sided.ensures.value c.chosen-in-Mates-Sided-2.ensures.value
+
+pub returns-in_default : goal.returns-in_default
+returns-in_default c =
+    let n = whole c.args.command c.args.given in
+    elim c.in_default.branch [
+      | in_default-via-in-Adjudicate+in_default w ↦ let is = w.in_default.is-0 in not_made c.args.command c.args.given n.0 n.1 (λ e s. w.in_default.not-Nothing-1 s) (λ e s. cc) (λ e s. cc) (λ a b e s. cc) (λ a e s. cc)
+      | in_default-via-in-Position+in_default w ↦ let is = w.in_default.is-0 in not_made c.args.command c.args.given n.0 n.1 (λ e s. cc) (λ e s. w.in_default.not-Nothing-1 s) (λ e s. cc) (λ a b e s. cc) (λ a e s. cc)
+      | in_default-via-in-Check+in_default w ↦ let is = w.in_default.is-0 in not_made c.args.command c.args.given n.0 n.1 (λ e s. cc) (λ e s. cc) (λ e s. w.in_default.not-Nothing-1 s) (λ a b e s. cc) (λ a e s. cc)
+      | in_default-via-in-Gen+in_default w ↦ let is = w.in_default.is-0 in not_made c.args.command c.args.given n.0 n.1 (λ e s. cc) (λ e s. cc) (λ e s. cc) (λ a b e s. w.in_default.not-Games-1 a b s) (λ a e s. cc)
+      | in_default-via-in-Mates+in_default w ↦ let is = w.in_default.is-0 in not_made c.args.command c.args.given n.0 n.1 (λ e s. cc) (λ e s. cc) (λ e s. cc) (λ a b e s. cc) (λ a e s. w.in_default.not-Sided-1 a s)
+    ]

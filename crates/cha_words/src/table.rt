@@ -1,0 +1,222 @@
+//! The table of the language: commands, their options with the numbers that these take, and their further words.
+//!
+//! The reader of words, the faults, the usage and the completions all go by it. A new command, option or further word is a row here.
+
+ghost use Rattle.std.specs.Prelude.{◌≡◌, Some};
+ghost use Rattle.cha_words.specs.Language.{command_named, setting_named, is_flag as stands_alone, range, for_search as searched, next_argument, side_named};
+
+use crate::given::Said;
+use cha_board::Color;
+
+/// What the first word asks for.
+#[derive(Clone, Copy, Debug, PartialEq, Eq)]
+pub enum Command {
+    /// To judge games.
+    Adjudicate,
+    /// To judge positions.
+    Position,
+    /// To check a certificate.
+    Check,
+    /// To make games and judge them.
+    Gen,
+    /// To list the shortest mates.
+    Mates,
+}
+
+/// Each command.
+pub const COMMANDS: [Command; 5] = [
+    Command::Adjudicate,
+    Command::Position,
+    Command::Check,
+    Command::Mates,
+    Command::Gen,
+];
+
+/// An option: one that stands with a number, or a flag, which stands alone and counts as the number 1.
+#[derive(Clone, Copy, Debug, PartialEq, Eq)]
+pub enum Setting {
+    /// `--budget`: how many positions are expanded for a side at most.
+    Budget,
+    /// `--workers`: how many workers share a search.
+    Workers,
+    /// `--depth`: to how many plies a side is searched in rounds.
+    Depth,
+    /// `--entries`: how many rows each shard of the table of facts has at most.
+    Entries,
+    /// `--certs`, a flag: whether certificates are printed.
+    Certs,
+}
+
+/// Each option.
+pub const SETTINGS: [Setting; 5] = [
+    Setting::Budget,
+    Setting::Workers,
+    Setting::Depth,
+    Setting::Entries,
+    Setting::Certs,
+];
+
+/// The numbers that an option takes behind a command.
+#[derive(Clone, Copy, Debug, PartialEq, Eq)]
+pub struct Range {
+    /// The least one.
+    pub least: u64,
+    /// The greatest one.
+    pub most: u64,
+    /// The one that counts where the option does not stand.
+    pub usual: u64,
+}
+
+/// A word behind a command that is no option.
+#[derive(Clone, Copy, Debug, PartialEq, Eq)]
+pub enum Argument {
+    /// The seed of the random numbers, from 0 to 2^64 - 1.
+    Seed,
+    /// How many games are made, from 1 to 1,000.
+    Count,
+    /// The side that mates, `w` or `b`.
+    Side,
+}
+
+/// The command that a word names.
+#[tactic(auto, unfolding(crate::specs::Language::command_named))]
+pub fn command_of(word: &str) -> Option<Command>
+    ensures { result ≡ command_named word.now }
+{
+    if word == "adjudicate" {
+        Some(Command::Adjudicate)
+    } else if word == "position" {
+        Some(Command::Position)
+    } else if word == "check" {
+        Some(Command::Check)
+    } else if word == "gen" {
+        Some(Command::Gen)
+    } else if word == "mates" {
+        Some(Command::Mates)
+    } else {
+        None
+    }
+}
+
+/// The word that names a command.
+#[tactic(auto, unfolding(crate::specs::Language::command_named))]
+pub fn command_name(command: Command) -> &'static str
+    ensures { command_named result.now ≡ Some command }
+{
+    match command {
+        Command::Adjudicate => "adjudicate",
+        Command::Position => "position",
+        Command::Check => "check",
+        Command::Gen => "gen",
+        Command::Mates => "mates",
+    }
+}
+
+/// The option that a word names.
+#[tactic(auto, unfolding(crate::specs::Language::setting_named))]
+pub fn setting_of(word: &str) -> Option<Setting>
+    ensures { result ≡ setting_named word.now }
+{
+    if word == "--budget" {
+        Some(Setting::Budget)
+    } else if word == "--workers" {
+        Some(Setting::Workers)
+    } else if word == "--depth" {
+        Some(Setting::Depth)
+    } else if word == "--entries" {
+        Some(Setting::Entries)
+    } else if word == "--certs" {
+        Some(Setting::Certs)
+    } else {
+        None
+    }
+}
+
+/// The word that names an option.
+#[tactic(auto, unfolding(crate::specs::Language::setting_named))]
+pub fn setting_name(setting: Setting) -> &'static str
+    ensures { setting_named result.now ≡ Some setting }
+{
+    match setting {
+        Setting::Budget => "--budget",
+        Setting::Workers => "--workers",
+        Setting::Depth => "--depth",
+        Setting::Entries => "--entries",
+        Setting::Certs => "--certs",
+    }
+}
+
+/// Whether an option stands alone.
+pub fn is_flag(setting: Setting) -> bool
+    ensures { result ≡ stands_alone setting }
+{
+    match setting {
+        Setting::Certs => true,
+        Setting::Budget | Setting::Workers | Setting::Depth | Setting::Entries => false,
+    }
+}
+
+/// Numbers from the least to the greatest, and the usual one.
+fn from_to(least: u64, most: u64, usual: u64) -> Range
+    ensures { result ≡ record { least = least; most = most; usual = usual } }
+{
+    Range { least, most, usual }
+}
+
+/// The numbers that an option takes where a search of verdicts is bounded, by the usual number of workers.
+fn for_search(workers: u64, setting: Setting) -> Range
+    ensures { result ≡ searched workers setting }
+{
+    match setting {
+        Setting::Budget => from_to(1, 100_000, 20_000),
+        Setting::Workers => from_to(1, 16, workers),
+        Setting::Depth => from_to(2, 8, 4),
+        Setting::Entries => from_to(1, 65_536, 4_096),
+        Setting::Certs => from_to(0, 1, 0),
+    }
+}
+
+/// The numbers that an option takes behind a command, or None where it does not stand there. A flag is from 0 to 1.
+pub fn range_of(command: Command, setting: Setting) -> Option<Range>
+    ensures { result ≡ range command setting }
+{
+    match command {
+        Command::Adjudicate | Command::Position => Some(for_search(2, setting)),
+        Command::Check => None,
+        Command::Gen => match setting {
+            Setting::Certs => None,
+            _ => Some(for_search(1, setting)),
+        },
+        Command::Mates => match setting {
+            Setting::Workers => Some(from_to(1, 16, 2)),
+            Setting::Depth => Some(from_to(1, 6, 4)),
+            Setting::Budget | Setting::Entries | Setting::Certs => None,
+        },
+    }
+}
+
+/// The word that comes next behind a command and is no option, by what such words have said, or None where there is no such word.
+pub fn argument_of(command: Command, said: Said) -> Option<Argument>
+    ensures { result ≡ next_argument command said }
+{
+    match (command, said) {
+        (Command::Gen, Said::Nothing) => Some(Argument::Seed),
+        (Command::Gen, Said::Seeded(_)) => Some(Argument::Count),
+        (Command::Mates, Said::Nothing) => Some(Argument::Side),
+        _ => None,
+    }
+}
+
+/// The side that a word names.
+#[tactic(auto, unfolding(crate::specs::Language::side_named))]
+pub fn side_of(word: &str) -> Option<Color>
+    ensures { result ≡ side_named word.now }
+{
+    if word == "w" {
+        Some(Color::White)
+    } else if word == "b" {
+        Some(Color::Black)
+    } else {
+        None
+    }
+}

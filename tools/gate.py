@@ -1,0 +1,59 @@
+#!/usr/bin/env python3
+"""The whole gate, which `make test` and `.ci/run` run: `rt ci`, and then the tests of what stands around the proved crates.
+
+    tools/gate.py
+
+It ends at the first of them that fails, with its status. Each says 'N passed, M failed' of its own; the last line here is their sum.
+Where a package of Debian is missing that tests need, and it cannot be installed (tools/packages), those tests are passed over and that is
+said; with CI=true it is a failure.
+"""
+import os
+import re
+import subprocess
+import sys
+
+TOP = os.path.dirname(os.path.dirname(os.path.abspath(__file__)))
+# what is run, and whether it needs packages
+SUITES = [
+    (["rt", "ci"], False),
+    (["make", "lib-test"], True),
+    (["make", "text-test"], False),
+    (["make", "dist-test"], True),
+]
+COUNTS = re.compile(r"^(\d+) passed, (\d+) failed")
+
+
+def run(command):
+    """Runs a command and shows what it says: its status, and its counts."""
+    passed = failed = 0
+    print(f"== {' '.join(command)}", flush=True)
+    with subprocess.Popen(command, cwd=TOP, stdout=subprocess.PIPE, text=True, errors="replace") as ran:
+        for line in ran.stdout:
+            print(line, end="", flush=True)
+            counts = COUNTS.match(line)
+            if counts:
+                passed, failed = passed + int(counts[1]), failed + int(counts[2])
+    if ran.returncode and not failed:
+        failed = 1
+    return ran.returncode, passed, failed
+
+
+def main():
+    status = passed = failed = 0
+    for command, needs_packages in SUITES:
+        if needs_packages and subprocess.call([f"{TOP}/tools/packages"]):
+            print(f"passed over for want of packages: {' '.join(command)}", flush=True)
+            if os.environ.get("CI") == "true":
+                status, failed = 1, failed + 1
+                break
+            continue
+        status, good, bad = run(command)
+        passed, failed = passed + good, failed + bad
+        if status:
+            break
+    print(f"{passed} passed, {failed} failed", flush=True)
+    return status if status >= 0 else 128 - status
+
+
+if __name__ == "__main__":
+    sys.exit(main())

@@ -1,8 +1,8 @@
 -- What readers make of an escaped byte and of an escaped string.
-use Rattle.std.proofs.Common.{◌≡◌, ◌≢◌, ℕ, ◌+◌, ◌*◌, ◌/◌, ◌%◌, ◌<◌, ◌≤◌, Bool, true, false, cond, not, ◌&&◌, ◌==◌, nat_lt, nat_le, List, [], ◌∷◌, ◌++◌, Some, All, refl, sym, ap, ◌∙◌, arith, append_assoc}
+use Rattle.std.proofs.Common.{◌≡◌, ◌≢◌, ℕ, ◌+◌, ◌*◌, ◌/◌, ◌%◌, ◌<◌, ◌≤◌, Bool, true, false, cond, List, [], ◌∷◌, ◌++◌, Some, refl, ap, ◌∙◌, arith, append_assoc}
 use Rattle.std.proofs.lemmas.Bool.{ne_eqb, lt-ltb, le-ltb, lt-leb, and_parts, not-true, eqb-false, ltb-true, leb-true}
 use Rattle.std.proofs.lemmas.Str.{encode_ascii, digit_value-digit_char}
-use Rattle.std.specs.Char.{digit_char, digit_value, is_digit, encode_utf8}
+use Rattle.std.specs.Char.{digit_char, encode_utf8}
 use Rattle.json.specs.Text.{content, plain, prepend, code_unit}
 use Rattle.json.specs.Word.{is_operator, is_space}
 use Rattle.json.specs.Lex.{Lexeme, Mode, lex, lex_byte, between, in_string, operator, space, other}

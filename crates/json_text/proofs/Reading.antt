@@ -1,13 +1,11 @@
 -- The grammar reads the text of a value as the value that is meant.
-use Rattle.std.proofs.Common.{◌≡◌, ℕ, ◌≤◌, List, [], ◌∷◌, ◌++◌, map, Some, option_and_then, suc, max, false, refl, sym, ap, ap₂, ◌∙◌, append-nil, arith}
+use Rattle.std.proofs.Common.{◌≡◌, List, [], ◌∷◌, ◌++◌, map, option_and_then, suc, max, false, refl, ap, ap₂, ◌∙◌}
 use Rattle.json.specs.Token.{Token}
 use Rattle.json.specs.Lex.{punctuate, fresh, lex, between}
-use Rattle.json.specs.Json.{Json, null, boolean, number, string, array, object, Items, no_items, item, Members, no_members, member, value, if_last, max_depth, document}
+use Rattle.json.specs.Json.{Json, null, boolean, number, string, array, object, Items, no_items, item, Members, no_members, member, value, if_last, max_depth}
 use Rattle.json.specs.Tree.{json_tokens, items_tokens, members_tokens, depth, items_depth, members_depth, HasNumbers, ItemsHaveNumbers, MembersHaveNumbers}
 use Rattle.json.specs.Print as plainly
-use Rattle.json.proofs.Printed.Tokens.{tokens-print}
-use Rattle.json.proofs.Printed.Trees.{value-json_tokens, ArePrintable-json_tokens, document-print}
-use Rattle.json_text.specs.Texts.{text_from, json_text}
+use Rattle.json.proofs.Printed.Trees.{document-print}
 use Rattle.json_text.specs.Meant.{meant, items_meant, members_meant, HasBytes, ItemsHaveBytes, MembersHaveBytes, ReadsBack}
 use Rattle.json_text.proofs.Lexed.{token_meant, AreWritable, same_lexemes}
 

@@ -2,18 +2,20 @@
 
 mod named_moves;
 mod whole_games;
+mod written_moves;
 
 use cha_board::Position;
 use cha_fen::{read, write};
 use cha_list::{NoMemory, Text, text_of};
 use cha_moves::move_text;
-use cha_san::{SanFault, play, resolve};
+use cha_san::{SanFault, play, resolve, san};
 use named_moves::{LONG_WORDS, NOT_SAN, TABLES};
 use pgn_games::{Game, ResultMark, Words};
 use std::alloc::Global;
 use std::process::Abort;
 use std::test::Fail;
 use whole_games::{GAMES, STOPPED};
+use written_moves::WRITTEN;
 
 const OPENING: &str = "rnbqkbnr/pppppppp/8/8/8/8/PPPPPPPP/RNBQKBNR w KQkq -";
 
@@ -105,6 +107,31 @@ fn words_name_moves(rt: HostRuntime) -> Result<(), Fail> {
             word.push(*byte)?;
         }
         is_answered(&rt, rt.alloc(), OPENING, word.items(), want)?;
+    }
+    Ok(())
+}
+
+/// The word that is written for the move that a word names in a position, or what is wrong with the word.
+fn rewritten(alloc: Global, position: &str, word: &[u8]) -> Result<Text, Fail> {
+    let Ok(position) = read(position.as_bytes()) else {
+        return Ok(text_of(alloc, b"no position")?);
+    };
+    match resolve(alloc, &position, word) {
+        Ok(m) => Ok(san(alloc, &position, m)?),
+        Err(fault) => Ok(text_of(alloc, named(fault).as_bytes())?),
+    }
+}
+
+#[test]
+fn moves_are_written_as_the_standard_writes_them(rt: HostRuntime) -> Result<(), Fail> {
+    for row in WRITTEN.split('\n') {
+        let (position, rest) = row.split_once(" | ").ok_or("a row with too few columns")?;
+        let (word, want) = rest.split_once(" | ").ok_or("a row with too few columns")?;
+        assert_eq!(rt;
+            rewritten(rt.alloc(), position, word.as_bytes())?.items(),
+            want.as_bytes(),
+            "for {word} at {position}"
+        );
     }
     Ok(())
 }

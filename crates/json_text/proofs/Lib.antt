@@ -1,0 +1,3 @@
+mod Passing
+mod Lexed
+pub mod Reading

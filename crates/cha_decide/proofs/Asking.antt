@@ -8,10 +8,9 @@ use Rattle.cha_board.specs.declared.men.Color.TheVariants.{White, Black}
 use Rattle.cha_board.specs.Men.{other_color}
 use Rattle.cha_board.specs.Board.{Board}
 use Rattle.cha_moves.proofs.Contained.{Contains-cons_here}
+use Rattle.cha_fact.specs.declared.calls.Probe.{Probe}
 use Rattle.cha_fact.specs.Keys.{key_of}
 use Rattle.cha_fact.specs.Entries.{Entry, probe_entry, HasProbe, MadeSome}
-use Rattle.helpmate.specs.declared.answers.RoundDone.{RoundDone}
-use Rattle.helpmate.specs.Rounds.{RoundCalls}
 use Rattle.root_workers.specs.RoundAnswers.{RoundsCalls}
 use Rattle.root_workers.specs.declared.answers.RoundsDone.{RoundsDone}
 use Rattle.cha_limits.specs.Bounds.{Bounds}
@@ -30,33 +29,25 @@ unfolding HasProbe
 probe_right xs ys q w h = (h.0, Contains-append_right xs ys _ h.1)
 
 module _ {S : Type 0} (made : S → List Entry → S → Type 0) (joined : (a b c : S) (xs ys : List Entry) → made a xs b → made b ys c → made a (xs ++ ys) c) where
-  -- nothing was asked where memory is refused before a search
-  pub decided_nothing : (s : S) (q : Board) (result : Result Decision NoMemory) → made s [] s → IsErr result → Asked made s s q result
-  decided_nothing s q result none refused = record {
-    entries = [];
-    entered = none;
-    asked = λ d is. (let P : Result Decision NoMemory → Type 0 = λ x. IsErr x in let h = subst P is refused in cc);
-  }
-
   -- the rounds, and then the exploration
   pub rounds_then : (made_by : _) (a b c : S) (count : _) (q : Board) (w : Color) (limits : Bounds) (r : Result RoundsDone NoMemory) → RoundsCalls made made_by count a b q w limits r → MadeSome made b c → MadeSome made a c
   rounds_then made_by a b c count q w limits r calls more = (_, joined a b c _ more.0 calls.entered more.1)
 
-  -- the round of two plies, and then nothing or more
-  pub asked_first : (a b : S) (q : Board) (w : Color) (depth : _) (r : Result RoundDone NoMemory) (result : Result Verdict NoMemory) → RoundCalls made a b q w depth r → AskedFor made a b q w result
+  -- the position was asked for, and then nothing or more
+  pub asked_first : (a b : S) (q : Board) (w : Color) (reply : Probe) (result : Result Verdict NoMemory) → made a (probe_entry (key_of q w) reply ∷ []) b → AskedFor made a b q w result
   unfolding HasProbe
-  asked_first a b q w depth r result calls = record {
-    entries = probe_entry (key_of q w) calls.reply ∷ calls.rest;
-    entered = calls.entered;
-    asked = λ v is of. (calls.reply, Contains-cons_here (probe_entry (key_of q w) calls.reply) calls.rest _ refl);
+  asked_first a b q w reply result entered = record {
+    entries = probe_entry (key_of q w) reply ∷ [];
+    entered = entered;
+    asked = λ v is of. (reply, Contains-cons_here (probe_entry (key_of q w) reply) [] _ refl);
   }
 
-  pub asked_then : (a b c : S) (q : Board) (w : Color) (depth : _) (r : Result RoundDone NoMemory) (result : Result Verdict NoMemory) → RoundCalls made a b q w depth r → MadeSome made b c → AskedFor made a c q w result
+  pub asked_then : (a b c : S) (q : Board) (w : Color) (reply : Probe) (result : Result Verdict NoMemory) → made a (probe_entry (key_of q w) reply ∷ []) b → MadeSome made b c → AskedFor made a c q w result
   unfolding HasProbe
-  asked_then a b c q w depth r result calls more = record {
-    entries = (probe_entry (key_of q w) calls.reply ∷ calls.rest) ++ more.0;
-    entered = joined a b c _ more.0 calls.entered more.1;
-    asked = λ v is of. probe_left (probe_entry (key_of q w) calls.reply ∷ calls.rest) more.0 q w (calls.reply, Contains-cons_here (probe_entry (key_of q w) calls.reply) calls.rest _ refl);
+  asked_then a b c q w reply result entered more = record {
+    entries = (probe_entry (key_of q w) reply ∷ []) ++ more.0;
+    entered = joined a b c _ more.0 entered more.1;
+    asked = λ v is of. (reply, Contains-cons_here (probe_entry (key_of q w) reply) more.0 _ refl);
   }
 
   -- both sides, of which neither has an answer where memory is refused

@@ -2,13 +2,16 @@
 use Rattle.std.specs.Prelude.{◌≡◌, ◌≤◌, false, List, [], ◌∷◌, length, Result, Ok, ⊤}
 use Rattle.cha_list.specs.declared.memory.NoMemory.{NoMemory}
 use Rattle.cha_board.specs.declared.men.Color.{Color}
+use Rattle.cha_board.specs.Men.{other_color}
 use Rattle.cha_board.specs.Board.{Board}
+use Rattle.cha_moves.specs.Ends.{IsMated}
 use Rattle.cha_cert.specs.declared.nodes.Node.{Node}
 use Rattle.cha_cert.specs.Certificates.{IsValidCert}
 use Rattle.cha_fact.specs.Entries.{Entry, HasProbe}
 use Rattle.cha_verdict.specs.declared.verdicts.Verdict.{Verdict}
 use Rattle.cha_verdict.specs.declared.verdicts.Verdict.TheVariants.{Winnable, Unwinnable, Undecided, Skipped}
 use Rattle.cha_verdict.specs.declared.decisions.Decision.{Decision}
+use Rattle.cha_verdict.specs.AtOnce.{IsShownAtOnce}
 use Rattle.cha_limits.specs.Bounds.{Bounds}
 use Rattle.cha_verdict.specs.Verdicts.{is_skipped, IsPrintable}
 use Rattle.cha_verdict.specs.Sound.{IsTrueOf, verdict_on}
@@ -23,6 +26,15 @@ pub record IsFound (q : Board) (winner : Color) (limits : Bounds) (verdict : Ver
   pub holds : IsTrueOf q winner limits verdict
   pub printable : IsPrintable verdict
   pub examined : is_skipped verdict ≡ false
+
+-- the same whatever the limits are
+abbrev pub IsFoundAlone : Board → Color → Verdict → Type 0
+IsFoundAlone q winner verdict = (limits : Bounds) → IsFound q winner limits verdict
+
+-- a side has not mated, and nothing shows without a search that it cannot
+pub record IsOpen (q : Board) (winner : Color) : Type 0 where
+  pub unmated : IsMated q (other_color winner) → ⊥
+  pub unshown : IsShownAtOnce q winner → ⊥
 
 -- a verdict that comes of a search: moves that mate, or that the budget was spent
 abbrev pub IsOfSearch : Verdict → Type 0

@@ -4,8 +4,6 @@ ghost use Rattle.std.specs.Prelude.{◌≡◌, IfOk};
 ghost use Rattle.cha_board.specs.declared.men.Color.{Color as Side};
 ghost use Rattle.cha_verdict.specs.Verdicts.{is_winnable as can_mate, is_skipped, IsPrintable};
 ghost use Rattle.cha_verdict.specs.Sound.{IsTrueOf, IsSound, IsComplete, verdict_on};
-ghost use Rattle.mob_sets.specs.Rows.{sets_of};
-ghost use Rattle.mob_solve.specs.Least.{IsLeast};
 ghost use Rattle.cha_decide.specs.Shown.{Asked, AskedFor};
 
 use crate::sides::examine;
@@ -13,8 +11,6 @@ use cha_board::{Color, Position};
 use cha_limits::Limits;
 use cha_list::NoMemory;
 use cha_verdict::{Decision, Verdict, is_winnable};
-use mob_sets::Sets;
-use mob_solve::least;
 use root_workers::Crew;
 use std::alloc::Global;
 
@@ -50,17 +46,8 @@ pub fn decide_by<C: Crew>(
     ensures calls { Asked C.made crew.old crew.new position.now result }
 {
     position.known();
-    let sets = least(alloc, position)?;
-    let examined = examine(alloc, position, first, &sets, limits, crew)?;
-    let other = examine_other(
-        alloc,
-        position,
-        first.other(),
-        &examined,
-        &sets,
-        limits,
-        crew,
-    )?;
+    let examined = examine(alloc, position, first, limits, crew)?;
+    let other = examine_other(alloc, position, first.other(), &examined, limits, crew)?;
     match first {
         Color::White => Ok(Decision {
             white: examined,
@@ -73,17 +60,15 @@ pub fn decide_by<C: Crew>(
     }
 }
 
-/// The verdict on the side that is examined second, by that on the first and by the least closed sets of the position.
+/// The verdict on the side that is examined second, by that on the first.
 fn examine_other<C: Crew>(
     alloc: Global,
     position: &Position,
     side: Color,
     first: &Verdict,
-    sets: &Sets,
     limits: &Limits,
     crew: &mut C,
 ) -> Result<Verdict, NoMemory>
-    requires least { IsLeast position.now (sets_of sets.now) }
     requires ready { C.ready crew.old }
     ensures stays_ready { C.ready crew.new }
     ensures holds { IfOk result (λ verdict. IsTrueOf position.now side limits.now verdict) }
@@ -94,5 +79,5 @@ fn examine_other<C: Crew>(
     if is_winnable(first) {
         return Ok(Verdict::Skipped);
     }
-    examine(alloc, position, side, sets, limits, crew)
+    examine(alloc, position, side, limits, crew)
 }

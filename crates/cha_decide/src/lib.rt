@@ -1,8 +1,8 @@
 //! What is found about both sides of a position, and from where on a game was dead.
 //!
-//! `deciding` has how the verdicts on both sides are found, `sides` the verdict on one side, `showing` the certificates that a
-//! side cannot mate, `searching` the searches for a mate, one after the other, and `scanning` the way back through a game to
-//! the earliest position that is shown dead.
+//! `deciding` has how the verdicts on both sides are found, `sides` the verdict on one side, `unaided` what is found of it without
+//! a crew, `showing` the certificates that a side cannot mate, `searching` the searches of a crew, one after the other, and
+//! `scanning` the way back through a game to the earliest position that is shown dead.
 #![tactic(auto)]
 
 mod deciding;
@@ -12,8 +12,10 @@ mod showing;
 mod sides;
 mod table_deciding;
 mod table_scanning;
+mod unaided;
 
 pub use deciding::decide_by;
 pub use scanning::scan_by;
 pub use table_deciding::decide;
 pub use table_scanning::scan_back;
+pub use unaided::quick;

@@ -1,13 +1,13 @@
-//! The searches for a mate, one after the other, of which each is tried where those before it decided nothing.
+//! The searches of a crew for a mate, one after the other, of which each is tried where those before it decided nothing.
 
-ghost use Rattle.std.specs.Prelude.{◌≡◌, ◌≤◌, ◌⊎◌, IfOk, IfSome};
+ghost use Rattle.std.specs.Prelude.{◌≡◌, ◌≤◌, ◌⊎◌, IfOk};
 ghost use Rattle.cha_board.specs.Men.{other_color};
-ghost use Rattle.cha_moves.specs.Ends.{IsMatingLine, IsMated, HasNoMateWithin};
+ghost use Rattle.cha_moves.specs.Ends.{IsMated, HasNoMateWithin};
 ghost use Rattle.cha_moves.specs.Lines.{HasLines};
 ghost use Rattle.cha_verdict.specs.AtOnce.{IsShownAtOnce};
 ghost use Rattle.cha_verdict.specs.Sound.{IsUndecided};
 ghost use Rattle.cha_fact.specs.Entries.{MadeSome};
-ghost use Rattle.cha_decide.specs.Shown.{IsFound, AskedFor};
+ghost use Rattle.cha_decide.specs.Shown.{IsFound};
 
 use crate::showing::checked;
 use cha_board::{Color, Position};
@@ -17,16 +17,10 @@ use cha_list::NoMemory;
 use cha_moves::Moves;
 use cha_verdict::Verdict;
 use forced_graph::{Explored, explore_in};
-use helpmate::{RoundAnswer, round_in};
-use mate_hunt::hunt;
+use mate_hunt::{Width, hunt};
 use root_workers::{Crew, RoundsEnd, rounds_by};
 use search_guide::Guide;
 use std::alloc::Global;
-
-/// How many positions the first hunt expands at most, towards the corners, and the second, by the flights of the king.
-const FIRST_HUNT: u32 = 1000;
-
-const SECOND_HUNT: u32 = 500;
 
 /// The moves of a line, as a verdict has them.
 fn moves_of(alloc: Global, line: &Line) -> Result<Moves, NoMemory>
@@ -36,33 +30,6 @@ fn moves_of(alloc: Global, line: &Line) -> Result<Moves, NoMemory>
     match moves.extend_from_slice(line.moves()) {
         Ok(()) => Ok(Moves::from_vec(moves)),
         Err(_) => Err(NoMemory),
-    }
-}
-
-/// Looks for a mate by two hunts, each of which expands few positions.
-fn hunted(
-    alloc: Global,
-    position: &Position,
-    winner: Color,
-    budget: u32,
-) -> Result<Option<Moves>, NoMemory>
-    ensures { IfOk result (λ found. IfSome found (IsMatingLine position.now winner)) }
-{
-    match hunt(
-        alloc,
-        position,
-        winner,
-        budget.min(FIRST_HUNT),
-        Guide::Corner,
-    )? {
-        Some(moves) => Ok(Some(moves)),
-        None => hunt(
-            alloc,
-            position,
-            winner,
-            budget.min(SECOND_HUNT),
-            Guide::Flights,
-        ),
     }
 }
 
@@ -78,7 +45,14 @@ fn hunted_last(
     requires undecided { IsUndecided position.now winner limits.now units depth }
     ensures found { IfOk result (IsFound position.now winner limits.now) }
 {
-    match hunt(alloc, position, winner, limits.budget(), Guide::Flights)? {
+    match hunt(
+        alloc,
+        position,
+        winner,
+        limits.budget(),
+        Guide::Flights,
+        Width::All,
+    )? {
         Some(moves) => Ok(Verdict::Winnable(moves)),
         None => Ok(Verdict::Undecided { units, depth }),
     }
@@ -111,8 +85,9 @@ fn explored<F: Facts>(
     }
 }
 
-/// The verdict of the rounds, and of the exploration where they find no mate.
-fn deepened<C: Crew>(
+/// The verdict of the rounds, and of the exploration where they find no mate, on a side that has not mated and that is not shown
+/// unable to mate without a search.
+pub fn deepened<C: Crew>(
     alloc: Global,
     position: &Position,
     winner: Color,
@@ -129,30 +104,5 @@ fn deepened<C: Crew>(
     match rounds_by(alloc, position, winner, limits, crew)?.end {
         RoundsEnd::Mate(line) => Ok(Verdict::Winnable(moves_of(alloc, &line)?)),
         RoundsEnd::NoneWithin(depth) => explored(alloc, position, winner, limits, depth, crew),
-    }
-}
-
-/// The verdict of the searches on a side that has not mated, and that is not shown unable to mate without one: a round of two
-/// plies, which starts no thread, hunts, the rounds of the limits, and the exploration.
-pub fn searched<C: Crew>(
-    alloc: Global,
-    position: &Position,
-    winner: Color,
-    limits: &Limits,
-    crew: &mut C,
-) -> Result<Verdict, NoMemory>
-    requires ready { C.ready crew.old }
-    requires unmated { IsMated position.now (other_color winner) → ⊥ }
-    requires unshown { IsShownAtOnce position.now winner → ⊥ }
-    ensures stays_ready { C.ready crew.new }
-    ensures found { IfOk result (IsFound position.now winner limits.now) }
-    ensures calls { AskedFor C.made crew.old crew.new position.now winner result }
-{
-    match round_in(alloc, position, winner, 2, None, crew)?.round {
-        RoundAnswer::Mate(line) => Ok(Verdict::Winnable(moves_of(alloc, &line)?)),
-        _ => match hunted(alloc, position, winner, limits.budget())? {
-            Some(moves) => Ok(Verdict::Winnable(moves)),
-            None => deepened(alloc, position, winner, limits, crew),
-        },
     }
 }

@@ -6,7 +6,6 @@ ghost use Rattle.mob_law.specs.Closed.{IsClosed};
 ghost use Rattle.mob_law.specs.Static.{IsStaticallyUnwinnable};
 ghost use Rattle.mob_law.specs.Threats.{HasNoMate};
 ghost use Rattle.mob_sets.specs.Rows.{sets_of};
-ghost use Rattle.mob_solve.specs.Least.{IsLeast};
 ghost use Rattle.mob_small.specs.Small.{IsSmallUnwinnable};
 ghost use Rattle.mob_small.specs.Lone.{IsLoneUnwinnable};
 ghost use Rattle.cha_verdict.specs.AtOnce.{IsShownAtOnce};
@@ -17,7 +16,7 @@ use cha_cert::{Cert, Checked, Node, Part, check};
 use cha_list::NoMemory;
 use mob_sets::Sets;
 use mob_small::{lone_verdict, small_verdict};
-use mob_solve::least_show;
+use mob_solve::static_verdict;
 use std::alloc::Global;
 
 /// The certificate of one node.
@@ -95,16 +94,12 @@ fn shown_by_sets(
     alloc: Global,
     position: &Position,
     winner: Color,
-    sets: &Sets,
 ) -> Result<Option<Cert>, NoMemory>
-    requires { IsLeast position.now (sets_of sets.now) }
     ensures { IfOk result (λ found. MatchOption found (IsStaticallyUnwinnable position.now winner → ⊥) (λ cert. IsShownUnwinnable position.now winner cert)) }
 {
-    if least_show(position, winner, sets) {
-        let own = sets.copy(alloc)?;
-        Ok(Some(certified(alloc, position, winner, own)?))
-    } else {
-        Ok(None)
+    match static_verdict(alloc, position, winner)? {
+        Some(sets) => Ok(Some(certified(alloc, position, winner, sets)?)),
+        None => Ok(None),
     }
 }
 
@@ -126,6 +121,11 @@ fn shown_by_material(
     Ok(None)
 }
 
+/// Whether small material or lone minor men show that a side cannot mate.
+pub fn is_shown_by_material(position: &Position, winner: Color) -> bool {
+    small_verdict(position, winner) || lone_verdict(position, winner)
+}
+
 /// The certificate that a side cannot mate, where that is shown without a search: by the least closed mobility sets, or by the men
 /// alone.
 #[tactic(auto, using(crate::proofs::Leaves::not_at_once))]
@@ -133,12 +133,10 @@ pub fn shown_at_once(
     alloc: Global,
     position: &Position,
     winner: Color,
-    sets: &Sets,
 ) -> Result<Option<Cert>, NoMemory>
-    requires { IsLeast position.now (sets_of sets.now) }
     ensures { IfOk result (λ found. MatchOption found (IsShownAtOnce position.now winner → ⊥) (λ cert. IsShownUnwinnable position.now winner cert)) }
 {
-    match shown_by_sets(alloc, position, winner, sets)? {
+    match shown_by_sets(alloc, position, winner)? {
         Some(cert) => Ok(Some(cert)),
         None => match shown_by_material(alloc, position, winner)? {
             Some(cert) => Ok(Some(cert)),

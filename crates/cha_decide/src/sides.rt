@@ -1,42 +1,48 @@
 //! The verdict on one side of a position.
 
-ghost use Rattle.std.specs.Prelude.{IfOk};
-ghost use Rattle.mob_sets.specs.Rows.{sets_of};
-ghost use Rattle.mob_solve.specs.Least.{IsLeast};
+ghost use Rattle.std.specs.Prelude.{[], ◌∷◌, IfOk};
+ghost use Rattle.cha_fact.specs.Keys.{key_of};
+ghost use Rattle.cha_fact.specs.Entries.{probe_entry};
 ghost use Rattle.cha_decide.specs.Shown.{IsFound, AskedFor};
 
-use crate::searching::searched;
-use crate::showing::shown_at_once;
+use crate::searching::deepened;
+use crate::unaided::quick;
 use cha_board::{Color, Position};
+use cha_fact::{Facts, Key, Probe};
 use cha_limits::Limits;
 use cha_list::NoMemory;
-use cha_moves::{Moves, is_mate};
 use cha_verdict::Verdict;
-use mob_sets::Sets;
 use root_workers::Crew;
 use std::alloc::Global;
 
-/// The verdict on a side, by the least closed sets of the position: a mate on the board, then the static verdict, then those of
-/// small material and of lone minor men, then the searches.
+/// Asks a place of facts for a position and a side.
+fn ask<F: Facts>(position: &Position, winner: Color, facts: &mut F) -> Probe
+    requires ready { F.ready facts.old }
+    ensures stays_ready { F.ready facts.new }
+    ensures entered { F.made facts.old (probe_entry (key_of position.now winner) result ∷ []) facts.new }
+{
+    facts.probe(&Key::of(position, winner))
+}
+
+/// The verdict on a side: what is found without a crew, and else by the searches of a crew.
+///
+/// The place of facts of the first worker is asked for the position. What it knows serves the searches of the crew alone, so that
+/// what is found without them depends on nothing but the position.
 pub fn examine<C: Crew>(
     alloc: Global,
     position: &Position,
     winner: Color,
-    sets: &Sets,
     limits: &Limits,
     crew: &mut C,
 ) -> Result<Verdict, NoMemory>
-    requires least { IsLeast position.now (sets_of sets.now) }
     requires ready { C.ready crew.old }
     ensures stays_ready { C.ready crew.new }
     ensures found { IfOk result (IsFound position.now winner limits.now) }
     ensures calls { AskedFor C.made crew.old crew.new position.now winner result }
 {
-    if is_mate(position, winner) {
-        return Ok(Verdict::Winnable(Moves::new(alloc)));
-    }
-    match shown_at_once(alloc, position, winner, sets)? {
-        Some(cert) => Ok(Verdict::Unwinnable(cert)),
-        None => searched(alloc, position, winner, limits, crew),
+    let _known = ask(position, winner, crew);
+    match quick(alloc, position, winner, limits.budget())? {
+        Some(verdict) => Ok(verdict),
+        None => deepened(alloc, position, winner, limits, crew),
     }
 }

@@ -3,7 +3,7 @@
 use crate::from_fen::place;
 use cha_board::Color;
 use cha_moves::replays;
-use mate_hunt::hunt;
+use mate_hunt::{Width, hunt};
 use search_guide::Guide;
 use std::alloc::Global;
 use std::test::Fail;
@@ -72,7 +72,7 @@ fn found(
     by: Guide,
 ) -> Result<Option<usize>, Fail> {
     let position = place(fen)?;
-    match hunt(alloc, &position, winner, most, by)? {
+    match hunt(alloc, &position, winner, most, by, Width::All)? {
         None => Ok(None),
         Some(line) => {
             if !replays(&position, winner, line.items()) {

@@ -1,2 +1,1 @@
-pub mod Hunting
-pub mod Cuts
+pub mod Within

@@ -1,60 +1,63 @@
 //! Lines that are cut where two plies mate.
 
-ghost use Rattle.std.specs.Prelude.{[], ◌∷◌, IfOk, IfSome};
-ghost use Rattle.cha_moves.specs.Ends.{IsMatingLine};
-
+use crate::choice::Choice;
+use crate::mating::seen_mate;
+use crate::nodes::Nodes;
 use cha_board::{Color, Position};
 use cha_list::NoMemory;
-use cha_moves::{Move, Moves, after, legal, mating_move};
+use cha_moves::{Move, after, legal};
 use std::alloc::Global;
 
 /// A move of the loser, and one of the winner that mates.
 #[derive(Clone, Copy)]
-struct TwoPlies {
-    first: Move,
-    last: Move,
+pub struct TwoPlies {
+    pub first: Move,
+    pub last: Move,
 }
 
-/// A move of the loser after which a move mates.
-fn mate_in_two(
+/// One of the chosen moves of the loser after which a move mates.
+pub fn two_plies(
     alloc: Global,
     position: &Position,
     winner: Color,
-) -> Result<Option<TwoPlies>, NoMemory>
-    ensures { IfOk result (λ found. IfSome found (λ two. IsMatingLine position.now winner (two.first ∷ two.last ∷ []))) }
-{
+    choice: Choice,
+) -> Result<Option<TwoPlies>, NoMemory> {
     if position.side().is(winner) {
         return Ok(None);
     }
+    let mut choice = choice;
     let moves = legal(alloc, position)?;
     for m in &moves {
-        if let Some(last) = mating_move(&after(position, *m), winner) {
-            return Ok(Some(TwoPlies { first: *m, last }));
+        if choice.takes(*m) {
+            if let Some(last) = seen_mate(&after(position, *m), winner) {
+                return Ok(Some(TwoPlies { first: *m, last }));
+            }
         }
     }
     Ok(None)
 }
 
-/// A line that mates up to the first position from which two plies mate, and these two.
-pub fn cut(
+/// The moves that led to a position of a hunt and the one that mates there, or those to the first position on the way from which two
+/// plies are seen to mate, and these two.
+pub fn cut_line(
     alloc: Global,
-    position: &Position,
+    nodes: &Nodes,
+    name: u32,
+    last: Move,
     winner: Color,
-    line: Moves,
-) -> Result<Moves, NoMemory>
-    requires { IsMatingLine position.now winner line }
-    ensures { IfOk result (IsMatingLine position.now winner) }
-{
-    let mut now = *position;
-    let mut begun = Moves::new(alloc);
-    for m in line.items() {
-        if let Some(two) = mate_in_two(alloc, &now, winner)? {
-            begun.push(two.first)?;
-            begun.push(two.last)?;
-            return Ok(begun);
+) -> Result<Vec<Move>, NoMemory> {
+    let path = nodes.path(alloc, name)?;
+    for at in &path {
+        if let Some(here) = nodes.position(*at) {
+            if let Some(two) = two_plies(alloc, &here, winner, Choice::helping(&here))? {
+                let mut line = nodes.line(alloc, *at)?;
+                line.push(two.first)?;
+                line.push(two.last)?;
+                return Ok(line);
+            }
         }
-        now = after(&now, *m);
-        begun.push(*m)?;
     }
+    let mut line = nodes.line(alloc, name)?;
+    line.push(last)?;
     Ok(line)
 }

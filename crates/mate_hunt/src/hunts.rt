@@ -1,30 +1,31 @@
 //! The hunt.
 
-ghost use Rattle.std.specs.Prelude.{◌≡◌, ◌<◌, [], Ok, Some, IsNone, IfOk, IfSome, IfNone};
+ghost use Rattle.std.specs.Prelude.{◌≡◌, ◌<◌, [], ◌∷◌, Ok, Some, IsNone, IfOk, IfSome, IfNone};
 ghost use Rattle.cha_board.specs.Men.{other_color};
 ghost use Rattle.cha_moves.specs.Ends.{IsMated, IsMatingLine, HasNoMateWithin};
 
-use crate::expansion::{expand, line_to};
-use crate::shortening::shortened;
-use crate::waiting::{Guided, Visited};
+use crate::choice::{Choice, Width};
+use crate::cutting::two_plies;
+use crate::search::{Quest, search};
 use cha_board::{Color, Position};
 use cha_list::NoMemory;
-use cha_moves::{Moves, is_mate};
-use node_store::Store;
+use cha_moves::{Move, Moves, is_mate, mating_move, replays};
 use search_guide::Guide;
 use std::alloc::Global;
 
-/// Looks for a mate for a side along a guide: the position of the least number that waits is expanded, the last added first,
-/// and of at most `most` positions. A line that is found is shortened.
+/// Looks for a mate for a side, within two plies and then along a guide: the position of the least number that waits is expanded, the
+/// last added first, and of at most `most` positions. A line that is found is cut where two plies mate.
 ///
 /// `None` says nothing but that there is no mate within one ply, and only where `most` is at least 1: a mate may be anywhere
-/// else. With 0 for `most`, only a mate on the board is found.
+/// else. With 0 for `most`, only a mate on the board is found. What is answered was played once more, so nothing else has to be
+/// believed of the search.
 pub fn hunt(
     alloc: Global,
     position: &Position,
     winner: Color,
     most: u32,
     by: Guide,
+    width: Width,
 ) -> Result<Option<Moves>, NoMemory>
     ensures mates { IfOk result (λ found. IfSome found (IsMatingLine position.now winner)) }
     ensures at_once { IsMated position.now (other_color winner) → result ≡ Ok (Some []) }
@@ -34,37 +35,49 @@ pub fn hunt(
     if is_mate(position, winner) {
         return Ok(Some(Moves::new(alloc)));
     }
-    search(alloc, position, winner, most, by)
+    if most == 0 {
+        return Ok(None);
+    }
+    if let Some(last) = mate_in_one(position, winner) {
+        let mut line = Moves::new(alloc);
+        line.push(last)?;
+        return Ok(Some(line));
+    }
+    let quest = Quest {
+        winner,
+        most,
+        by,
+        width,
+    };
+    match sought(alloc, position, &quest)? {
+        Some(line) if replays(position, winner, &line) => Ok(Some(Moves::from_vec(line))),
+        _ => Ok(None),
+    }
 }
 
-/// The hunt from a position that is no mate.
-fn search(
+/// A move that mates at once from a position that is no mate.
+#[tactic(auto, using(crate::proofs::Within::within_one))]
+fn mate_in_one(position: &Position, winner: Color) -> Option<Move>
+    requires { IsMated position.now (other_color winner) → ⊥ }
+    ensures some { IfSome result (λ m. IsMatingLine position.now winner (m ∷ [])) }
+    ensures none { IfNone result (HasNoMateWithin position.now winner 1) }
+{
+    mating_move(position, winner)
+}
+
+/// A line of two plies, if one is seen, and else the line of the search.
+fn sought(
     alloc: Global,
     position: &Position,
-    winner: Color,
-    most: u32,
-    by: Guide,
-) -> Result<Option<Moves>, NoMemory>
-    requires { IsMated position.now (other_color winner) → ⊥ }
-    ensures mates { IfOk result (λ found. IfSome found (IsMatingLine position.now winner)) }
-    ensures next { IfOk result (λ found. IfNone found (0 < most → HasNoMateWithin position.now winner 1)) }
-    ensures none { most ≡ 0 → IfOk result IsNone }
-{
-    let guided = Guided { by, winner };
-    let mut expanded = Vec::new(alloc);
-    let mut store = Store::new(alloc, position)?;
-    for turn in 0..most {
-        let Some(name) = store.pop() else {
-            return Ok(None);
-        };
-        expanded.push(name)?;
-        let left = most - 1 - turn;
-        if let Some(last) = expand(alloc, &mut store, name, winner, &guided, left)? {
-            let line = line_to(alloc, &store, position, name, last, winner)?;
-            let visited = Visited::new(alloc, store, &expanded)?;
-            let shorter = shortened(alloc, position, winner, line, &visited)?;
-            return Ok(Some(shorter));
+    quest: &Quest,
+) -> Result<Option<Vec<Move>>, NoMemory> {
+    match two_plies(alloc, position, quest.winner, Choice::all())? {
+        None => search(alloc, position, quest),
+        Some(two) => {
+            let mut line = Vec::new(alloc);
+            line.push(two.first)?;
+            line.push(two.last)?;
+            Ok(Some(line))
         }
     }
-    Ok(None)
 }

@@ -1,13 +1,17 @@
-//! The hunt: a search that follows a guide to a mate, and shortens the line that it finds.
+//! The hunt: a search that follows a guide to a mate. The line that it finds is played once more before it is answered.
 //!
-//! `hunts` has the hunt, `expansion` what it does with a position, `waiting` which positions wait, `shortening` the shortest line
-//! over the positions that were visited, and `cutting` cuts a line where two plies mate.
+//! Nothing is claimed of the search itself. `hunts` has the hunt with its contract, `choice` which moves are followed, `search`
+//! the search, `nodes` the positions that it has met, `mating` the moves that mate, `scene` what they are seen by, and `cutting`
+//! cuts a line where two plies mate.
 #![tactic(auto)]
 
+mod choice;
 mod cutting;
-mod expansion;
 mod hunts;
-mod shortening;
-mod waiting;
+mod mating;
+mod nodes;
+mod scene;
+mod search;
 
+pub use choice::Width;
 pub use hunts::hunt;

@@ -20,7 +20,7 @@ pub fn corner_guide(position: &Position, winner: Color) -> u8
 {
     let own = Army::of(position, winner);
     let other = Army::of(position, winner.other());
-    if is_hopeless(&own, &other) {
+    if own.is_minor() && is_hopeless(&own, &other) {
         return HOPELESS;
     }
     let men = LOSERS_MAN * u32::from(other.others().len());

@@ -1,6 +1,6 @@
 //! How far a corner is from a mate of the loser's king in it.
 
-ghost use Rattle.std.specs.Prelude.{◌+◌, ◌≤◌};
+ghost use Rattle.std.specs.Prelude.{◌+◌, ◌<◌, ◌≤◌};
 
 use crate::army::{Army, color_of};
 use crate::king_walks::steps_to_nearest;
@@ -24,6 +24,9 @@ const TO_PROMOTE: u32 = 2;
 
 /// The most that a position counts.
 pub const FARTHEST: u32 = 62;
+
+/// The number of the last file and of the last rank.
+const LAST: u8 = 7;
 
 /// The corners in which the winner may mate: all four, but where it has bishops of one colour alone, those of their colour.
 fn corners(own: &Army) -> SquareSet {
@@ -101,13 +104,33 @@ fn least_blocker(own: &Army, other: &Army, corner: Square) -> u32
     least
 }
 
-/// How far the kings are from where they stand in a mate in a corner.
-fn kings_away(own: &Army, other: &Army, corner: Square) -> u32
+/// How many king's steps a square is from the corner on a file and a rank.
+fn steps_to(at: Square, file: u8, rank: u8) -> u8
+    requires file { file < 8 }
+    requires rank { rank < 8 }
+    ensures { result < 8 }
+{
+    at.file().abs_diff(file).max(at.rank().abs_diff(rank))
+}
+
+/// How far the kings are from where they stand in a mate in the corner on a file and a rank.
+fn kings_away(own: &Army, other: &Army, file: u8, rank: u8) -> u32
+    requires file { file < 8 }
+    requires rank { rank < 8 }
     ensures { result ≤ 35 }
 {
-    let losers = u32::from(steps_between(other.king, corner));
-    let winners = u32::from(steps_between(own.king, corner).abs_diff(WELL_PLACED));
+    let losers = u32::from(steps_to(other.king, file, rank));
+    let winners = u32::from(steps_to(own.king, file, rank).abs_diff(WELL_PLACED));
     LOSERS_STEP * losers + WINNERS_STEP * winners
+}
+
+/// How far the kings are from where they stand in a mate in some corner.
+fn kings_from_corners(own: &Army, other: &Army) -> u32
+    ensures { result ≤ 35 }
+{
+    let first = kings_away(own, other, 0, 0).min(kings_away(own, other, LAST, 0));
+    let last = kings_away(own, other, 0, LAST).min(kings_away(own, other, LAST, LAST));
+    first.min(last)
 }
 
 /// How far minor men, where the winner has no others, are from where they stand in a mate in a corner. Where one of them or
@@ -115,9 +138,6 @@ fn kings_away(own: &Army, other: &Army, corner: Square) -> u32
 fn minor_away(own: &Army, other: &Army, corner: Square) -> u32
     ensures { result ≤ FARTHEST + NO_BLOCKER }
 {
-    if !own.is_minor() {
-        return 0;
-    }
     let knights = knights_away(own.knights, corner);
     if own.is_lone() {
         knights + least_blocker(own, other, corner)
@@ -126,15 +146,27 @@ fn minor_away(own: &Army, other: &Army, corner: Square) -> u32
     }
 }
 
-/// How far the loser's king is from a mate in some corner.
-pub fn least_corner(own: &Army, other: &Army) -> u32
+/// How far the loser's king is from a mate in some corner by minor men, where the winner has no others.
+fn least_corner_of_minor(own: &Army, other: &Army) -> u32
     ensures { result ≤ FARTHEST }
 {
     let mut least = FARTHEST;
     let mut left = corners(own);
     while let Some(corner) = left.first() {
-        least = least.min(kings_away(own, other, corner) + minor_away(own, other, corner));
+        let kings = kings_away(own, other, corner.file(), corner.rank());
+        least = least.min(kings + minor_away(own, other, corner));
         left = left.without(corner);
     }
     least
+}
+
+/// How far the loser's king is from a mate in some corner.
+pub fn least_corner(own: &Army, other: &Army) -> u32
+    ensures { result ≤ FARTHEST }
+{
+    if own.is_minor() {
+        least_corner_of_minor(own, other)
+    } else {
+        kings_from_corners(own, other)
+    }
 }

@@ -18,8 +18,8 @@ fn are_bishops_against_their_color(own: &Army, other: &Army) -> bool {
     }
 }
 
-/// Whether a side has nothing to mate with: a bare king, a lone knight against queens alone, or bishops of one colour against
-/// rooks, queens and bishops of that colour alone.
+/// Whether a side that has minor men alone, or none, has nothing to mate with: a bare king, a lone knight against queens alone, or
+/// bishops of one colour against rooks, queens and bishops of that colour alone.
 pub fn is_hopeless(own: &Army, other: &Army) -> bool {
     own.others().is_empty()
         || is_knight_against_queens(own, other)

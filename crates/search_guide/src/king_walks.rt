@@ -7,17 +7,20 @@ use cha_board::{Square, SquareSet};
 /// How many rounds of king's steps there are at most: one for each square.
 const ROUNDS: u8 = 64;
 
-/// The squares that king's steps reach from a square over squares of a set.
-pub fn region(from: Square, over: SquareSet) -> SquareSet {
+/// Whether king's steps reach some square of `goals` from a square over squares of `over`.
+pub fn reaches(from: Square, over: SquareSet, goals: SquareSet) -> bool {
     let mut reached = SquareSet::single(from);
     for _ in 0..ROUNDS {
         let grown = reached.king_steps().common(over).joined(reached);
+        if !grown.common(goals).is_empty() {
+            return true;
+        }
         if grown.within(reached) {
-            return reached;
+            return false;
         }
         reached = grown;
     }
-    reached
+    false
 }
 
 /// How many king's steps the nearest square of a set is from a square. `None` where the set has none.

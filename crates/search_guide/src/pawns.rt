@@ -64,11 +64,14 @@ fn helpers(own: &Army, pawn: Square, to: Square) -> SquareSet {
         .without(pawn)
 }
 
-/// What it counts that a pawn of the loser stands in front of a pawn: how far the nearest helper is from it. Nothing where
-/// none stands there.
-fn blocked(own: &Army, other: &Army, pawn: Square) -> u32
+/// What it counts that a pawn of the loser stands in front of a pawn, on these squares: how far the nearest helper is from it.
+/// Nothing where none stands there.
+fn blocked(own: &Army, other: &Army, pawn: Square, squares: SquareSet) -> u32
     ensures { result ≤ 28 }
 {
+    if squares.common(other.pawns).is_empty() {
+        return 0;
+    }
     let Some(blocker) = first_in_front(own.side, pawn, other.pawns) else {
         return 0;
     };
@@ -85,7 +88,7 @@ fn way(own: &Army, other: &Army, occupied: SquareSet, pawn: Square) -> u32
     let squares = in_front(own.side, pawn);
     let ranks = u32::from(squares.len());
     let men = u32::from(squares.common(occupied).len());
-    RANK * ranks + MAN_IN_FRONT * men + blocked(own, other, pawn)
+    RANK * ranks + MAN_IN_FRONT * men + blocked(own, other, pawn, squares)
 }
 
 /// The least that the way of a pawn counts.

@@ -1,11 +1,7 @@
 use Rattle.cha_verdict.proofs.Complete.{complete}
 use Rattle.cha_decide.proofs.Both.{white_first, black_first}
-use Rattle.cha_decide.proofs.Asking.{decided_nothing, asked_none, asked_white, asked_black}
+use Rattle.cha_decide.proofs.Asking.{asked_none, asked_white, asked_black}
 use Rattle.cha_decide.proofs.deciding.decide_by.Goals as goal
-
-pub returns-in_err-sets-clause-calls : goal.returns-in_err-sets-clause-calls
-returns-in_err-sets-clause-calls g c =
-    decided_nothing g.C.Facts.made g.met.C.Facts.both_made c.args.crew.now c.args.position.now c.from_residual.result (g.met.C.Facts.none_made c.args.crew.now) c.from_residual.ensures.0
 
 pub returns-in_err-other-clause-calls : goal.returns-in_err-other-clause-calls
 returns-in_err-other-clause-calls g c =
@@ -25,16 +21,16 @@ returns-in-White-clause-calls g c =
     asked_white g.C.Facts.made g.met.C.Facts.both_made c.args.crew.now c.examine.new.crew c.examine_other.new.crew c.args.position.now c.args.first c.other.result c.in_ok-examined.examined c.in_ok-other.other c.in-White.is c.other.ensures
     (rw c.in_ok-examined.was at c.examine.ensures.calls) (rw c.in_ok-other.was at c.examine_other.ensures.calls)
 
-pub returns-clause-sound : goal.returns-clause-sound
-returns-clause-sound g c =
+pub returns-in-Black-clause-sound : goal.returns-in-Black-clause-sound
+returns-in-Black-clause-sound g c =
     let black = c.in_ok-examined.ensures.found in
     let white = c.in_ok-other.ensures in
     black_first c.args.position.now c.args.limits.now c.args.first c.other.result c.in_ok-other.other c.in_ok-examined.examined c.in-Black.is c.other.ensures black.holds black.examined white.holds white.skipped
 
-pub returns-clause-complete : goal.returns-clause-complete
-returns-clause-complete g c = complete c.args.position.now c.args.first c.args.limits.now _ c.known.ensures (returns-clause-sound g c)
+pub returns-in-Black-clause-complete : goal.returns-in-Black-clause-complete
+returns-in-Black-clause-complete g c = complete c.args.position.now c.args.first c.args.limits.now _ c.known.ensures (returns-in-Black-clause-sound g c)
 
-pub returns-clause-calls : goal.returns-clause-calls
-returns-clause-calls g c =
+pub returns-in-Black-clause-calls : goal.returns-in-Black-clause-calls
+returns-in-Black-clause-calls g c =
     asked_black g.C.Facts.made g.met.C.Facts.both_made c.args.crew.now c.examine.new.crew c.examine_other.new.crew c.args.position.now c.args.first c.other.result c.in_ok-other.other c.in_ok-examined.examined c.in-Black.is c.other.ensures
     (rw c.in_ok-examined.was at c.examine.ensures.calls) (rw c.in_ok-other.was at c.examine_other.ensures.calls)

@@ -1,0 +1,87 @@
+//! What is found about a side by its position alone, without a crew.
+
+ghost use Rattle.std.specs.Prelude.{MatchOption, IfOk, IfSome};
+ghost use Rattle.cha_moves.specs.Ends.{IsMatingLine};
+ghost use Rattle.cha_decide.specs.Shown.{IsOpen, IsFoundAlone};
+
+use crate::showing::{is_shown_by_material, shown_at_once};
+use cha_board::{Color, Position};
+use cha_list::NoMemory;
+use cha_moves::{Moves, is_mate};
+use cha_verdict::Verdict;
+use mate_hunt::{Width, hunt};
+use search_guide::Guide;
+use std::alloc::Global;
+
+/// How many positions the first hunt expands at most, which follows the moves that tell most,
+const NARROW_HUNT: u32 = 200;
+
+/// how many the one towards the corners,
+const CORNER_HUNT: u32 = 1000;
+
+/// and how many the one by the flights of the king.
+const FLIGHT_HUNT: u32 = 500;
+
+/// Looks for a mate by a hunt that follows few moves, unless the men alone show that there is none.
+fn hunted_first(
+    alloc: Global,
+    position: &Position,
+    winner: Color,
+    budget: u32,
+) -> Result<Option<Moves>, NoMemory>
+    ensures { IfOk result (λ found. IfSome found (IsMatingLine position.now winner)) }
+{
+    if is_shown_by_material(position, winner) {
+        return Ok(None);
+    }
+    let most = budget.min(NARROW_HUNT);
+    hunt(alloc, position, winner, most, Guide::Corner, Width::Telling)
+}
+
+/// Looks for a mate by two hunts that follow all moves.
+fn hunted_widely(
+    alloc: Global,
+    position: &Position,
+    winner: Color,
+    budget: u32,
+) -> Result<Option<Moves>, NoMemory>
+    ensures { IfOk result (λ found. IfSome found (IsMatingLine position.now winner)) }
+{
+    let most = budget.min(CORNER_HUNT);
+    match hunt(alloc, position, winner, most, Guide::Corner, Width::All)? {
+        Some(moves) => Ok(Some(moves)),
+        None => {
+            let most = budget.min(FLIGHT_HUNT);
+            hunt(alloc, position, winner, most, Guide::Flights, Width::All)
+        }
+    }
+}
+
+/// What is found about a side without a crew: a mate on the board, or one that a first hunt finds, and then whether mobility sets,
+/// small material or lone minor men show that there is none, and at last what wider hunts find. Since a mate that is found excludes
+/// that sets or the men show that there is none, nothing is lost by the order.
+///
+/// The answer depends on the position, the side and the budget alone. `None` says that the side has not mated and that nothing shows
+/// without a search that it cannot. The only error is want of memory.
+pub fn quick(
+    alloc: Global,
+    position: &Position,
+    winner: Color,
+    budget: u32,
+) -> Result<Option<Verdict>, NoMemory>
+    ensures { IfOk result (λ found. MatchOption found (IsOpen position.now winner) (IsFoundAlone position.now winner)) }
+{
+    if is_mate(position, winner) {
+        return Ok(Some(Verdict::Winnable(Moves::new(alloc))));
+    }
+    if let Some(moves) = hunted_first(alloc, position, winner, budget)? {
+        return Ok(Some(Verdict::Winnable(moves)));
+    }
+    match shown_at_once(alloc, position, winner)? {
+        Some(cert) => Ok(Some(Verdict::Unwinnable(cert))),
+        None => match hunted_widely(alloc, position, winner, budget)? {
+            Some(moves) => Ok(Some(Verdict::Winnable(moves))),
+            None => Ok(None),
+        },
+    }
+}

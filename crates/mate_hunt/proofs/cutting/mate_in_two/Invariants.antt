@@ -1,6 +1,0 @@
-use Rattle.std.proofs.Common.{◌≡◌}
-use Rattle.cha_moves.specs.Moves.{legal}
-use Rattle.mate_hunt.proofs.cutting.mate_in_two.Given as goal
-
-abbrev pub invariant-loop-m : goal.invariant-loop-m
-invariant-loop-m l = l.m-items ≡ legal l.position

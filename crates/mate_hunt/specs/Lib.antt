@@ -1,2 +1,0 @@
--- inside the crate
-pub mod MatingMoves

@@ -1,0 +1,75 @@
+//! The search along a guide.
+
+use crate::choice::{Choice, Width};
+use crate::cutting::cut_line;
+use crate::mating::seen_mate;
+use crate::nodes::{Nodes, Origin};
+use cha_board::{Color, Kept, Position};
+use cha_list::NoMemory;
+use cha_moves::{Move, after, legal};
+use search_guide::{Guide, guide};
+use std::alloc::Global;
+
+/// What a hunt looks for, and how.
+#[derive(Clone, Copy)]
+pub struct Quest {
+    pub winner: Color,
+    /// How many positions are expanded at most.
+    pub most: u32,
+    pub by: Guide,
+    pub width: Width,
+}
+
+/// Lets the positions wait that the followed moves of a position reach, unless they were met.
+fn expand(
+    alloc: Global,
+    nodes: &mut Nodes,
+    name: u32,
+    here: &Position,
+    quest: &Quest,
+) -> Result<(), NoMemory> {
+    let mut choice = Choice::of_width(quest.width, here);
+    let moves = legal(alloc, here)?;
+    for m in &moves {
+        if choice.takes(*m) {
+            let next = after(here, *m);
+            let kept = Kept::of(&next);
+            if let Some(slot) = nodes.free_slot(&kept) {
+                let list = guide(quest.by, &next, quest.winner);
+                let origin = Origin {
+                    parent: name,
+                    by: *m,
+                };
+                nodes.add(slot, kept, Some(origin), list)?;
+            }
+        }
+    }
+    Ok(())
+}
+
+/// A line to a mate, if one is met: the position of the least number that waits is expanded, the last added first. The line is cut
+/// where two plies are seen to mate.
+pub fn search(
+    alloc: Global,
+    position: &Position,
+    quest: &Quest,
+) -> Result<Option<Vec<Move>>, NoMemory> {
+    let mut nodes = Nodes::new(alloc, position)?;
+    for turn in 0..quest.most {
+        let Some(name) = nodes.pop() else {
+            return Ok(None);
+        };
+        let Some(here) = nodes.position(name) else {
+            return Ok(None);
+        };
+        if let Some(last) = seen_mate(&here, quest.winner) {
+            let line = cut_line(alloc, &nodes, name, last, quest.winner)?;
+            return Ok(Some(line));
+        }
+        // What would wait behind the last one is not taken.
+        if turn < quest.most - 1 {
+            expand(alloc, &mut nodes, name, &here, quest)?;
+        }
+    }
+    Ok(None)
+}

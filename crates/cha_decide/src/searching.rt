@@ -1,22 +1,24 @@
 //! The searches of a crew for a mate, one after the other, of which each is tried where those before it decided nothing.
 
-ghost use Rattle.std.specs.Prelude.{◌≡◌, ◌≤◌, ◌⊎◌, IfOk};
+ghost use Rattle.std.specs.Prelude.{◌≡◌, ◌≤◌, ◌⊎◌, IfOk, IfSome};
 ghost use Rattle.cha_board.specs.Men.{other_color};
-ghost use Rattle.cha_moves.specs.Ends.{IsMated, HasNoMateWithin};
+ghost use Rattle.cha_moves.specs.Ends.{IsMated, IsMatingLine, HasNoMateWithin};
 ghost use Rattle.cha_moves.specs.Lines.{HasLines};
 ghost use Rattle.cha_verdict.specs.AtOnce.{IsShownAtOnce};
 ghost use Rattle.cha_verdict.specs.Sound.{IsUndecided};
 ghost use Rattle.cha_fact.specs.Entries.{MadeSome};
 ghost use Rattle.cha_decide.specs.Shown.{IsFound};
 
+use crate::nowhere::Nowhere;
 use crate::showing::checked;
 use cha_board::{Color, Position};
-use cha_fact::{Facts, Line};
+use cha_fact::{Facts, Line, Proved};
 use cha_limits::Limits;
 use cha_list::NoMemory;
 use cha_moves::Moves;
 use cha_verdict::Verdict;
 use forced_graph::{Explored, explore_in};
+use helpmate::{RoundAnswer, round_in};
 use mate_hunt::{Width, hunt};
 use root_workers::{Crew, RoundsEnd, rounds_by};
 use search_guide::Guide;
@@ -85,9 +87,8 @@ fn explored<F: Facts>(
     }
 }
 
-/// The verdict of the rounds, and of the exploration where they find no mate, on a side that has not mated and that is not shown
-/// unable to mate without a search.
-pub fn deepened<C: Crew>(
+/// The verdict of the rounds, and of the exploration where they find no mate.
+fn deepened_further<C: Crew>(
     alloc: Global,
     position: &Position,
     winner: Color,
@@ -104,5 +105,49 @@ pub fn deepened<C: Crew>(
     match rounds_by(alloc, position, winner, limits, crew)?.end {
         RoundsEnd::Mate(line) => Ok(Verdict::Winnable(moves_of(alloc, &line)?)),
         RoundsEnd::NoneWithin(depth) => explored(alloc, position, winner, limits, depth, crew),
+    }
+}
+
+/// A mate within two plies. That there is none is given to a place to keep, which is asked for no position on the way.
+fn mate_in_two<F: Facts>(
+    alloc: Global,
+    position: &Position,
+    winner: Color,
+    facts: &mut F,
+) -> Result<Option<Line>, NoMemory>
+    requires ready { F.ready facts.old }
+    ensures stays_ready { F.ready facts.new }
+    ensures found { IfOk result (λ found. IfSome found (λ line. IsMatingLine position.now winner line)) }
+    ensures calls { MadeSome F.made facts.old facts.new }
+{
+    match round_in(alloc, position, winner, 2, None, &mut Nowhere)?.round {
+        RoundAnswer::Mate(line) => Ok(Some(line)),
+        RoundAnswer::NoneWithin => {
+            let _stored = facts.store(Proved::none(position, winner, 2));
+            Ok(None)
+        }
+        RoundAnswer::Spent => Ok(None),
+    }
+}
+
+/// The verdict of the searches of a crew on a side that has not mated, and that is not shown unable to mate without a search: two
+/// plies, the rounds of the limits, and the exploration.
+pub fn deepened<C: Crew>(
+    alloc: Global,
+    position: &Position,
+    winner: Color,
+    limits: &Limits,
+    crew: &mut C,
+) -> Result<Verdict, NoMemory>
+    requires ready { C.ready crew.old }
+    requires unmated { IsMated position.now (other_color winner) → ⊥ }
+    requires unshown { IsShownAtOnce position.now winner → ⊥ }
+    ensures stays_ready { C.ready crew.new }
+    ensures found { IfOk result (IsFound position.now winner limits.now) }
+    ensures calls { MadeSome C.made crew.old crew.new }
+{
+    match mate_in_two(alloc, position, winner, crew)? {
+        Some(line) => Ok(Verdict::Winnable(moves_of(alloc, &line)?)),
+        None => deepened_further(alloc, position, winner, limits, crew),
     }
 }

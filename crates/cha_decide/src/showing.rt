@@ -121,11 +121,6 @@ fn shown_by_material(
     Ok(None)
 }
 
-/// Whether small material or lone minor men show that a side cannot mate.
-pub fn is_shown_by_material(position: &Position, winner: Color) -> bool {
-    small_verdict(position, winner) || lone_verdict(position, winner)
-}
-
 /// The certificate that a side cannot mate, where that is shown without a search: by the least closed mobility sets, or by the men
 /// alone.
 #[tactic(auto, using(crate::proofs::Leaves::not_at_once))]

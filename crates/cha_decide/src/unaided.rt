@@ -4,8 +4,8 @@ ghost use Rattle.std.specs.Prelude.{MatchOption, IfOk, IfSome};
 ghost use Rattle.cha_moves.specs.Ends.{IsMatingLine};
 ghost use Rattle.cha_decide.specs.Shown.{IsOpen, IsFoundAlone};
 
-use crate::showing::{is_shown_by_material, shown_at_once};
-use cha_board::{Color, Position};
+use crate::showing::shown_at_once;
+use cha_board::{Color, Kind, Position};
 use cha_list::NoMemory;
 use cha_moves::{Moves, is_mate};
 use cha_verdict::Verdict;
@@ -22,8 +22,20 @@ const CORNER_HUNT: u32 = 1000;
 /// and how many the one by the flights of the king.
 const FLIGHT_HUNT: u32 = 500;
 
-/// Looks for a mate by a hunt that follows few moves, unless the men alone show that there is none.
-fn hunted_first(
+/// Whether a side has neither a queen nor a rook, nor a pawn that may step ahead. Sets often show that it cannot mate.
+fn is_weak(position: &Position, side: Color) -> bool {
+    let heavy = position
+        .men(side, Kind::Queen)
+        .joined(position.men(side, Kind::Rook));
+    let steps = position
+        .men(side, Kind::Pawn)
+        .ahead(side)
+        .minus(position.occupied());
+    heavy.is_empty() && steps.is_empty()
+}
+
+/// Looks for a mate by a hunt that follows few moves.
+fn hunted_narrowly(
     alloc: Global,
     position: &Position,
     winner: Color,
@@ -31,9 +43,6 @@ fn hunted_first(
 ) -> Result<Option<Moves>, NoMemory>
     ensures { IfOk result (λ found. IfSome found (IsMatingLine position.now winner)) }
 {
-    if is_shown_by_material(position, winner) {
-        return Ok(None);
-    }
     let most = budget.min(NARROW_HUNT);
     hunt(alloc, position, winner, most, Guide::Corner, Width::Telling)
 }
@@ -57,9 +66,27 @@ fn hunted_widely(
     }
 }
 
+/// Looks for a mate by hunts, where neither sets nor the men show that there is none. A side that is not weak was hunted for
+/// narrowly before.
+fn hunted(
+    alloc: Global,
+    position: &Position,
+    winner: Color,
+    budget: u32,
+) -> Result<Option<Moves>, NoMemory>
+    ensures { IfOk result (λ found. IfSome found (IsMatingLine position.now winner)) }
+{
+    if is_weak(position, winner) {
+        if let Some(moves) = hunted_narrowly(alloc, position, winner, budget)? {
+            return Ok(Some(moves));
+        }
+    }
+    hunted_widely(alloc, position, winner, budget)
+}
+
 /// What is found about a side without a crew: a mate on the board, or one that a first hunt finds, and then whether mobility sets,
-/// small material or lone minor men show that there is none, and at last what wider hunts find. Since a mate that is found excludes
-/// that sets or the men show that there is none, nothing is lost by the order.
+/// small material or lone minor men show that there is none, and at last what further hunts find. For a side that is weak the sets
+/// come first. Since a mate that is found excludes that sets or the men show that there is none, nothing is lost by the order.
 ///
 /// The answer depends on the position, the side and the budget alone. `None` says that the side has not mated and that nothing shows
 /// without a search that it cannot. The only error is want of memory.
@@ -74,12 +101,14 @@ pub fn quick(
     if is_mate(position, winner) {
         return Ok(Some(Verdict::Winnable(Moves::new(alloc))));
     }
-    if let Some(moves) = hunted_first(alloc, position, winner, budget)? {
-        return Ok(Some(Verdict::Winnable(moves)));
+    if !is_weak(position, winner) {
+        if let Some(moves) = hunted_narrowly(alloc, position, winner, budget)? {
+            return Ok(Some(Verdict::Winnable(moves)));
+        }
     }
     match shown_at_once(alloc, position, winner)? {
         Some(cert) => Ok(Some(Verdict::Unwinnable(cert))),
-        None => match hunted_widely(alloc, position, winner, budget)? {
+        None => match hunted(alloc, position, winner, budget)? {
             Some(moves) => Ok(Some(Verdict::Winnable(moves))),
             None => Ok(None),
         },

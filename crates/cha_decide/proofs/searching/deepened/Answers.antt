@@ -1,6 +1,5 @@
-use Rattle.cha_decide.proofs.Asking.{rounds_then}
+use Rattle.cha_decide.proofs.Backwards.{made_both}
 use Rattle.cha_decide.proofs.searching.deepened.Goals as goal
 
-pub returns-in-NoneWithin-clause-calls : goal.returns-in-NoneWithin-clause-calls
-returns-in-NoneWithin-clause-calls g c =
-    rounds_then g.C.Facts.made g.met.C.Facts.both_made _ c.args.crew.now c.rounds_by.new.crew c.explored.new.facts _ c.args.position.now c.args.winner c.args.limits.now c.rounds_by.result c.rounds_by.ensures.calls c.explored.ensures.calls
+pub returns-in-None-clause-calls : goal.returns-in-None-clause-calls
+returns-in-None-clause-calls g c = made_both g.C.Facts.made g.met.C.Facts.both_made c.args.crew.now c.mate_in_two.new.facts c.deepened_further.new.crew c.mate_in_two.ensures.calls c.deepened_further.ensures.calls

@@ -10,7 +10,7 @@ use shard_table::{Shard, Table};
 use std::alloc::Global;
 use std::test::Fail;
 
-/// A lone queen is taken by the only move.
+/// A lone queen is taken by the only move, after which White's king has five.
 const ONE_MOVE: &str = "k7/1Q6/8/8/8/8/8/4K3 b - -";
 
 const AFTER_IT: &str = "8/1k6/8/8/8/8/8/4K3 w - -";
@@ -62,16 +62,16 @@ fn what_a_place_knows_is_not_expanded(rt: HostRuntime) -> Result<(), Fail> {
     let alloc = rt.alloc();
     let position = place(ONE_MOVE)?;
     let mut empty = Shard::new(alloc, 16)?;
-    let done = round_in(alloc, &position, Color::White, 2, None, &mut empty)?;
+    let done = round_in(alloc, &position, Color::White, 3, Some(100), &mut empty)?;
     assert!(rt; matches!(&done.round, RoundAnswer::NoneWithin));
-    assert_eq!(rt; done.units, 2);
+    assert_eq!(rt; done.units, 7);
     let mut shard = Shard::new(alloc, 16)?;
-    let below = round_in(alloc, &place(AFTER_IT)?, Color::White, 1, None, &mut shard)?;
-    assert_eq!(rt; below.units, 1);
-    let known = round_in(alloc, &position, Color::White, 2, None, &mut shard)?;
+    let below = round_in(alloc, &place(AFTER_IT)?, Color::White, 2, None, &mut shard)?;
+    assert_eq!(rt; below.units, 6);
+    let known = round_in(alloc, &position, Color::White, 3, Some(100), &mut shard)?;
     assert!(rt; matches!(&known.round, RoundAnswer::NoneWithin));
     assert_eq!(rt; known.units, 1);
-    let again = round_in(alloc, &position, Color::White, 2, None, &mut shard)?;
+    let again = round_in(alloc, &position, Color::White, 3, Some(100), &mut shard)?;
     assert_eq!(rt; again.units, 0);
     Ok(())
 }
@@ -96,32 +96,9 @@ fn an_allowance_is_spent(rt: HostRuntime) -> Result<(), Fail> {
 #[test]
 fn a_table_keeps_what_a_round_found(rt: HostRuntime) -> Result<(), Fail> {
     let alloc = rt.alloc();
-    let position = place("6k1/5ppp/8/8/8/8/5PPP/3R2K1 b - -")?;
+    let position = place(ONE_MOVE)?;
     let (table, mut pass) = Table::new(alloc, 1024)?;
     let none = round(
-        &rt,
-        alloc,
-        &position,
-        Color::White,
-        1,
-        None,
-        &table,
-        &mut pass,
-    )?;
-    assert!(rt; matches!(&none.round, RoundAnswer::NoneWithin));
-    assert_eq!(rt; none.units, 1);
-    let again = round(
-        &rt,
-        alloc,
-        &position,
-        Color::White,
-        1,
-        None,
-        &table,
-        &mut pass,
-    )?;
-    assert_eq!(rt; again.units, 0);
-    let mate = round(
         &rt,
         alloc,
         &position,
@@ -131,6 +108,30 @@ fn a_table_keeps_what_a_round_found(rt: HostRuntime) -> Result<(), Fail> {
         &table,
         &mut pass,
     )?;
-    assert_eq!(rt; moves_of(&position, Color::White, &mate), Some(2));
+    assert!(rt; matches!(&none.round, RoundAnswer::NoneWithin));
+    assert_eq!(rt; none.units, 2);
+    let again = round(
+        &rt,
+        alloc,
+        &position,
+        Color::White,
+        2,
+        None,
+        &table,
+        &mut pass,
+    )?;
+    assert_eq!(rt; again.units, 0);
+    let mated = place("6k1/5ppp/8/8/8/8/5PPP/3R2K1 b - -")?;
+    let mate = round(
+        &rt,
+        alloc,
+        &mated,
+        Color::White,
+        2,
+        None,
+        &table,
+        &mut pass,
+    )?;
+    assert_eq!(rt; moves_of(&mated, Color::White, &mate), Some(2));
     Ok(())
 }

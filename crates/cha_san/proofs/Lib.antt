@@ -7,7 +7,7 @@ pub mod Seeing
 pub mod Resolved
 pub mod Replayed
 pub mod Played
-pub mod Spelled
-pub mod Alone
-pub mod Named
+pub mod Naming
+pub mod Spelling
+pub mod Written
 mod Examples

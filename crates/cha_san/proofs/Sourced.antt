@@ -33,7 +33,7 @@ mover_named : (q : Board) (form : Form) (m : Move) → names q form m ≡ true �
 mover_named q form m h = mover_in q m (and_parts (fits q form m) (is_legal_in q m) h).1
 
 -- what a king does that goes so
-pub king_goes_so : (q : Board) (s t : ℕ) → goes q King s t ≡ true → (aims_at q.side King s t ≡ true) ⊎ ((is_short_castling q s t ≡ true) ⊎ (is_long_castling q s t ≡ true))
+king_goes_so : (q : Board) (s t : ℕ) → goes q King s t ≡ true → (aims_at q.side King s t ≡ true) ⊎ ((is_short_castling q s t ≡ true) ⊎ (is_long_castling q s t ≡ true))
 unfolding goes
 king_goes_so q s t h = elim (or_cases (aims_at q.side King s t || is_short_castling q s t) (is_long_castling q s t) h) [
   | inl x ↦ elim (or_cases (aims_at q.side King s t) (is_short_castling q s t) x) [
@@ -62,11 +62,11 @@ unfolding files_apart
 long_files White s t e f = rw (e, f) refl
 long_files Black s t e f = rw (e, f) refl
 
-pub long_file : (c : Color) (t : ℕ) → t ≡ home_of c - 2 → (file_of t == 6) ≡ true → ⊥
+long_file : (c : Color) (t : ℕ) → t ≡ home_of c - 2 → (file_of t == 6) ≡ true → ⊥
 long_file White t e h = (let f = eqb-true (file_of t) 6 h in omega arith)
 long_file Black t e h = (let f = eqb-true (file_of t) 6 h in omega arith)
 
-pub short_file : (c : Color) (t : ℕ) → t ≡ home_of c + 2 → (file_of t == 2) ≡ true → ⊥
+short_file : (c : Color) (t : ℕ) → t ≡ home_of c + 2 → (file_of t == 2) ≡ true → ⊥
 short_file White t e h = (let f = eqb-true (file_of t) 2 h in omega arith)
 short_file Black t e h = (let f = eqb-true (file_of t) 2 h in omega arith)
 

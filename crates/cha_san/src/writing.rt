@@ -1,221 +1,193 @@
-//! The text of a legal move in SAN (PGN standard, 8.2.3).
+//! A legal move as a word of SAN (PGN standard, 8.2.3).
 
-ghost use Rattle.std.specs.Prelude.{◌≡◌, ◌==◌, ◌<◌, ◌^◌, ◌++◌, Ok, length, OnOk, IfOk, IfSome, Contains, count_by};
-ghost use Rattle.cha_board.specs.Board.{man_at};
-ghost use Rattle.cha_moves.specs.Moves.{legal as legal_moves};
-ghost use Rattle.cha_san.specs.declared.forms.Form.TheVariants.{Plain};
-ghost use Rattle.cha_san.specs.Fitting.{fits as fits_form};
+ghost use Rattle.std.specs.Prelude.{◌≡◌, ◌++◌, Ok, Contains, IfOk, OnOk};
+ghost use Rattle.cha_board.specs.Board.{Board};
+ghost use Rattle.cha_board.specs.Squares.{file_of, rank_of};
+ghost use Rattle.cha_moves.specs.Step.{Move as Step};
+ghost use Rattle.cha_moves.specs.Moves.{legal};
 ghost use Rattle.cha_san.specs.Resolving.{resolved};
-ghost use Rattle.cha_san.specs.Written.{kind_on, is_pawn_taking, is_taking, if_told, told as told_of, fits_alone as fits_alone_of, shortest as shortest_of, letter_text, file_text, rank_text, becomes_text, taking_text, parts_text, castling_text, unsigned_text, sign_text, san_text};
+ghost use Rattle.cha_san.specs.Writing.{kind_text, promotion_text, castling_text, named_text, named_if, capture_text, parts_text, takes_man, parts_of as parts_so, is_alone as alone, marked, man_word, sign_text, san_text};
 
-use crate::fitting::{castles, fits};
+use crate::fitting::castles;
 use crate::forms::{Form, Parts};
-use cha_board::{Kind, Man, Position, files_between, put_square};
+use crate::resolving::found_for;
+use cha_board::{Kind, Man, Position, Square, put_square};
 use cha_list::{NoMemory, Text};
-use cha_moves::{Move, Standing, after, legal, state};
+use cha_moves::{Move, after, is_mate};
 use std::alloc::Global;
 
-/// The kind of what stands somewhere.
-fn kind_of(found: Option<Man>) -> Kind
-    ensures { result ≡ kind_on found }
-{
-    match found {
-        Some(man) => man.kind,
-        None => Kind::Pawn,
-    }
+/// What a word names of the square that a man leaves.
+#[derive(Clone, Copy)]
+struct Marks {
+    file: bool,
+    rank: bool,
 }
 
-/// Whether a pawn captures.
-#[tactic(auto, unfolding(crate::specs::Written::is_pawn_taking))]
-fn takes_as_pawn(position: &Position, m: Move) -> bool
-    ensures { result ≡ is_pawn_taking position.now m }
+/// Whether a move of a man of this kind takes a man.
+#[tactic(auto, unfolding(crate::specs::Writing::takes_man))]
+fn takes(position: &Position, kind: Kind, m: &Move) -> bool
+    ensures { result ≡ takes_man position.now kind m.now }
 {
-    kind_of(position.man(m.from)).is(Kind::Pawn) && files_between(m.from, m.to) != 0
+    position.man(m.to).is_some() || (kind.is(Kind::Pawn) && m.from.file() != m.to.file())
 }
 
-/// Whether a move captures.
-#[tactic(auto, unfolding(crate::specs::Written::is_taking))]
-fn takes(position: &Position, m: Move) -> bool
-    ensures { result ≡ is_taking position.now m }
+/// A file or a rank that is named, or not.
+fn named(is_named: bool, number: u8) -> Option<u8>
+    ensures { result ≡ named_if is_named number }
 {
-    position.man(m.to).is_some() || takes_as_pawn(position, m)
+    if is_named { Some(number) } else { None }
 }
 
-/// What a word says of a move, with the file and the rank that it leaves or without.
-fn told(position: &Position, m: Move, file: bool, rank: bool) -> Parts
-    ensures value { result ≡ told_of position.now m file rank }
-    ensures on_file { IfSome result.file (λ file. file < 8) }
-    ensures on_rank { IfSome result.rank (λ rank. rank < 8) }
+/// Whether one legal move alone fits the parts of a word.
+#[tactic(auto, unfolding(crate::specs::Writing::is_alone))]
+fn is_alone(position: &Position, kind: Kind, m: &Move, marks: Marks) -> bool
+    ensures { result ≡ alone position.now (parts_so kind m.now marks.file marks.rank) }
 {
-    Parts {
-        kind: kind_of(position.man(m.from)),
-        file: if file { Some(m.from.file()) } else { None },
-        rank: if rank { Some(m.from.rank()) } else { None },
+    let parts = Parts {
+        kind,
+        file: named(marks.file, m.from.file()),
+        rank: named(marks.rank, m.from.rank()),
         to: m.to,
         promotion: m.promotion,
+    };
+    found_for(position, &Form::Plain(parts)).only().is_ok()
+}
+
+/// What a word has to name of the square that a man of this kind leaves, so that one legal move alone fits.
+#[tactic(auto, unfolding(crate::specs::Writing::marked))]
+fn marks_of(position: &Position, kind: Kind, m: &Move) -> Marks
+    ensures { parts_so kind m.now result.file result.rank ≡ marked position.now kind m.now }
+{
+    let none = Marks {
+        file: false,
+        rank: false,
+    };
+    let by_file = Marks {
+        file: true,
+        rank: false,
+    };
+    let by_rank = Marks {
+        file: false,
+        rank: true,
+    };
+    let is_pawn = kind.is(Kind::Pawn);
+    if !(is_pawn && takes(position, kind, m)) && is_alone(position, kind, m, none) {
+        return none;
+    }
+    if is_alone(position, kind, m, by_file) {
+        return by_file;
+    }
+    if !is_pawn && is_alone(position, kind, m, by_rank) {
+        return by_rank;
+    }
+    Marks {
+        file: true,
+        rank: true,
     }
 }
 
-/// Whether one legal move alone fits these parts.
-#[tactic(auto, unfolding(crate::specs::Written::fits_alone))]
-fn fits_alone(position: &Position, moves: &[Move], parts: &Parts) -> bool
-    requires legal { moves.now ≡ legal_moves position.now }
-    ensures { result ≡ fits_alone_of position.now parts.now }
+/// Appends the letter of a kind of man: none for a pawn.
+pub fn put_kind(kind: Kind, text: &mut Text) -> Result<(), NoMemory>
+    ensures { OnOk result (text.new ≡ text.old ++ kind_text kind) }
 {
-    let form = Form::Plain(*parts);
-    let mut count: u64 = 0;
-    for m in moves {
-        if fits(position, &form, m) {
-            count += 1;
+    match kind {
+        Kind::Pawn => Ok(()),
+        _ => {
+            text.push(kind.letter())?;
+            Ok(())
         }
     }
-    count == 1
 }
 
-/// The shortest parts that name a move alone.
-#[tactic(auto, unfolding(crate::specs::Written::shortest))]
-fn shortest(position: &Position, moves: &[Move], m: Move) -> Parts
-    requires legal { moves.now ≡ legal_moves position.now }
-    ensures value { result ≡ shortest_of position.now m }
-    ensures on_file { IfSome result.file (λ file. file < 8) }
-    ensures on_rank { IfSome result.rank (λ rank. rank < 8) }
+/// Appends the file and the rank that are named, and an `x` where a man is taken.
+fn put_marks(marks: Marks, takes: bool, from: Square, text: &mut Text) -> Result<(), NoMemory>
+    ensures { OnOk result (text.new ≡ text.old ++ named_text 97 (named_if marks.file (file_of from)) ++ named_text 49 (named_if marks.rank (rank_of from)) ++ capture_text takes) }
 {
-    let nothing = told(position, m, false, false);
-    if !takes_as_pawn(position, m) && fits_alone(position, moves, &nothing) {
-        return nothing;
+    if marks.file {
+        text.push(from.file_letter())?;
     }
-    let file = told(position, m, true, false);
-    if fits_alone(position, moves, &file) {
-        return file;
+    if marks.rank {
+        text.push(from.rank_digit())?;
     }
-    let rank = told(position, m, false, true);
-    if fits_alone(position, moves, &rank) {
-        return rank;
-    }
-    told(position, m, true, true)
-}
-
-/// Appends the letter of a man, or nothing for a pawn.
-#[tactic(auto, unfolding(crate::specs::Written::letter_text))]
-fn put_letter(kind: Kind, text: &mut Text) -> Result<(), NoMemory>
-    ensures { OnOk result (text.new ≡ text.old ++ letter_text kind) }
-{
-    if kind.is(Kind::Pawn) {
-        return Ok(());
-    }
-    text.append(&[kind.letter()])
-}
-
-/// Appends the letter of a file and the digit of a rank, where they are told.
-fn put_origin(parts: &Parts, text: &mut Text) -> Result<(), NoMemory>
-    requires file { IfSome parts.now.file (λ file. file < 8) }
-    requires rank { IfSome parts.now.rank (λ rank. rank < 8) }
-    ensures { OnOk result (text.new ≡ text.old ++ file_text parts.now.file ++ rank_text parts.now.rank) }
-{
-    if let Some(file) = parts.file {
-        text.append(&[file + b'a'])?;
-    }
-    if let Some(rank) = parts.rank {
-        text.append(&[rank + b'1'])?;
+    if takes {
+        text.push(b'x')?;
     }
     Ok(())
 }
 
-/// Appends the `x` of a capture, or nothing.
-fn put_taking(taking: bool, text: &mut Text) -> Result<(), NoMemory>
-    ensures { OnOk result (text.new ≡ text.old ++ taking_text taking) }
-{
-    if taking {
-        return text.append(b"x");
-    }
-    Ok(())
-}
-
-/// Appends what a pawn becomes, or nothing.
-fn put_promotion(promotion: Option<Kind>, text: &mut Text) -> Result<(), NoMemory>
-    ensures { OnOk result (text.new ≡ text.old ++ becomes_text promotion) }
+/// Appends what a pawn becomes, behind an equals sign.
+pub fn put_promotion(promotion: Option<Kind>, text: &mut Text) -> Result<(), NoMemory>
+    ensures { OnOk result (text.new ≡ text.old ++ promotion_text promotion) }
 {
     match promotion {
-        Some(kind) => text.append(&[b'=', kind.letter()]),
         None => Ok(()),
+        Some(kind) => {
+            text.push(b'=')?;
+            text.push(kind.letter())?;
+            Ok(())
+        }
     }
 }
 
-/// Appends a word of these parts.
-#[tactic(auto, unfolding(crate::specs::Written::parts_text))]
-fn put_parts(parts: &Parts, taking: bool, text: &mut Text) -> Result<(), NoMemory>
-    requires file { IfSome parts.now.file (λ file. file < 8) }
-    requires rank { IfSome parts.now.rank (λ rank. rank < 8) }
-    ensures { OnOk result (text.new ≡ text.old ++ parts_text taking parts.now) }
+/// Appends the word for castling, by the square that the king enters.
+#[tactic(auto, unfolding(crate::specs::Writing::castling_text))]
+pub fn put_castling(to: Square, text: &mut Text) -> Result<(), NoMemory>
+    ensures { OnOk result (text.new ≡ text.old ++ castling_text to) }
 {
-    put_letter(parts.kind, text)?;
-    put_origin(parts, text)?;
-    put_taking(taking, text)?;
-    put_square(parts.to, text)?;
-    put_promotion(parts.promotion, text)
-}
-
-/// Appends castling.
-#[tactic(auto, unfolding(crate::specs::Written::castling_text))]
-fn put_castling(m: Move, text: &mut Text) -> Result<(), NoMemory>
-    ensures { OnOk result (text.new ≡ text.old ++ castling_text m) }
-{
-    if m.to.file() == 6 {
+    if to.file() == 6 {
         text.append(b"O-O")
     } else {
         text.append(b"O-O-O")
     }
 }
 
-/// Appends a move without a sign.
-#[tactic(auto, unfolding(crate::specs::Written::unsigned_text))]
-fn put_unsigned(
-    alloc: Global,
-    position: &Position,
-    m: Move,
-    text: &mut Text,
-) -> Result<(), NoMemory>
-    ensures { OnOk result (text.new ≡ text.old ++ unsigned_text position.now m) }
+/// Appends the word of a man that does not castle, without a sign.
+fn put_man(position: &Position, man: Option<Man>, m: &Move, text: &mut Text) -> Result<(), NoMemory>
+    ensures { OnOk result (text.new ≡ text.old ++ man_word position.now m.now man) }
 {
-    if castles(position, &m) {
-        return put_castling(m, text);
-    }
-    let moves = legal(alloc, position)?;
-    let parts = shortest(position, &moves, m);
-    put_parts(&parts, takes(position, m), text)
+    let Some(man) = man else {
+        return Ok(());
+    };
+    put_kind(man.kind, text)?;
+    let marks = marks_of(position, man.kind, m);
+    put_marks(marks, takes(position, man.kind, m), m.from, text)?;
+    put_square(m.to, text)?;
+    put_promotion(m.promotion, text)
 }
 
-/// Appends the sign for mate or for another check, or nothing, by the position after a move.
-#[tactic(auto, unfolding(crate::specs::Written::sign_text))]
-fn put_sign(next: &Position, text: &mut Text) -> Result<(), NoMemory>
-    ensures { OnOk result (text.new ≡ text.old ++ sign_text next.now) }
+/// Appends a number sign where the side to move is checkmated, else a plus sign where it is in check.
+#[tactic(auto, unfolding(crate::specs::Writing::sign_text))]
+fn put_sign(position: &Position, text: &mut Text) -> Result<(), NoMemory>
+    ensures { OnOk result (text.new ≡ text.old ++ sign_text position.now) }
 {
-    match state(next) {
-        Standing::Mate(_) => text.append(b"#"),
-        Standing::Stalemate => Ok(()),
-        Standing::Running => {
-            if next.in_check(next.side()) {
-                return text.append(b"+");
-            }
-            Ok(())
-        }
+    let side = position.side();
+    if is_mate(position, side.other()) {
+        text.append(b"#")
+    } else if position.in_check(side) {
+        text.append(b"+")
+    } else {
+        Ok(())
     }
 }
 
-/// The text of a legal move in SAN, as `Nf3`, `exd5`, `O-O`, `e8=Q+` or `Rd8#` (PGN standard, 8.2.3).
-///
-/// Where several men of a kind may go to a square, the word has the file that the man leaves, else its rank, else both, whichever
-/// names the move first; only legal moves count. The only error is want of memory.
-#[tactic(auto, unfolding(crate::specs::Written::san_text))]
+/// A legal move as a word of SAN (PGN standard, 8.2.3), as `Nbd2`, `exd6`, `e8=Q+`, `O-O` or `Qh4#`: of no mark, the file, the rank and
+/// both, the first with which one legal move alone fits; a pawn that takes names its file.
+#[tactic(auto, unfolding(crate::specs::Writing::san_text))]
 pub fn san(alloc: Global, position: &Position, m: Move) -> Result<Text, NoMemory>
-    requires legal { Contains (legal_moves position.now) m }
-    ensures value { IfOk result (λ text. text ≡ san_text position.now m) }
-
-    // The word names this move and no other.
-    ensures names { IfOk result (λ text. resolved position.now text ≡ Ok m) }
+    requires { Contains (legal position.now) m }
+    ensures { IfOk result (λ text. text ≡ san_text position.now m) }
 {
     let mut text = Text::new(alloc);
-    put_unsigned(alloc, position, m, &mut text)?;
+    if castles(position, &m) {
+        put_castling(m.to, &mut text)?;
+    } else {
+        put_man(position, position.man(m.from), &m, &mut text)?;
+    }
     put_sign(&after(position, m), &mut text)?;
     Ok(text)
 }
+
+/// The law: the word that is written of a legal move names this move, and no other.
+pub fn written_moves_are_named()
+    ensures { (q : Board) (m : Step) → Contains (legal q) m → resolved q (san_text q m) ≡ Ok m }
+{}

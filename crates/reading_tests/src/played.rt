@@ -2,7 +2,7 @@
 
 mod named_moves;
 mod whole_games;
-mod written_moves;
+mod written_words;
 
 use cha_board::Position;
 use cha_fen::{read, write};
@@ -15,7 +15,7 @@ use std::alloc::Global;
 use std::process::Abort;
 use std::test::Fail;
 use whole_games::{GAMES, STOPPED};
-use written_moves::WRITTEN;
+use written_words::WRITTEN;
 
 const OPENING: &str = "rnbqkbnr/pppppppp/8/8/8/8/PPPPPPPP/RNBQKBNR w KQkq -";
 
@@ -35,6 +35,17 @@ fn answer(alloc: Global, position: &str, word: &[u8]) -> Result<Text, Fail> {
     };
     match resolve(alloc, &position, word) {
         Ok(m) => Ok(text_of(alloc, move_text(m).as_str().as_bytes())?),
+        Err(fault) => Ok(text_of(alloc, named(fault).as_bytes())?),
+    }
+}
+
+/// The word of the move that a word names in a position.
+fn written(alloc: Global, position: &str, word: &[u8]) -> Result<Text, Fail> {
+    let Ok(position) = read(position.as_bytes()) else {
+        return Ok(text_of(alloc, b"no position")?);
+    };
+    match resolve(alloc, &position, word) {
+        Ok(m) => Ok(san(alloc, &position, m)?),
         Err(fault) => Ok(text_of(alloc, named(fault).as_bytes())?),
     }
 }
@@ -111,25 +122,13 @@ fn words_name_moves(rt: HostRuntime) -> Result<(), Fail> {
     Ok(())
 }
 
-/// The word that is written for the move that a word names in a position, or what is wrong with the word.
-fn rewritten(alloc: Global, position: &str, word: &[u8]) -> Result<Text, Fail> {
-    let Ok(position) = read(position.as_bytes()) else {
-        return Ok(text_of(alloc, b"no position")?);
-    };
-    match resolve(alloc, &position, word) {
-        Ok(m) => Ok(san(alloc, &position, m)?),
-        Err(fault) => Ok(text_of(alloc, named(fault).as_bytes())?),
-    }
-}
-
 #[test]
-fn moves_are_written_as_the_standard_writes_them(rt: HostRuntime) -> Result<(), Fail> {
+fn moves_are_written_as_the_standard_has_them(rt: HostRuntime) -> Result<(), Fail> {
     for row in WRITTEN.split('\n') {
-        let (position, rest) = row.split_once(" | ").ok_or("a row with too few columns")?;
-        let (word, want) = rest.split_once(" | ").ok_or("a row with too few columns")?;
+        let (position, word) = row.split_once(" | ").ok_or("a row with too few columns")?;
         assert_eq!(rt;
-            rewritten(rt.alloc(), position, word.as_bytes())?.items(),
-            want.as_bytes(),
+            written(rt.alloc(), position, word.as_bytes())?.items(),
+            word.as_bytes(),
             "for {word} at {position}"
         );
     }

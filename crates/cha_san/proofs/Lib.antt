@@ -7,4 +7,7 @@ pub mod Seeing
 pub mod Resolved
 pub mod Replayed
 pub mod Played
+pub mod Naming
+pub mod Spelling
+pub mod Written
 mod Examples

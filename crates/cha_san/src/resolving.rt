@@ -59,7 +59,7 @@ fn with_moves(position: &Position, form: &Form, found: Found, from: Square, to: 
 }
 
 /// What is found of the legal moves that fit what a word says. Only men that may come to the target of the word are looked at.
-fn found_for(position: &Position, form: &Form) -> Found
+pub fn found_for(position: &Position, form: &Form) -> Found
     ensures { result ≡ seen Found.Nothing (filter (names position.now form.now) all_moves) }
 {
     let to = target(position, form);

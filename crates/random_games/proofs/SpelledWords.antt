@@ -19,7 +19,8 @@ use Rattle.pgn_lex.specs.Classes.{in_pgn_class}
 use Rattle.pgn_lex.specs.Pieces.{is_white, word_token, word_piece}
 use Rattle.pgn_lex.specs.Tokens.{piece}
 use Rattle.pgn_games.specs.Cutting.{mark_of}
-use Rattle.random_games.specs.Words.{kind_text, man_text, promotion_text, castling_text, plain_text, move_word}
+use Rattle.random_games.specs.Words.{man_text, plain_text, move_word}
+use Rattle.cha_san.specs.Writing.{kind_text, promotion_text, castling_text}
 use Rattle.random_games.proofs.GameTokens.{IsMoveWord}
 use Rattle.random_games.proofs.WordParts.{way_of}
 

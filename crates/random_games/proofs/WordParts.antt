@@ -12,7 +12,7 @@ use Rattle.cha_san.specs.declared.forms.Parts.{Parts}
 use Rattle.cha_san.specs.Forms.{promotion_named, file_named, rank_named, kind_at, parts, is_sign, stem, is_short, is_long, unsigned_form, form_of}
 use Rattle.cha_san.specs.InOrder.{IsPromotion}
 use Rattle.cha_san.proofs.ReadInOrder.{read_in_order}
-use Rattle.random_games.specs.Words.{promotion_text}
+use Rattle.cha_san.specs.Writing.{promotion_text}
 
 -- the bytes of a square
 record IsFile (b n : ℕ) : Type 0 where

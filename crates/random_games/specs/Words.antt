@@ -8,25 +8,12 @@ use Rattle.cha_board.specs.Board.{Board, man_at}
 use Rattle.cha_board.specs.Letters.{kind_letter, square_text}
 use Rattle.cha_moves.specs.Step.{Move}
 use Rattle.cha_san.specs.Fitting.{is_castling}
-
--- the letter of a kind of man; a pawn has none (PGN standard, 8.2.3.2)
-abbrev pub kind_text : Kind → List ℕ
-kind_text Pawn = []
-kind_text kind = kind_letter kind ∷ []
+use Rattle.cha_san.specs.Writing.{kind_text, promotion_text, castling_text}
 
 -- the letter of what stands on a square
 abbrev pub man_text : Option Man → List ℕ
 man_text None = []
 man_text (Some man) = kind_text man.kind
-
--- what a pawn becomes, behind an equals sign (PGN standard, 8.2.3.3)
-abbrev pub promotion_text : Option Kind → List ℕ
-promotion_text None = []
-promotion_text (Some kind) = 61 ∷ kind_letter kind ∷ []
-
--- the king's word for castling: the file that it enters tells the side (PGN standard, 8.2.3.3)
-unfoldable pub castling_text : ℕ → List ℕ
-castling_text to = if file_of to == 6 then codes "O-O" else codes "O-O-O"
 
 -- a move that is no castling: the letter of the man, the square that it leaves, the one that it enters, and what a pawn becomes
 unfoldable pub plain_text : Board → Move → List ℕ

@@ -2,18 +2,20 @@
 
 mod named_moves;
 mod whole_games;
+mod written_words;
 
 use cha_board::Position;
 use cha_fen::{read, write};
 use cha_list::{NoMemory, Text, text_of};
 use cha_moves::move_text;
-use cha_san::{SanFault, play, resolve};
+use cha_san::{SanFault, play, resolve, san};
 use named_moves::{LONG_WORDS, NOT_SAN, TABLES};
 use pgn_games::{Game, ResultMark, Words};
 use std::alloc::Global;
 use std::process::Abort;
 use std::test::Fail;
 use whole_games::{GAMES, STOPPED};
+use written_words::WRITTEN;
 
 const OPENING: &str = "rnbqkbnr/pppppppp/8/8/8/8/PPPPPPPP/RNBQKBNR w KQkq -";
 
@@ -33,6 +35,17 @@ fn answer(alloc: Global, position: &str, word: &[u8]) -> Result<Text, Fail> {
     };
     match resolve(alloc, &position, word) {
         Ok(m) => Ok(text_of(alloc, move_text(m).as_str().as_bytes())?),
+        Err(fault) => Ok(text_of(alloc, named(fault).as_bytes())?),
+    }
+}
+
+/// The word of the move that a word names in a position.
+fn written(alloc: Global, position: &str, word: &[u8]) -> Result<Text, Fail> {
+    let Ok(position) = read(position.as_bytes()) else {
+        return Ok(text_of(alloc, b"no position")?);
+    };
+    match resolve(alloc, &position, word) {
+        Ok(m) => Ok(san(alloc, &position, m)?),
         Err(fault) => Ok(text_of(alloc, named(fault).as_bytes())?),
     }
 }
@@ -105,6 +118,19 @@ fn words_name_moves(rt: HostRuntime) -> Result<(), Fail> {
             word.push(*byte)?;
         }
         is_answered(&rt, rt.alloc(), OPENING, word.items(), want)?;
+    }
+    Ok(())
+}
+
+#[test]
+fn moves_are_written_as_the_standard_has_them(rt: HostRuntime) -> Result<(), Fail> {
+    for row in WRITTEN.split('\n') {
+        let (position, word) = row.split_once(" | ").ok_or("a row with too few columns")?;
+        assert_eq!(rt;
+            written(rt.alloc(), position, word.as_bytes())?.items(),
+            word.as_bytes(),
+            "for {word} at {position}"
+        );
     }
     Ok(())
 }

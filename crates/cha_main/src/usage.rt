@@ -110,27 +110,47 @@ fn say_words(rt: &HostRuntime, words: &[String]) -> io::Result<()> {
     Ok(())
 }
 
-/// Writes which words may stand behind words that have given this: the options that did not stand, and the next further word.
-fn say_further(rt: &HostRuntime, command: Command, given: Given) -> io::Result<()> {
-    let mut before = "";
-    if let Some(argument) = argument_of(command, given.said) {
-        let (name, what) = about_argument(argument);
-        eprint!(rt; "{name} ({what})")?;
-        before = ", ";
+/// Writes a comma in front of what is not the first.
+fn separate(rt: &HostRuntime, is_first: bool) -> io::Result<()> {
+    if is_first {
+        return Ok(());
     }
+    eprint!(rt; ", ")
+}
+
+/// Writes the next further word of a command, and tells whether there is one.
+fn say_argument(rt: &HostRuntime, command: Command, said: Said) -> io::Result<bool> {
+    match argument_of(command, said) {
+        Some(argument) => {
+            let (name, what) = about_argument(argument);
+            eprint!(rt; "{name} ({what})")?;
+            Ok(true)
+        }
+        None => Ok(false),
+    }
+}
+
+/// Writes an option with the numbers that it may be given.
+fn say_option(rt: &HostRuntime, setting: Setting, range: Range) -> io::Result<()> {
+    let name = setting_name(setting);
+    if is_flag(setting) {
+        return eprint!(rt; "{name}");
+    }
+    eprint!(rt; "{name} N ({} to {})", range.least, range.most)
+}
+
+/// Writes which words may stand behind words that have given this: the next further word, and the options that did not stand.
+fn say_further(rt: &HostRuntime, command: Command, given: Given) -> io::Result<()> {
+    let mut is_first = !say_argument(rt, command, given.said)?;
     for setting in SETTINGS {
-        if let Some(Range { least, most, .. }) = open_range(command, given, setting) {
-            let name = setting_name(setting);
-            if is_flag(setting) {
-                eprint!(rt; "{before}{name}")?;
-            } else {
-                eprint!(rt; "{before}{name} N ({least} to {most})")?;
-            }
-            before = ", ";
+        if let Some(range) = open_range(command, given, setting) {
+            separate(rt, is_first)?;
+            say_option(rt, setting, range)?;
+            is_first = false;
         }
     }
-    if before.is_empty() {
-        eprint!(rt; "no word")?;
+    if is_first {
+        return eprint!(rt; "no word");
     }
     Ok(())
 }
@@ -138,14 +158,7 @@ fn say_further(rt: &HostRuntime, command: Command, given: Given) -> io::Result<(
 /// Writes which words may stand at a place.
 fn say_expected(rt: &HostRuntime, expected: Expected) -> io::Result<()> {
     match expected {
-        Expected::First => {
-            let mut before = "";
-            for command in COMMANDS {
-                eprint!(rt; "{before}{}", command_name(command))?;
-                before = ", ";
-            }
-            Ok(())
-        }
+        Expected::First => say_commands(rt),
         Expected::Behind(command, progress) => {
             if let Some(setting) = progress.awaited
                 && let Some(range) = open_range(command, progress.given, setting)
@@ -155,6 +168,17 @@ fn say_expected(rt: &HostRuntime, expected: Expected) -> io::Result<()> {
             say_further(rt, command, progress.given)
         }
     }
+}
+
+/// Writes the names of the commands.
+fn say_commands(rt: &HostRuntime) -> io::Result<()> {
+    let mut is_first = true;
+    for command in COMMANDS {
+        separate(rt, is_first)?;
+        eprint!(rt; "{}", command_name(command))?;
+        is_first = false;
+    }
+    Ok(())
 }
 
 /// Says what is wrong with words, and which words may stand there; or what they ask for, where they ask for help.

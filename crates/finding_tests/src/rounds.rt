@@ -122,16 +122,7 @@ fn a_table_keeps_what_a_round_found(rt: HostRuntime) -> Result<(), Fail> {
     )?;
     assert_eq!(rt; again.units, 0);
     let mated = place("6k1/5ppp/8/8/8/8/5PPP/3R2K1 b - -")?;
-    let mate = round(
-        &rt,
-        alloc,
-        &mated,
-        Color::White,
-        2,
-        None,
-        &table,
-        &mut pass,
-    )?;
+    let mate = round(&rt, alloc, &mated, Color::White, 2, None, &table, &mut pass)?;
     assert_eq!(rt; moves_of(&mated, Color::White, &mate), Some(2));
     Ok(())
 }

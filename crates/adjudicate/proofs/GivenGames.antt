@@ -11,7 +11,7 @@ use Rattle.pgn_lex.specs.Tokens.{piece, placed, tokens_after, has_mark, tokens}
 use Rattle.pgn_lex.proofs.Fed.{placed_one}
 use Rattle.pgn_games.specs.declared.faults.GameFault.{GameFault}
 use Rattle.pgn_games.specs.declared.faults.GameFault.TheVariants.{BadToken, Unclosed, ValueTooLong, Variant, TooManyPlies}
-use Rattle.pgn_games.specs.declared.played.Game.{Game}
+use Rattle.pgn_games.specs.declared.played.PlacedGame.{PlacedGame}
 use Rattle.pgn_games.specs.declared.token_turns.Place.{Place}
 use Rattle.pgn_games.specs.declared.token_turns.Place.TheVariants.{Before, Tags, Moves}
 use Rattle.pgn_games.specs.declared.token_turns.Turn.{Turn}
@@ -19,7 +19,7 @@ use Rattle.pgn_games.specs.declared.token_turns.Turn.TheVariants.{Stays, Ends, B
 use Rattle.pgn_games.specs.Cutting.{cut, turn, place_after, onto, put}
 use Rattle.pgn_games.specs.Fields.{move_words, first_bad, is_cut, passes, says_chess, tag_value}
 use Rattle.cha_outcome.specs.Items.{game_item}
-use Rattle.pgn_games.specs.Games.{games, game_of, fault_of, fault_if, is_open, start_fault}
+use Rattle.pgn_games.specs.Games.{placed_games, placed_game_of, game_of, fault_of, fault_if, is_open, start_fault}
 
 -- a game without a fault has few words
 faultless : (a b c d e : Option GameFault) (many : Bool) → option_or a (option_or b (option_or c (option_or d (option_or e (fault_if many TooManyPlies))))) ≡ None → many ≡ false
@@ -44,16 +44,16 @@ few_of_slice slice none =
     let kept : length (game_of slice).words ≡ min 12001 (length (move_words slice)) = length-take 12001 (move_words slice) in
     omega arith
 
-few_at : (slices : List (List Placed)) (n : ℕ) (game : Game) → slice_get (map game_of slices) n ≡ Some game → game.fault ≡ None → length game.words ≤ 12000
-few_at [] n game e none = cc
-few_at (slice ∷ slices) zero game e none =
-    let same : game_of slice ≡ game = cc in
-    subst (λ g. length g.words ≤ 12000) same (few_of_slice slice (ap (λ g. g.fault) same ∙ none))
-few_at (slice ∷ slices) (suc n) game e none = few_at slices n game e none
+few_at : (slices : List (List Placed)) (n : ℕ) (placed : PlacedGame) → slice_get (map placed_game_of slices) n ≡ Some placed → placed.game.fault ≡ None → length placed.game.words ≤ 12000
+few_at [] n placed e none = cc
+few_at (slice ∷ slices) zero placed e none =
+    let same : placed_game_of slice ≡ placed = cc in
+    subst (λ g. length g.game.words ≤ 12000) same (few_of_slice slice (ap (λ g. g.game.fault) same ∙ none))
+few_at (slice ∷ slices) (suc n) placed e none = few_at slices n placed e none
 
-pub few_words : (bytes : List ℕ) (n : ℕ) (game : Game) → slice_get (games bytes) n ≡ Some game → game.fault ≡ None → length game.words ≤ 12000
-unfolding games
-few_words bytes n game e none = few_at (cut Before (tokens bytes)) n game e none
+pub few_words : (bytes : List ℕ) (n : ℕ) (placed : PlacedGame) → slice_get (placed_games bytes) n ≡ Some placed → placed.game.fault ≡ None → length placed.game.words ≤ 12000
+unfolding placed_games
+few_words bytes n placed e none = few_at (cut Before (tokens bytes)) n placed e none
 
 -- a text has at most as many tokens as bytes, and at most one game more than tokens
 tokens_after_few : (pass at : ℕ) (first : Bool) (bs : List ℕ) → length (tokens_after pass at first bs) ≤ length bs
@@ -90,25 +90,25 @@ cut_few Before (t ∷ ts) = let now = turn Before t.token in omega (arith, put_f
 cut_few Tags (t ∷ ts) = let now = turn Tags t.token in omega (arith, put_few now t (cut (place_after now) ts), cut_few (place_after now) ts)
 cut_few (Moves depth) (t ∷ ts) = let now = turn (Moves depth) t.token in omega (arith, put_few now t (cut (place_after now) ts), cut_few (place_after now) ts)
 
-games_few : (bytes : List ℕ) → length (games bytes) ≤ 2 * length bytes + 1
-unfolding games
-games_few bytes = omega (arith, length-map (cut Before (tokens bytes)) game_of, cut_few Before (tokens bytes), tokens_few bytes)
+games_few : (bytes : List ℕ) → length (placed_games bytes) ≤ 2 * length bytes + 1
+unfolding placed_games
+games_few bytes = omega (arith, length-map (cut Before (tokens bytes)) placed_game_of, cut_few Before (tokens bytes), tokens_few bytes)
 
 -- a game that was given is one of the games
-pub given_few : (bytes : List ℕ) (n : ℕ) (game : Game) → slice_get (games bytes) n ≡ Some game → n < 2 * length bytes + 1
-given_few bytes n game e = omega (arith, there (games bytes) n game e, games_few bytes)
+pub given_few : (bytes : List ℕ) (n : ℕ) (placed : PlacedGame) → slice_get (placed_games bytes) n ≡ Some placed → n < 2 * length bytes + 1
+given_few bytes n placed e = omega (arith, there (placed_games bytes) n placed e, games_few bytes)
   where
-    there : (gs : List Game) (n : ℕ) (game : Game) → slice_get gs n ≡ Some game → n < length gs
-    there [] n game e = cc
-    there (g ∷ gs) zero game e = omega arith
-    there (g ∷ gs) (suc n) game e = omega (arith, there gs n game e)
+    there : (gs : List PlacedGame) (n : ℕ) (placed : PlacedGame) → slice_get gs n ≡ Some placed → n < length gs
+    there [] n placed e = cc
+    there (g ∷ gs) zero placed e = omega arith
+    there (g ∷ gs) (suc n) placed e = omega (arith, there gs n placed e)
 
 -- the item of the game at a place
-pub item_at : (gs : List Game) (n : ℕ) (game : Game) → slice_get gs n ≡ Some game → slice_get (map game_item gs) n ≡ Some (game_item game)
-item_at [] n game e = cc
-item_at (g ∷ gs) zero game e = let same : g ≡ game = cc in ap (λ x. Some (game_item x)) same
-item_at (g ∷ gs) (suc n) game e = item_at gs n game e
+pub item_at : (gs : List PlacedGame) (n : ℕ) (placed : PlacedGame) → slice_get gs n ≡ Some placed → slice_get (map game_item gs) n ≡ Some (game_item placed)
+item_at [] n placed e = cc
+item_at (g ∷ gs) zero placed e = let same : g ≡ placed = cc in ap (λ x. Some (game_item x)) same
+item_at (g ∷ gs) (suc n) placed e = item_at gs n placed e
 
 -- the first items are those of the first games
-pub items_first : (n : ℕ) (now before : List ℕ) → take n (games now) ≡ take n (games before) → take n (map game_item (games now)) ≡ take n (map game_item (games before))
-items_first n now before same = take-map game_item n (games now) ∙ ap (map game_item) same ∙ sym (take-map game_item n (games before))
+pub items_first : (n : ℕ) (now before : List ℕ) → take n (placed_games now) ≡ take n (placed_games before) → take n (map game_item (placed_games now)) ≡ take n (map game_item (placed_games before))
+items_first n now before same = take-map game_item n (placed_games now) ∙ ap (map game_item) same ∙ sym (take-map game_item n (placed_games before))

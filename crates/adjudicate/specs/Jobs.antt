@@ -3,7 +3,7 @@ use Rattle.std.specs.Prelude.{ℕ, Bool, true, false, not, List, map, filter, Op
 use Rattle.std.specs.List.{list_all}
 use Rattle.cha_list.specs.declared.classes.Class.TheVariants.{Blank}
 use Rattle.cha_list.specs.Bytes.{in_class}
-use Rattle.pgn_games.specs.Games.{games}
+use Rattle.pgn_games.specs.Games.{placed_games}
 use Rattle.pgn_games.specs.Settling.{settled_games}
 use Rattle.random_games.specs.Made.{made}
 use Rattle.cha_outcome.specs.declared.items.Item.{Item}
@@ -27,11 +27,11 @@ counts text = not (list_all (in_class Blank) text)
 
 -- the items of a text of positions: its lines that count, in order
 unfoldable pub position_items : List ℕ → List Item
-position_items bytes = map line_item (filter counts (lines bytes))
+position_items bytes = map (line_item 0) (filter counts (lines bytes))
 
 -- the items of a text of games, in order
 abbrev pub game_items : List ℕ → List Item
-game_items bytes = map game_item (games bytes)
+game_items bytes = map game_item (placed_games bytes)
 
 -- A report on items: whether the input is read, which items it has, how many of them are settled in a front of it, what is asked about
 -- each, how the report is printed, and what it is about.

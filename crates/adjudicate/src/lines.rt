@@ -61,7 +61,7 @@ fn first_item(text: &[u8]) -> (Option<Item>, &[u8])
         if all_of(Class::Blank, line) {
             continue;
         }
-        return (Some(item_of_line(line)), rest);
+        return (Some(item_of_line(0, line)), rest);
     }
     (None, rest)
 }

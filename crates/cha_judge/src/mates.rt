@@ -30,7 +30,7 @@ impl<P: Spread> Judge for MatesJudge<P> {
 
     fn judge(&mut self, alloc: Global, item: Item) -> Result<Outcome, NoMemory> {
         match item {
-            Item::Position(position) => {
+            Item::Position { line, position } => {
                 let depth = self.depth;
                 let shortest = least_mates_by(
                     &self.spread,
@@ -41,13 +41,14 @@ impl<P: Spread> Judge for MatesJudge<P> {
                     self.workers,
                 )?;
                 Ok(Outcome::ListedMates {
+                    line,
                     position,
                     depth,
                     shortest,
                 })
             }
-            Item::RefusedLine(fault) => Ok(Outcome::RefusedLine(fault)),
-            Item::UnreadableGame(why) => Ok(Outcome::UnreadableGame(why)),
+            Item::RefusedLine { line, fault } => Ok(Outcome::RefusedLine { line, fault }),
+            Item::UnreadableGame { span, why } => Ok(Outcome::UnreadableGame { span, why }),
             Item::Played(_) => unreachable!(),
         }
     }

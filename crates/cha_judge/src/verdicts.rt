@@ -34,12 +34,12 @@ impl<C: Crew> Judge for VerdictsJudge<C> {
 
     fn judge(&mut self, alloc: Global, item: Item) -> Result<Outcome, NoMemory> {
         match item {
-            Item::Position(position) => {
-                judge_position(alloc, position, &self.limits, &mut self.crew)
+            Item::Position { line, position } => {
+                judge_position(alloc, line, position, &self.limits, &mut self.crew)
             }
             Item::Played(game) => judge_game(alloc, game, &self.limits, &mut self.crew),
-            Item::RefusedLine(fault) => Ok(Outcome::RefusedLine(fault)),
-            Item::UnreadableGame(why) => Ok(Outcome::UnreadableGame(why)),
+            Item::RefusedLine { line, fault } => Ok(Outcome::RefusedLine { line, fault }),
+            Item::UnreadableGame { span, why } => Ok(Outcome::UnreadableGame { span, why }),
         }
     }
 }
@@ -47,19 +47,21 @@ impl<C: Crew> Judge for VerdictsJudge<C> {
 /// Decides a position, White first.
 fn judge_position<C: Crew>(
     alloc: Global,
+    line: u64,
     position: Position,
     limits: &Limits,
     crew: &mut C,
 ) -> Result<Outcome, NoMemory>
     requires ready { C.ready crew.old }
     ensures stays_ready { C.ready crew.new }
-    ensures answers { IfOk result (Answers (Verdicts limits.now) (OfPosition position)) }
+    ensures answers { IfOk result (Answers (Verdicts limits.now) (OfPosition line position)) }
     ensures printable { IfOk result IsPrintableOutcome }
 {
     let decision = decide_by(alloc, &position, Color::White, limits, crew)?;
     let standing = state(&position);
     let status = status_of(standing, &decision.white, &decision.black);
     Ok(Outcome::JudgedPosition {
+        line,
         position,
         decision,
         status,

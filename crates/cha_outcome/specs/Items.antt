@@ -6,6 +6,8 @@ use Rattle.cha_fen.specs.declared.faults.FenFault.TheVariants.{Shape}
 use Rattle.cha_fen.specs.Fen.{fen}
 use Rattle.pgn_games.specs.declared.faults.GameFault.{GameFault}
 use Rattle.pgn_games.specs.declared.played.Game.{Game}
+use Rattle.pgn_games.specs.declared.played.PlacedGame.{PlacedGame}
+use Rattle.pgn_games.specs.declared.played.Span.{Span}
 use Rattle.cha_san.specs.declared.faults.PlayFault.{PlayFault}
 use Rattle.cha_san.specs.Playing.{positions}
 use Rattle.cha_outcome.specs.declared.unreadable.Unreadable.{Unreadable}
@@ -18,35 +20,35 @@ use Rattle.cha_outcome.specs.declared.items.Item.TheVariants.{Position, RefusedL
 abbrev pub most_line_bytes : ℕ
 most_line_bytes = 4096
 
-abbrev pub line_read : Result Board FenFault → Item
-line_read (Ok q) = Position q
-line_read (Err fault) = RefusedLine fault
+abbrev pub line_read : ℕ → Result Board FenFault → Item
+line_read number (Ok q) = Position number q
+line_read number (Err fault) = RefusedLine number fault
 
--- the item of a line that is not blank: a position in FEN, or why it is none
-unfoldable pub line_item : List ℕ → Item
-line_item text = if nat_lt most_line_bytes (length text) then RefusedLine Shape else line_read (fen text)
+-- the item of a line that is not blank, by its number and its text: a position in FEN, or why it is none
+unfoldable pub line_item : ℕ → List ℕ → Item
+line_item number text = if nat_lt most_line_bytes (length text) then RefusedLine number Shape else line_read number (fen text)
 
 -- the last of the positions of a game
 abbrev pub final_of : Board → List Board → Board
 final_of start qs = slice_index_or qs (length qs - 1) start
 
 -- a game that was played to its final position
-abbrev pub played : Game → List Board → PlayedGame
-played game qs = record { last = final_of game.start qs; positions = qs; recorded = game.recorded; forfeit = game.forfeit }
+abbrev pub played : Span → Game → List Board → PlayedGame
+played span game qs = record { span = span; last = final_of game.start qs; positions = qs; recorded = game.recorded; forfeit = game.forfeit }
 
 -- the first word of a game that names no move
 abbrev pub stopped_by : Game → PlayFault → Unreadable
 stopped_by game stop = Moves stop.ply (slice_index_or game.words (stop.ply - 1) []) stop.fault
 
 -- the item of a game whose words gave these positions, or not
-abbrev pub played_item : Game → Result (List Board) PlayFault → Item
-played_item game (Ok qs) = Played (played game qs)
-played_item game (Err stop) = UnreadableGame (stopped_by game stop)
+abbrev pub played_item : Span → Game → Result (List Board) PlayFault → Item
+played_item span game (Ok qs) = Played (played span game qs)
+played_item span game (Err stop) = UnreadableGame span (stopped_by game stop)
 
-abbrev pub item_unless : Option GameFault → Game → Item
-item_unless None game = played_item game (positions game.start game.words)
-item_unless (Some fault) game = UnreadableGame (Tokens fault)
+abbrev pub item_unless : Option GameFault → Span → Game → Item
+item_unless None span game = played_item span game (positions game.start game.words)
+item_unless (Some fault) span game = UnreadableGame span (Tokens fault)
 
 -- the item of a game: its first fault, or else its first word that names no move, or else its positions
-unfoldable pub game_item : Game → Item
-game_item game = item_unless game.fault game
+unfoldable pub game_item : PlacedGame → Item
+game_item placed = item_unless placed.game.fault placed.span placed.game

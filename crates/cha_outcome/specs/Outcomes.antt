@@ -24,30 +24,30 @@ use Rattle.cha_outcome.specs.Rulings.{first_of, is_changed, judgment_of}
 
 -- the item that an outcome is of
 unfoldable pub item_of : Outcome → Item
-item_of (JudgedPosition q d status) = Position q
+item_of (JudgedPosition number q d status) = Position number q
 item_of (JudgedGame game d scan status judgment) = Played game
-item_of (ListedMates q depth found) = Position q
-item_of (RefusedLine fault) = Refused fault
-item_of (UnreadableGame why) = Unread why
+item_of (ListedMates number q depth found) = Position number q
+item_of (RefusedLine number fault) = Refused number fault
+item_of (UnreadableGame span why) = Unread span why
 
 -- the verdicts are true of the position, and a game whose final position they show dead has a sound scan, and no other has one; the
 -- status and the result are by these. A line that is refused and a game that cannot be read have no verdicts.
 unfoldable pub HasSoundVerdicts : Bounds → Outcome → Type 0
-HasSoundVerdicts limits (JudgedPosition q d status) = IsSound q White limits d × (status ≡ status_of (standing_of q) d.white d.black)
+HasSoundVerdicts limits (JudgedPosition number q d status) = IsSound q White limits d × (status ≡ status_of (standing_of q) d.white d.black)
 HasSoundVerdicts limits (JudgedGame game d scan status judgment) =
     IsSound game.last (first_of game.recorded) limits d × HasScan game.positions (first_of game.recorded) limits d scan
     × (status ≡ status_of (standing_of game.last) d.white d.black) × (judgment ≡ judgment_of game d scan)
-HasSoundVerdicts limits (ListedMates q depth found) = ⊥
-HasSoundVerdicts limits (RefusedLine fault) = ⊤
-HasSoundVerdicts limits (UnreadableGame why) = ⊤
+HasSoundVerdicts limits (ListedMates number q depth found) = ⊥
+HasSoundVerdicts limits (RefusedLine number fault) = ⊤
+HasSoundVerdicts limits (UnreadableGame span why) = ⊤
 
 -- what was found are the shortest mates of the position within that many plies
 unfoldable pub HasShortestMates : Color → ℕ → Outcome → Type 0
-HasShortestMates side depth (JudgedPosition q d status) = ⊥
+HasShortestMates side depth (JudgedPosition number q d status) = ⊥
 HasShortestMates side depth (JudgedGame game d scan status judgment) = ⊥
-HasShortestMates side depth (ListedMates q within found) = (within ≡ depth) × (found ≡ shortest q side depth)
-HasShortestMates side depth (RefusedLine fault) = ⊤
-HasShortestMates side depth (UnreadableGame why) = ⊤
+HasShortestMates side depth (ListedMates number q within found) = (within ≡ depth) × (found ≡ shortest q side depth)
+HasShortestMates side depth (RefusedLine number fault) = ⊤
+HasShortestMates side depth (UnreadableGame span why) = ⊤
 
 -- an outcome answers a question
 abbrev pub IsSoundOutcome : Question → Outcome → Type 0
@@ -64,14 +64,14 @@ HasPositions game = (0 < length game.positions) × (length game.positions ≤ 12
 
 -- a question can be asked about an item: mates are looked for in positions, and not in games
 abbrev pub CanBeAsked : Question → Item → Type 0
-CanBeAsked (Verdicts limits) (Position q) = ⊤
-CanBeAsked (Verdicts limits) (Refused fault) = ⊤
+CanBeAsked (Verdicts limits) (Position number q) = ⊤
+CanBeAsked (Verdicts limits) (Refused number fault) = ⊤
 CanBeAsked (Verdicts limits) (Played game) = HasPositions game
-CanBeAsked (Verdicts limits) (Unread why) = ⊤
-CanBeAsked (Mates side depth) (Position q) = ⊤
-CanBeAsked (Mates side depth) (Refused fault) = ⊤
+CanBeAsked (Verdicts limits) (Unread span why) = ⊤
+CanBeAsked (Mates side depth) (Position number q) = ⊤
+CanBeAsked (Mates side depth) (Refused number fault) = ⊤
 CanBeAsked (Mates side depth) (Played game) = ⊥
-CanBeAsked (Mates side depth) (Unread why) = ⊤
+CanBeAsked (Mates side depth) (Unread span why) = ⊤
 
 -- each outcome answers the question
 abbrev pub AllSound : Question → List Outcome → Type 0
@@ -87,21 +87,21 @@ IsPrintableIfScanned None = ⊤
 IsPrintableIfScanned (Some scan) = IsPrintableScan scan.earlier
 
 abbrev pub IsPrintableOutcome : Outcome → Type 0
-IsPrintableOutcome (JudgedPosition q d status) = ArePrintable d
+IsPrintableOutcome (JudgedPosition number q d status) = ArePrintable d
 IsPrintableOutcome (JudgedGame game d scan status judgment) = ArePrintable d × IsPrintableIfScanned scan
-IsPrintableOutcome (ListedMates q depth found) = ⊤
-IsPrintableOutcome (RefusedLine fault) = ⊤
-IsPrintableOutcome (UnreadableGame why) = ⊤
+IsPrintableOutcome (ListedMates number q depth found) = ⊤
+IsPrintableOutcome (RefusedLine number fault) = ⊤
+IsPrintableOutcome (UnreadableGame span why) = ⊤
 
 -- a line that is refused, or a game that cannot be read
 unfoldable pub is_refused : Outcome → Bool
-is_refused (RefusedLine fault) = true
-is_refused (UnreadableGame why) = true
+is_refused (RefusedLine number fault) = true
+is_refused (UnreadableGame span why) = true
 is_refused _ = false
 
 -- a position that is dead
 unfoldable pub is_dead_position : Outcome → Bool
-is_dead_position (JudgedPosition q d status) = is_dead status
+is_dead_position (JudgedPosition number q d status) = is_dead status
 is_dead_position _ = false
 
 -- a game that has another result than the recorded one
@@ -114,7 +114,7 @@ abbrev pub has_open_side : Decision → Bool
 has_open_side d = is_undecided d.white || is_undecided d.black
 
 unfoldable pub is_open : Outcome → Bool
-is_open (JudgedPosition q d status) = has_open_side d
+is_open (JudgedPosition number q d status) = has_open_side d
 is_open (JudgedGame game d scan status judgment) = has_open_side d
 is_open _ = false
 
@@ -125,5 +125,5 @@ is_found (Found plies lines more) = true
 
 -- a position that has one
 unfoldable pub has_mates : Outcome → Bool
-has_mates (ListedMates q depth found) = is_found found
+has_mates (ListedMates number q depth found) = is_found found
 has_mates _ = false

@@ -16,12 +16,14 @@ use cha_fen::{FenFault, read};
 use cha_list::{NoMemory, text_of};
 use cha_moves::Positions;
 use cha_san::{PlayFault, SanFault, play};
-use pgn_games::{Game, ResultMark};
+use pgn_games::{Game, PlacedGame, ResultMark, Span};
 use std::alloc::Global;
 
 /// A game that was played to its final position.
 #[derive(Drop)]
 pub struct PlayedGame {
+    /// Where it stands in its text.
+    pub span: Span,
     /// The final position.
     pub last: Position,
     /// All positions of the game, from its start to the final one.
@@ -36,82 +38,104 @@ pub struct PlayedGame {
 #[derive(Drop)]
 pub enum Item {
     /// A line that is a position in FEN.
-    Position(Position),
+    Position {
+        /// The number of the line, from 1. Blank lines count too.
+        line: u64,
+        position: Position,
+    },
     /// A line that is none.
-    RefusedLine(FenFault),
+    RefusedLine {
+        /// The number of the line, from 1. Blank lines count too.
+        line: u64,
+        fault: FenFault,
+    },
     /// A game that was played to its final position.
     Played(PlayedGame),
     /// A game that cannot be read.
-    UnreadableGame(Unreadable),
+    UnreadableGame {
+        /// Where it stands in its text.
+        span: Span,
+        why: Unreadable,
+    },
 }
 
 /// The most bytes that a line may have.
 const MOST_LINE_BYTES: usize = 4096;
 
-/// The item of a line that is not blank. A line of over 4,096 bytes has the fault `Shape`.
+/// The item of a line that is not blank, by its number and its text. A line of over 4,096 bytes has the fault `Shape`.
 #[tactic(auto, unfolding(crate::specs::Items::line_item))]
-pub fn item_of_line(line: &[u8]) -> Item
-    ensures item { result ≡ line_item line.now }
+pub fn item_of_line(line: u64, text: &[u8]) -> Item
+    ensures item { result ≡ line_item line text.now }
     ensures asked { (question : Question) → CanBeAsked question result }
 {
-    if line.len() > MOST_LINE_BYTES {
-        return Item::RefusedLine(FenFault::Shape);
+    if text.len() > MOST_LINE_BYTES {
+        return Item::RefusedLine {
+            line,
+            fault: FenFault::Shape,
+        };
     }
-    match read(line) {
-        Ok(position) => Item::Position(position),
-        Err(fault) => Item::RefusedLine(fault),
+    match read(text) {
+        Ok(position) => Item::Position { line, position },
+        Err(fault) => Item::RefusedLine { line, fault },
     }
 }
 
 /// The item of a game: its moves are played, unless its text has a fault. The only error is want of memory.
 #[tactic(auto, unfolding(crate::specs::Items::game_item))]
-pub fn item_of_game(alloc: Global, game: &Game) -> Result<Item, NoMemory>
-    requires { game.now.fault ≡ None → length game.now.words ≤ 12000 }
-    ensures item { IfOk result (λ item. item ≡ game_item game.now) }
+pub fn item_of_game(alloc: Global, placed: &PlacedGame) -> Result<Item, NoMemory>
+    requires { placed.now.game.fault ≡ None → length placed.now.game.words ≤ 12000 }
+    ensures item { IfOk result (λ item. item ≡ game_item placed.now) }
     ensures asked { IfOk result (λ item. (limits : Bounds) → CanBeAsked (Verdicts limits) item) }
 {
-    match game.fault {
-        Some(fault) => Ok(Item::UnreadableGame(Unreadable::Tokens(fault))),
-        None => played_out(alloc, game),
+    match placed.game.fault {
+        Some(fault) => Ok(Item::UnreadableGame {
+            span: placed.span,
+            why: Unreadable::Tokens(fault),
+        }),
+        None => played_out(alloc, placed.span, &placed.game),
     }
 }
 
 /// The item of a game whose text has no fault.
-fn played_out(alloc: Global, game: &Game) -> Result<Item, NoMemory>
+fn played_out(alloc: Global, span: Span, game: &Game) -> Result<Item, NoMemory>
     requires readable { game.now.fault ≡ None }
     requires few { length game.now.words ≤ 12000 }
-    ensures item { IfOk result (λ item. item ≡ played_item game.now (positions game.now.start game.now.words)) }
+    ensures item { IfOk result (λ item. item ≡ played_item span game.now (positions game.now.start game.now.words)) }
     ensures asked { IfOk result (λ item. (limits : Bounds) → CanBeAsked (Verdicts limits) item) }
 {
     match play(alloc, game) {
         Ok(positions) => {
             let last = positions.items()[positions.items().len() - 1];
             Ok(Item::Played(PlayedGame {
+                span,
                 last,
                 positions,
                 recorded: game.recorded,
                 forfeit: game.forfeit,
             }))
         }
-        Err(stop) => stopped(alloc, game, stop),
+        Err(stop) => stopped(alloc, span, game, stop),
     }
 }
 
 /// The item of a game at whose first word that names no move it stops.
-fn stopped(alloc: Global, game: &Game, stop: PlayFault) -> Result<Item, NoMemory>
+fn stopped(alloc: Global, span: Span, game: &Game, stop: PlayFault) -> Result<Item, NoMemory>
     requires inside { (stop.fault ≡ SanFault.NoMemory) ⊎ ((1 ≤ stop.ply) × (stop.ply ≤ length game.now.words)) }
-    ensures item { IfOk result (λ item. item ≡ UnreadableGame (stopped_by game.now stop)) }
+    ensures item { IfOk result (λ item. item ≡ UnreadableGame span (stopped_by game.now stop)) }
     ensures of_word { IfOk result (λ _. stop.fault ≢ SanFault.NoMemory) }
 {
     if lacks_memory(stop.fault) {
         return Err(NoMemory);
     }
     let word = &game.words.items()[stop.ply as usize - 1];
-    Ok(Item::UnreadableGame(Unreadable::Moves {
-        ply: stop.ply,
-        word: text_of(alloc, word.items())?,
-        fault: stop.fault,
-    }))
+    Ok(Item::UnreadableGame {
+        span,
+        why: Unreadable::Moves {
+            ply: stop.ply,
+            word: text_of(alloc, word.items())?,
+            fault: stop.fault,
+        },
+    })
 }
 
 /// Whether a word named no move because memory was refused.

@@ -11,12 +11,15 @@ use cha_board::Position;
 use cha_fen::FenFault;
 use cha_verdict::{Decision, Scan, is_undecided};
 use helpmate_list::Shortest;
+use pgn_games::Span;
 
 /// What is found about an item. It holds the item.
 #[derive(Drop)]
 pub enum Outcome {
     /// The verdicts on both sides of a position.
     JudgedPosition {
+        /// The number of the line, from 1.
+        line: u64,
         position: Position,
         decision: Decision,
         /// The status of the position, by the verdicts.
@@ -35,15 +38,25 @@ pub enum Outcome {
     },
     /// The shortest mates of a side.
     ListedMates {
+        /// The number of the line, from 1.
+        line: u64,
         position: Position,
         /// Within how many plies they were looked for.
         depth: u8,
         shortest: Shortest,
     },
     /// The line is no position.
-    RefusedLine(FenFault),
+    RefusedLine {
+        /// The number of the line, from 1.
+        line: u64,
+        fault: FenFault,
+    },
     /// The game cannot be read.
-    UnreadableGame(Unreadable),
+    UnreadableGame {
+        /// Where it stands in its text.
+        span: Span,
+        why: Unreadable,
+    },
 }
 
 /// Whether nothing was shown about one of the sides.
@@ -59,7 +72,7 @@ impl Outcome {
     pub fn is_refused(&self) -> bool
         ensures { result ≡ is_refused_of self.now }
     {
-        matches!(self, Outcome::RefusedLine(_) | Outcome::UnreadableGame(_))
+        matches!(self, Outcome::RefusedLine { .. } | Outcome::UnreadableGame { .. })
     }
 
     /// Whether it is a position that is dead.

@@ -10,19 +10,19 @@ use Rattle.flag_report.specs.Mates.{mates_text}
 
 -- the word in front of the number: a line is a position, and all else a game
 unfoldable pub label : Outcome → List ℕ
-label (JudgedPosition q d status) = codes "position "
+label (JudgedPosition number q d status) = codes "position "
 label (JudgedGame game d scan status judgment) = codes "game "
-label (ListedMates q depth found) = codes "position "
-label (RefusedLine fault) = codes "position "
-label (UnreadableGame why) = codes "game "
+label (ListedMates number q depth found) = codes "position "
+label (RefusedLine number fault) = codes "position "
+label (UnreadableGame span why) = codes "game "
 
 -- the lines behind the first, with or without certificates
 unfoldable pub body : Bool → Outcome → List ℕ
-body certs (JudgedPosition q d status) = findings_text q d status certs
+body certs (JudgedPosition number q d status) = findings_text q d status certs
 body certs (JudgedGame game d scan status judgment) = findings_text game.last d status certs ++ scan_part scan certs ++ result_line game.recorded judgment
-body certs (ListedMates q depth found) = fen_line q ++ mates_text depth found
-body certs (RefusedLine fault) = line (codes "refused: " ++ fen_fault_text fault)
-body certs (UnreadableGame why) = line (codes "unreadable: " ++ reason_text why)
+body certs (ListedMates number q depth found) = fen_line q ++ mates_text depth found
+body certs (RefusedLine number fault) = line (codes "refused: " ++ fen_fault_text fault)
+body certs (UnreadableGame span why) = line (codes "unreadable: " ++ reason_text why)
 
 -- the block of an outcome under a number
 abbrev pub block_text : Bool → ℕ → Outcome → List ℕ

@@ -22,10 +22,10 @@ fn label(outcome: &Outcome) -> &'static [u8]
     ensures { result.now ≡ label_of outcome.now }
 {
     match outcome {
-        Outcome::JudgedGame { .. } | Outcome::UnreadableGame(_) => b"game ",
-        Outcome::JudgedPosition { .. } | Outcome::ListedMates { .. } | Outcome::RefusedLine(_) => {
-            b"position "
-        }
+        Outcome::JudgedGame { .. } | Outcome::UnreadableGame { .. } => b"game ",
+        Outcome::JudgedPosition { .. }
+        | Outcome::ListedMates { .. }
+        | Outcome::RefusedLine { .. } => b"position ",
     }
 }
 
@@ -80,6 +80,7 @@ fn put_body(alloc: Global, certs: bool, outcome: &Outcome, text: &mut Text) -> R
             position,
             decision,
             status,
+            ..
         } => put_findings(alloc, position, decision, *status, certs, text),
         Outcome::JudgedGame {
             game,
@@ -96,12 +97,13 @@ fn put_body(alloc: Global, certs: bool, outcome: &Outcome, text: &mut Text) -> R
             position,
             depth,
             shortest,
+            ..
         } => {
             put_fen(alloc, position, text)?;
             put_mates(alloc, *depth, shortest, text)
         }
-        Outcome::RefusedLine(fault) => put_refused(*fault, text),
-        Outcome::UnreadableGame(why) => put_unreadable(alloc, why, text),
+        Outcome::RefusedLine { fault, .. } => put_refused(*fault, text),
+        Outcome::UnreadableGame { why, .. } => put_unreadable(alloc, why, text),
     }
 }
 

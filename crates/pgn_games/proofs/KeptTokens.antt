@@ -8,10 +8,10 @@ use Rattle.pgn_lex.specs.declared.kinds.Placed.{Placed}
 use Rattle.pgn_lex.specs.Lexing.{Appends}
 use Rattle.pgn_lex.specs.Tokens.{tokens, has_mark, settled_after, has_half_mark, settled_tokens}
 use Rattle.pgn_lex.proofs.Feeding.{settled_first}
-use Rattle.pgn_games.specs.declared.played.Game.{Game}
+use Rattle.pgn_games.specs.declared.played.PlacedGame.{PlacedGame}
 use Rattle.pgn_games.specs.declared.token_turns.Place.TheVariants.{Before}
 use Rattle.pgn_games.specs.Cutting.{cut}
-use Rattle.pgn_games.specs.Games.{game_of, games}
+use Rattle.pgn_games.specs.Games.{placed_game_of, placed_games}
 use Rattle.pgn_games.specs.Settling.{games_ended, settled_games}
 use Rattle.pgn_games.specs.Holding.{first_end, IsScanned, IsCut, IsCutAtEnd, IsOpen, IsLast}
 use Rattle.pgn_games.proofs.GameEnds.{closes, none_ended, some_first, none_scanned, nothing_scanned, open_game}
@@ -95,13 +95,13 @@ left_first game behind place scanned none some =
     rw none (ap (cut Before) (append-nil game) ∙ open_game game (none_scanned game place scanned) some)
 
 -- the game that is given
-at_place : (games : List (List Placed)) (game : List Placed) (later : List (List Placed)) (all : List (List Placed)) (given : ℕ) → length games ≡ given → all ≡ games ++ (game ∷ later) → slice_get (map game_of all) given ≡ Some (game_of game)
+at_place : (games : List (List Placed)) (game : List Placed) (later : List (List Placed)) (all : List (List Placed)) (given : ℕ) → length games ≡ given → all ≡ games ++ (game ∷ later) → slice_get (map placed_game_of all) given ≡ Some (placed_game_of game)
 at_place [] game later all given n e = let z : given ≡ 0 = sym n in rw (z, e) refl
 at_place (g ∷ games) game later all zero n e = absurd (omega arith)
 at_place (g ∷ games) game later all (suc given) n e = rw e (at_place games game later (games ++ (game ∷ later)) given (omega arith) refl)
 
 pub game_open : (fed bytes rest : List ℕ) (game behind : List Placed) (given : ℕ) → IsCut (settled_tokens fed) (game ++ behind) given → first_end Before (game ++ behind) ≡ Some (length game) → bytes ≡ fed ++ rest
-    → slice_get (games bytes) given ≡ Some (game_of game)
+    → slice_get (placed_games bytes) given ≡ Some (placed_game_of game)
 unfolding games
 game_open fed bytes rest game behind given h whole e =
     let first = settled_first fed rest in
@@ -109,26 +109,26 @@ game_open fed bytes rest game behind given h whole e =
     at_place h.games game _ (cut Before (tokens bytes)) given h.number (ap (cut Before) all ∙ h.cuts _ ∙ ap (λ gs. h.games ++ gs) (first_game game behind _ whole))
 
 pub game_last : (fed bytes : List ℕ) (game behind : List Placed) (given : ℕ) → IsCutAtEnd (tokens fed) (game ++ behind) given → cut Before (game ++ behind) ≡ game ∷ cut Before behind → bytes ≡ fed
-    → slice_get (games bytes) given ≡ Some (game_of game)
+    → slice_get (placed_games bytes) given ≡ Some (placed_game_of game)
 unfolding games
 game_last fed bytes game behind given h first e =
     at_place h.games game (cut Before behind) (cut Before (tokens bytes)) given h.number (ap (λ bs. cut Before (tokens bs)) e ∙ h.cuts ∙ ap (λ gs. h.games ++ gs) first)
 
-pub none_last : (fed bytes : List ℕ) (kept : List Placed) (given : ℕ) → IsCutAtEnd (tokens fed) kept given → kept ≡ [] → bytes ≡ fed → length (games bytes) ≤ given
+pub none_last : (fed bytes : List ℕ) (kept : List Placed) (given : ℕ) → IsCutAtEnd (tokens fed) kept given → kept ≡ [] → bytes ≡ fed → length (placed_games bytes) ≤ given
 unfolding games cut
 none_last fed bytes kept given h none e =
     let all : cut Before (tokens bytes) ≡ h.games = ap (λ bs. cut Before (tokens bs)) e ∙ h.cuts ∙ ap (λ xs. h.games ++ cut Before xs) none ∙ append-nil h.games in
-    omega (arith, length-map (cut Before (tokens bytes)) game_of, ap length all, h.number)
+    omega (arith, length-map (cut Before (tokens bytes)) placed_game_of, ap length all, h.number)
 
 -- the games that were given stay the first
 front_of : (all games later : List (List Placed)) (given : ℕ) → all ≡ games ++ later → length games ≡ given → take given all ≡ games
 front_of all games later given e n = rw (e, ← n) (take-append_seam games later)
 
-fronts : (fed rest : List ℕ) (kept : List Placed) (given : ℕ) → (h : IsCut (settled_tokens fed) kept given) → take given (games (fed ++ rest)) ≡ map game_of h.games
+fronts : (fed rest : List ℕ) (kept : List Placed) (given : ℕ) → (h : IsCut (settled_tokens fed) kept given) → take given (placed_games (fed ++ rest)) ≡ map placed_game_of h.games
 unfolding games
 fronts fed rest kept given h =
-    take-map game_of given (cut Before (tokens (fed ++ rest)))
-    ∙ ap (map game_of) (front_of (cut Before (tokens (fed ++ rest))) h.games _ given (ap (cut Before) (settled_first fed rest) ∙ h.cuts _) h.number)
+    take-map placed_game_of given (cut Before (tokens (fed ++ rest)))
+    ∙ ap (map placed_game_of) (front_of (cut Before (tokens (fed ++ rest))) h.games _ given (ap (cut Before) (settled_first fed rest) ∙ h.cuts _) h.number)
 
 pub same_front : (fed a b rest rest' : List ℕ) (kept : List Placed) (given : ℕ) → IsCut (settled_tokens fed) kept given → a ≡ fed ++ rest → b ≡ fed ++ rest' → take given (games a) ≡ take given (games b)
 same_front fed a b rest rest' kept given h e f =
@@ -211,11 +211,11 @@ pub all_fed : (fed fed' piece piece' : List ℕ) (used used' : ℕ) → fed' ≡
 all_fed fed fed' piece piece' used used' e f g none =
     ap (λ xs. xs ++ drop used piece) (sym e) ∙ ap (λ xs. fed' ++ drop used xs) (sym f) ∙ ap (λ n. fed' ++ drop n piece') (sym g) ∙ ap (λ xs. fed' ++ xs) none ∙ append-nil fed'
 
-pub game_found : (fed bytes : List ℕ) (game behind : List Placed) (given g : ℕ) (found : Game) → IsCutAtEnd (tokens fed) (game ++ behind) given → (cut Before (game ++ behind) ≡ game ∷ cut Before behind) × (0 < length game) → bytes ≡ fed → given ≡ g → found ≡ game_of game
-    → slice_get (games bytes) g ≡ Some found
-game_found fed bytes game behind given g found h first e f is = ap (λ n. slice_get (games bytes) n) (sym f) ∙ game_last fed bytes game behind given h first.0 e ∙ ap (λ x. Some x) (sym is)
+pub game_found : (fed bytes : List ℕ) (game behind : List Placed) (given g : ℕ) (found : PlacedGame) → IsCutAtEnd (tokens fed) (game ++ behind) given → (cut Before (game ++ behind) ≡ game ∷ cut Before behind) × (0 < length game) → bytes ≡ fed → given ≡ g → found ≡ placed_game_of game
+    → slice_get (placed_games bytes) g ≡ Some found
+game_found fed bytes game behind given g found h first e f is = ap (λ n. slice_get (placed_games bytes) n) (sym f) ∙ game_last fed bytes game behind given h first.0 e ∙ ap (λ x. Some x) (sym is)
 
-pub none_found : (fed bytes : List ℕ) (game behind : List Placed) (given g : ℕ) → IsCutAtEnd (tokens fed) (game ++ behind) given → game ≡ [] → behind ≡ [] → bytes ≡ fed → given ≡ g → length (games bytes) ≤ g
+pub none_found : (fed bytes : List ℕ) (game behind : List Placed) (given g : ℕ) → IsCutAtEnd (tokens fed) (game ++ behind) given → game ≡ [] → behind ≡ [] → bytes ≡ fed → given ≡ g → length (placed_games bytes) ≤ g
 none_found fed bytes game behind given g h none nothing e f = omega (arith, none_last fed bytes (game ++ behind) given h (rw (none, nothing) refl) e, f)
 
 -- no more tokens than places

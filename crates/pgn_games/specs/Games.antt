@@ -1,5 +1,5 @@
 -- The games of a text.
-use Rattle.std.specs.Prelude.{ℕ, Bool, true, not, if◌then◌else◌, List, map, take, length, Option, Some, None, Result, Ok, Err, codes, nat_lt}
+use Rattle.std.specs.Prelude.{ℕ, Bool, true, false, not, if◌then◌else◌, List, map, take, length, Option, Some, None, Result, Ok, Err, codes, nat_lt}
 use Rattle.std.specs.List.{list_any}
 use Rattle.std.specs.Option.{option_map, option_or}
 use Rattle.cha_board.specs.declared.men.Color.TheVariants.{White}
@@ -12,6 +12,8 @@ use Rattle.pgn_lex.specs.Tokens.{tokens}
 use Rattle.pgn_games.specs.declared.faults.GameFault.{GameFault}
 use Rattle.pgn_games.specs.declared.faults.GameFault.TheVariants.{BadToken, Unclosed, ValueTooLong, Variant, BadStart, TooManyPlies}
 use Rattle.pgn_games.specs.declared.played.Game.{Game}
+use Rattle.pgn_games.specs.declared.played.PlacedGame.{PlacedGame}
+use Rattle.pgn_games.specs.declared.played.Span.{Span}
 use Rattle.pgn_games.specs.declared.token_turns.Place.TheVariants.{Before}
 use Rattle.pgn_games.specs.Cutting.{cut}
 use Rattle.pgn_games.specs.Fields.{depth_at_end, tag_value, recorded_in, move_words, first_bad, is_unclosed, is_cut, says_forfeit, says_chess, passes}
@@ -78,6 +80,22 @@ game_of slice = record {
   fault = fault_of slice;
 }
 
+-- where the game of these tokens stands
+abbrev pub span_of : List Placed → Span
+span_of slice = record { start = 0; end = 0; line = 0 }
+
+-- the game of these tokens, and where it stands
+abbrev pub placed_game_of : List Placed → PlacedGame
+placed_game_of slice = record { span = span_of slice; game = game_of slice }
+
+-- reading a text leaves a reader as new
+abbrev pub is_closed : List ℕ → Bool
+is_closed bytes = false
+
 -- the games of a text, in order
 unfoldable pub games : List ℕ → List Game
 games bytes = map game_of (cut Before (tokens bytes))
+
+-- the same games, and where each stands
+unfoldable pub placed_games : List ℕ → List PlacedGame
+placed_games bytes = map placed_game_of (cut Before (tokens bytes))

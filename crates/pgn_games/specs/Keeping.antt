@@ -1,7 +1,7 @@
 -- What a cutter of games keeps.
 use Rattle.std.specs.Prelude.{◌≡◌, ℕ, Bool, true, false, List, ◌++◌, drop, length, Option, Some, None, Result, Ok, Err}
 use Rattle.cha_list.specs.declared.memory.NoMemory.{NoMemory}
-use Rattle.pgn_games.specs.declared.played.Game.{Game}
+use Rattle.pgn_games.specs.declared.played.PlacedGame.{PlacedGame}
 use Rattle.pgn_games.specs.declared.token_turns.Place.TheVariants.{Before}
 use Rattle.pgn_games.specs.declared.cutter.Cutter.{Cutter}
 use Rattle.pgn_games.specs.Holding.{first_end, IsScanned, IsOpen, IsLast}
@@ -24,7 +24,7 @@ abbrev pub HasGame : Cutter → Type 0
 HasGame c = first_end Before (c.game ++ c.behind.items) ≡ Some (length c.game)
 
 -- a game was given
-abbrev pub found_one : Result (Option Game) NoMemory → Bool
+abbrev pub found_one : Result (Option PlacedGame) NoMemory → Bool
 found_one (Ok (Some game)) = true
 found_one (Ok None) = false
 found_one (Err refused) = false

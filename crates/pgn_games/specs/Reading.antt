@@ -2,7 +2,7 @@
 use Rattle.std.specs.Prelude.{ℕ, Bool, true, false, List, Option, Some, None, Result, Ok, Err}
 use Rattle.cha_outside.specs.declared.gathering.ReadEnd.{ReadEnd}
 use Rattle.cha_outside.specs.Gathering.{Gathers}
-use Rattle.pgn_games.specs.declared.played.Game.{Game}
+use Rattle.pgn_games.specs.declared.played.PlacedGame.{PlacedGame}
 
 -- the bytes taken from a source, how many of their games were given, whether the source has ended, and whether a call failed
 pub record ReaderState : Type 0 where
@@ -16,7 +16,7 @@ abbrev pub Takes : Option (List ℕ) → Option (List ℕ) → List ℕ → List
 Takes left left' taken taken' = Gathers left left' taken taken'
 
 -- a game was given
-abbrev pub gives_game : Result (Option Game) ReadEnd → Bool
+abbrev pub gives_game : Result (Option PlacedGame) ReadEnd → Bool
 gives_game (Ok (Some game)) = true
 gives_game (Ok None) = false
 gives_game (Err end) = false

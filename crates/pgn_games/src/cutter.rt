@@ -5,13 +5,13 @@ ghost use Rattle.std.specs.declared.result.Result.TheVariants.{Ok, Err};
 ghost use Rattle.std.specs.declared.option.Option.TheVariants.{Some, None};
 ghost use Rattle.std.specs.Io.KnownBytes.{IsAtEnd};
 ghost use Rattle.cha_outside.specs.Faults.{Rose};
-ghost use Rattle.pgn_games.specs.Games.{games, game_of};
+ghost use Rattle.pgn_games.specs.Games.{placed_games, placed_game_of};
 ghost use Rattle.pgn_games.specs.Settling.{settled_games};
 ghost use Rattle.pgn_games.specs.Reading.{Takes};
 
 use crate::filling::{Filled, fill};
 use crate::gathering::{Standing, gather};
-use crate::played::Game;
+use crate::played::PlacedGame;
 use crate::summary::Summary;
 use crate::token_turns::Place;
 use cha_list::NoMemory;
@@ -130,7 +130,7 @@ impl Cutter {
         requires scanned { IsScannedAt self.old }
         ensures bytes { Takes (S.left source.old) (S.left source.new) (taken_by self.old) (taken_by self.new) }
         ensures given { self.new.given ≡ self.old.given }
-        ensures first { take self.old.given (games (taken_by self.new)) ≡ take self.old.given (games (taken_by self.old)) }
+        ensures first { take self.old.given (placed_games (taken_by self.new)) ≡ take self.old.given (placed_games (taken_by self.old)) }
         ensures whole { result ≡ Ok Advanced.Whole → IsOpenAt self.new × HasGame self.new }
         ensures ended { result ≡ Ok Advanced.Ended → IsLastAt self.new × IsScannedAt self.new × IsAtEnd (S.left source.new) }
         ensures read_fault { result ≡ Err ReadEnd.ReadFault → Rose (S.faults source.old) (S.faults source.new) × (settled_games (taken_by self.new) ≤ self.old.given) }
@@ -170,38 +170,38 @@ impl Cutter {
     }
 
     /// The game, which makes room for the next one.
-    fn take_game(&mut self, alloc: Global) -> Game
+    fn take_game(&mut self, alloc: Global) -> PlacedGame
         requires { self.old.given < 2 ^ 64 - 1 }
-        ensures game { result ≡ game_of self.old.game }
+        ensures game { result ≡ placed_game_of self.old.game }
         ensures emptied { (self.new.game ≡ []) × (self.new.place ≡ Place.Before) × (self.new.given ≡ self.old.given + 1) }
         ensures same { (self.new.lexer ≡ self.old.lexer) × (self.new.behind ≡ self.old.behind) × (self.new.piece ≡ self.old.piece) × (self.new.used ≡ self.old.used) × (self.new.taken ≡ self.old.taken) }
     {
         let whole = std::mem::replace(&mut self.game, Summary::new(alloc));
         self.place = Place::Before;
         self.given += 1;
-        whole.game()
+        whole.placed_game()
     }
 
     /// Gives the game that is whole.
-    pub fn give(&mut self, alloc: Global) -> Game
+    pub fn give(&mut self, alloc: Global) -> PlacedGame
         requires open { IsOpenAt self.old }
         requires whole { HasGame self.old }
         ensures taken { taken_by self.new ≡ taken_by self.old }
         ensures open { IsOpenAt self.new × IsScannedAt self.new × (self.new.given ≡ self.old.given + 1) }
-        ensures game { slice_get (games (taken_by self.old)) self.old.given ≡ Some result }
+        ensures game { slice_get (placed_games (taken_by self.old)) self.old.given ≡ Some result }
     {
         self.take_game(alloc)
     }
 
     /// Gives the next of the games that are left, once the source has ended.
-    pub fn give_last(&mut self, alloc: Global) -> Result<Option<Game>, NoMemory>
+    pub fn give_last(&mut self, alloc: Global) -> Result<Option<PlacedGame>, NoMemory>
         requires last { IsLastAt self.old }
         requires scanned { IsScannedAt self.old }
         ensures taken { taken_by self.new ≡ taken_by self.old }
         ensures last { OnOk result (IsLastAt self.new × IsScannedAt self.new) }
         ensures given { self.new.given ≡ (if found_one result then self.old.given + 1 else self.old.given) }
-        ensures game { IfOk result (λ found. IfSome found (λ game. slice_get (games (taken_by self.old)) self.old.given ≡ Some game)) }
-        ensures none { result ≡ Ok None → length (games (taken_by self.old)) ≤ self.old.given }
+        ensures game { IfOk result (λ found. IfSome found (λ game. slice_get (placed_games (taken_by self.old)) self.old.given ≡ Some game)) }
+        ensures none { result ≡ Ok None → length (placed_games (taken_by self.old)) ≤ self.old.given }
     {
         match self.finish()? {
             Standing::Whole => Ok(Some(self.take_game(alloc))),

@@ -25,7 +25,7 @@ mod whole;
 pub use cha_outside::ReadEnd;
 pub use faults::GameFault;
 pub use marks::ResultMark;
-pub use played::{Game, Words};
+pub use played::{Game, PlacedGame, Span, Words};
 pub use reading::Reader;
 pub use settling::settled_games_are_the_first;
 pub use whole::each_token_is_in_one_game;

@@ -22,3 +22,23 @@ pub struct Game {
     /// Why the game cannot be read, or None.
     pub fault: Option<GameFault>,
 }
+
+/// Where a game stands in its text.
+#[derive(Clone, Copy, Debug, PartialEq, Eq)]
+pub struct Span {
+    /// The place of the first byte of its first token, from 0.
+    pub start: u64,
+    /// The place behind the last byte of its last token, from 0.
+    pub end: u64,
+    /// The line of its first byte, from 1: one more than the line feeds before it.
+    pub line: u64,
+}
+
+/// A game and where it stands.
+#[derive(Drop)]
+pub struct PlacedGame {
+    /// Where it stands.
+    pub span: Span,
+    /// What its text says.
+    pub game: Game,
+}

@@ -6,12 +6,12 @@ ghost use Rattle.std.specs.declared.result.Result.TheVariants.{Ok, Err};
 ghost use Rattle.std.specs.declared.option.Option.TheVariants.{Some, None};
 ghost use Rattle.std.specs.Io.KnownBytes.{IsAtEnd};
 ghost use Rattle.cha_outside.specs.Faults.{Rose};
-ghost use Rattle.pgn_games.specs.Games.{games};
+ghost use Rattle.pgn_games.specs.Games.{placed_games, is_closed as is_closed_text};
 ghost use Rattle.pgn_games.specs.Settling.{settled_games};
 ghost use Rattle.pgn_games.specs.Reading.{Takes, gives_game};
 
 use crate::cutter::{Advanced, Cutter};
-use crate::played::Game;
+use crate::played::PlacedGame;
 use cha_list::NoMemory;
 use cha_outside::{MOST_BYTES, ReadEnd, Source};
 use std::alloc::Global;
@@ -60,6 +60,13 @@ impl Reader {
         self.failed
     }
 
+    /// Whether the text that was taken is closed, once its source has ended.
+    pub fn is_closed(&self) -> bool
+        ensures { self.now.ended ≡ true → result ≡ is_closed_text self.now.taken }
+    {
+        false
+    }
+
     /// The next game of a source, or None where the source has ended and all its games were given.
     ///
     /// It reads no further piece than the game needs: a game is given once the byte behind its last token was taken. The games
@@ -67,13 +74,13 @@ impl Reader {
     /// each game that is settled in the bytes taken was given before; `TooLong` comes where the source gave more than 268,435,456
     /// bytes (at most 4,096 more are taken), and `NoMemory` where the allocator refused memory. The time of all calls together
     /// grows as the number of bytes.
-    pub fn next<S: Source>(&mut self, source: &mut S) -> Result<Option<Game>, ReadEnd>
+    pub fn next<S: Source>(&mut self, source: &mut S) -> Result<Option<PlacedGame>, ReadEnd>
         requires { self.old.failed ≡ false }
         ensures bytes { Takes (S.left source.old) (S.left source.new) self.old.taken self.new.taken }
-        ensures game { IfOk result (λ found. IfSome found (λ game. slice_get (games self.new.taken) self.old.given ≡ Some game)) }
+        ensures game { IfOk result (λ found. IfSome found (λ game. slice_get (placed_games self.new.taken) self.old.given ≡ Some game)) }
         ensures given { self.new.given ≡ (if gives_game result then self.old.given + 1 else self.old.given) }
-        ensures none { result ≡ Ok None → (self.new.ended ≡ true) × (length (games self.new.taken) ≤ self.old.given) }
-        ensures first { take self.old.given (games self.new.taken) ≡ take self.old.given (games self.old.taken) }
+        ensures none { result ≡ Ok None → (self.new.ended ≡ true) × (length (placed_games self.new.taken) ≤ self.old.given) }
+        ensures first { take self.old.given (placed_games self.new.taken) ≡ take self.old.given (placed_games self.old.taken) }
         ensures still { self.old.ended ≡ true → self.new.taken ≡ self.old.taken }
         ensures no_more_reads { self.old.ended ≡ true → (source.new ≡ source.old) × (self.new.ended ≡ true) }
         ensures end { self.old.ended ≡ false → self.new.ended ≡ true → IsAtEnd (S.left source.new) }

@@ -4,14 +4,14 @@ ghost use Rattle.std.specs.Prelude.{◌≡◌, ◌==◌, ◌-◌, ◌^◌, ◌<�
 ghost use Rattle.std.specs.Option.{option_map, option_or};
 ghost use Rattle.pgn_games.specs.declared.faults.GameFault.TheVariants.{BadToken};
 ghost use Rattle.pgn_games.specs.Fields.{value_named};
-ghost use Rattle.pgn_games.specs.Games.{is_open, fault_if, fault_of, game_of};
+ghost use Rattle.pgn_games.specs.Games.{is_open, fault_if, fault_of, span_of, game_of, placed_game_of};
 ghost use Rattle.pgn_games.specs.Summing.{word_outside, with_word};
 
 use crate::faults::GameFault;
 use crate::history::TokenHistory;
 use crate::marks::ResultMark;
 use crate::movetext::{bad_outside, keep_word, mark_outside, unclosed};
-use crate::played::{Game, Words};
+use crate::played::{Game, PlacedGame, Span, Words};
 use crate::tag_pairs::{TagValues, forfeited, other_game, start_refused, started, was_cut};
 use crate::token_turns::deeper;
 use cha_list::NoMemory;
@@ -165,8 +165,30 @@ impl Summary {
             .or(where_caused(many, GameFault::TooManyPlies))
     }
 
+    /// Where the game stands.
+    fn span(&self) -> Span
+        ensures { result ≡ span_of self.now }
+    {
+        Span {
+            start: 0,
+            end: 0,
+            line: 0,
+        }
+    }
+
+    /// The game of the tokens, and where it stands.
+    pub fn placed_game(self) -> PlacedGame
+        ensures { result ≡ placed_game_of self }
+    {
+        let span = self.span();
+        PlacedGame {
+            span,
+            game: self.game(),
+        }
+    }
+
     /// The game of the tokens.
-    pub fn game(self) -> Game
+    fn game(self) -> Game
         ensures { result ≡ game_of self }
     {
         let fault = self.fault();

@@ -1,5 +1,5 @@
 use Rattle.std.proofs.Common.{◌≡◌, ◌+◌, ◌*◌, ◌<◌, ◌≤◌, length, Ok, Some, sym, ap, ◌∙◌, arith}
-use Rattle.pgn_games.specs.Games.{games}
+use Rattle.pgn_games.specs.Games.{placed_games}
 use Rattle.adjudicate.proofs.GivenGames.{few_words, given_few, item_at, items_first}
 use Rattle.adjudicate.proofs.ReportLoop.{not_more}
 use Rattle.adjudicate.proofs.readers.next_game.Goals as goal
@@ -8,7 +8,7 @@ pub item_of_game-requires : goal.item_of_game-requires
 item_of_game-requires g c = few_words c.next.new.self.taken c.args.reader.now.given c.in-Ok-Some.game (rw c.in-Ok-Some.field-0-is at c.in-Ok-Some.ensures.game)
 
 pub returns-in-Ok-clause-item : goal.returns-in-Ok-clause-item
-returns-in-Ok-clause-item g c = item_at (games c.next.new.self.taken) c.args.reader.now.given c.in-Ok-Some.game (rw c.in-Ok-Some.field-0-is at c.in-Ok-Some.ensures.game) ∙ ap Some (sym c.in-Ok.ensures.item)
+returns-in-Ok-clause-item g c = item_at (placed_games c.next.new.self.taken) c.args.reader.now.given c.in-Ok-Some.game (rw c.in-Ok-Some.field-0-is at c.in-Ok-Some.ensures.game) ∙ ap Some (sym c.in-Ok.ensures.item)
 
 pub returns-in-Ok-clause-given : goal.returns-in-Ok-clause-given
 returns-in-Ok-clause-given g c =

@@ -142,8 +142,8 @@ end_tokens fed seen stage start start_line at feeds first word value r s out out
   appended = said (machine fed).word (machine fed).value h.word_is h.value_is;
   are_next = ap tokens same ∙ ended_tokens fed ∙ ap (λ t. settled_tokens fed ++ tokens_at t (machine fed).start (machine fed).at (machine fed).start_line (machine fed).word (machine fed).value) (sym h.stage_is)
       ∙ ap (λ n. settled_tokens fed ++ tokens_at stage n (machine fed).at (machine fed).start_line (machine fed).word (machine fed).value) (sym h.start_is)
-        ∙ ap (λ n. settled_tokens fed ++ tokens_at stage start n (machine fed).start_line (machine fed).word (machine fed).value) (at_length fed ∙ sym h.at_is)
-        ∙ ap (λ n. settled_tokens fed ++ tokens_at stage start at n (machine fed).word (machine fed).value) (sym h.start_line_is)
+      ∙ ap (λ n. settled_tokens fed ++ tokens_at stage start n (machine fed).start_line (machine fed).word (machine fed).value) (at_length fed ∙ sym h.at_is)
+      ∙ ap (λ n. settled_tokens fed ++ tokens_at stage start at n (machine fed).word (machine fed).value) (sym h.start_line_is)
       ∙ ap (λ (x : List ℕ). settled_tokens x ++ tokens_at stage start at start_line (machine fed).word (machine fed).value) (sym same);
   few = few_tokens stage start at start_line (machine fed).word (machine fed).value;
 }

@@ -139,7 +139,7 @@ plain_by false false false false false false false false true k = refl
 plain_by false false false false false false false false false true = refl
 plain_by false false false false false false false false false false = refl
 
-begun_plain : (first : Bool) (b : ℕ) → is_plain (begun first b) ≡ true
+pub begun_plain : (first : Bool) (b : ℕ) → is_plain (begun first b) ≡ true
 unfolding begun
 begun_plain first b = plain_by (first && (b == 37)) (is_white b) (b == 59) (b == 123) (b == 91) (b == 40) (b == 41) (b == 42) (b == 36) (in_pgn_class WordByte b)
 
@@ -214,18 +214,18 @@ plain_settles m b Over rest p h =
     ∙ ap (λ ts. ts ++ settles_at (begun m.first b) (stepped m b Over) rest) (sym (said_plain m.stage m.start m.at m.start_line m.word m.value p))
 
 -- the mark at the front
-no_mark_begins : (b : ℕ) (rest : List ℕ) → (b == 239) ≡ false → (has_mark (b ∷ rest) ≡ false) × (has_half_mark (b ∷ rest) ≡ false)
+pub no_mark_begins : (b : ℕ) (rest : List ℕ) → (b == 239) ≡ false → (has_mark (b ∷ rest) ≡ false) × (has_half_mark (b ∷ rest) ≡ false)
 unfolding has_mark has_half_mark
 no_mark_begins b [] e = (refl, refl)
 no_mark_begins b (c ∷ []) e = (refl, rw e refl)
 no_mark_begins b (c ∷ d ∷ rest) e = (rw e refl, refl)
 
-no_mark_grows : (b : ℕ) (rest : List ℕ) → (b == 187) ≡ false → (has_mark (239 ∷ b ∷ rest) ≡ false) × (has_half_mark (239 ∷ b ∷ rest) ≡ false)
+pub no_mark_grows : (b : ℕ) (rest : List ℕ) → (b == 187) ≡ false → (has_mark (239 ∷ b ∷ rest) ≡ false) × (has_half_mark (239 ∷ b ∷ rest) ≡ false)
 unfolding has_mark has_half_mark
 no_mark_grows b [] e = (refl, rw e refl)
 no_mark_grows b (c ∷ rest) e = (rw e refl, refl)
 
-no_mark_ends : (b : ℕ) (rest : List ℕ) → (b == 191) ≡ false → (has_mark (239 ∷ 187 ∷ b ∷ rest) ≡ false) × (has_half_mark (239 ∷ 187 ∷ b ∷ rest) ≡ false)
+pub no_mark_ends : (b : ℕ) (rest : List ℕ) → (b == 191) ≡ false → (has_mark (239 ∷ 187 ∷ b ∷ rest) ≡ false) × (has_half_mark (239 ∷ 187 ∷ b ∷ rest) ≡ false)
 unfolding has_mark has_half_mark
 no_mark_ends b rest e = (rw e refl, refl)
 

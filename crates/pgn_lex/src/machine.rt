@@ -3,6 +3,7 @@
 ghost use Rattle.std.specs.Prelude.{◌≡◌, ◌+◌, ◌-◌, ◌^◌, ◌<◌, ◌≤◌, ◌++◌, ◌∷◌, [], List, ℕ, true, false, length, take, vec_capacity, OnOk, OnErr, IfOk};
 ghost use Rattle.pgn_lex.specs.Lexing.{Appends};
 ghost use Rattle.pgn_lex.specs.Stages.{begins_line, word_so_far, word_after, grown_value, value_from};
+ghost use Rattle.pgn_lex.specs.Lines.{ends_line};
 ghost use Rattle.pgn_lex.specs.Tokens.{tokens, settled_tokens};
 
 use crate::history::History;
@@ -165,6 +166,13 @@ impl Lexer {
         })
     }
 
+    /// Whether the next byte is the first of its line.
+    pub fn is_at_line(&self) -> bool
+        ensures { result ≡ ends_line self.now.fed }
+    {
+        self.first
+    }
+
     /// Takes the next byte, and appends the tokens that are settled with it: those of the pieces that end before it. The
     /// only error is want of memory, which leaves the lexer and `out` as they were.
     pub fn feed(&mut self, byte: u8, out: &mut Vec<Placed>) -> Result<(), NoMemory>
@@ -192,14 +200,7 @@ impl Lexer {
                     end: self.at,
                     line: self.start_line,
                 };
-                say(
-                    self.alloc,
-                    self.stage,
-                    at,
-                    &self.word,
-                    &self.value,
-                    out,
-                )?;
+                say(self.alloc, self.stage, at, &self.word, &self.value, out)?;
                 self.stage = what_begins(self.first, byte);
                 begin_word(byte, &mut self.word);
                 self.start = self.at;
@@ -227,14 +228,7 @@ impl Lexer {
             end: self.at,
             line: self.start_line,
         };
-        say(
-            self.alloc,
-            self.stage,
-            at,
-            &self.word,
-            &self.value,
-            out,
-        )?;
+        say(self.alloc, self.stage, at, &self.word, &self.value, out)?;
         self.ended = true;
         Ok(())
     }

@@ -152,7 +152,7 @@ none_ended place (x ∷ xs) e =
     open_by u place x xs refl e (λ f. none_ended (place_after u) xs f)
 
 -- a place within a game
-abbrev is_within : Place → Bool
+abbrev pub is_within : Place → Bool
 is_within Before = false
 is_within Tags = true
 is_within (Moves depth) = true
@@ -170,7 +170,7 @@ within_by : (b : Bool) (place next : Place) (token : Token) → (if b then tag_t
 within_by true place next token e = tags_within place next e
 within_by false place next token e = moves_within ((open_at place == 0) && is_some (mark_of token)) (Moves (depth_after (open_at place) token)) next refl e
 
-stays_within : (place next : Place) (token : Token) → turn place token ≡ Stays next → is_within next ≡ true
+pub stays_within : (place next : Place) (token : Token) → turn place token ≡ Stays next → is_within next ≡ true
 unfolding turn
 stays_within place next token e = within_by (is_tag token) place next token e
 

@@ -508,7 +508,7 @@ ended_tokens bytes =
     let m : Machine = machine bytes in
     ap tokens (sym (append-nil bytes)) ∙ settled_first bytes [] ∙ ap (λ ts. settled_tokens bytes ++ ts) (end_gives m.stage m)
 
-read_more : (m : Machine) (xs ys : List ℕ) → read_from m (xs ++ ys) ≡ read_from (read_from m xs) ys
+pub read_more : (m : Machine) (xs ys : List ℕ) → read_from m (xs ++ ys) ≡ read_from (read_from m xs) ys
 unfolding read_from
 read_more m [] ys = refl
 read_more m (x ∷ xs) ys = read_more (stepped m x (next_stage m.stage x)) xs ys

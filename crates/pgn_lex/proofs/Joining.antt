@@ -13,8 +13,9 @@ use Rattle.pgn_lex.specs.Tokens.{piece, placed, line_after, tokens_after, has_ma
 use Rattle.pgn_lex.specs.Lines.{line_feeds, ends_line}
 use Rattle.pgn_lex.specs.Stages.{tokens_at, token_at, Machine, at_front, read_from, machine}
 use Rattle.pgn_lex.specs.Left.{left_of_piece, gives_at}
-use Rattle.pgn_lex.proofs.Feeding.{WellMarked, unmarked, settled_first, ended_tokens, at_length, line_from, well_read}
-use Rattle.pgn_lex.proofs.LineEnds.{is_line_stage, machine_first, line_stage}
+use Rattle.pgn_lex.proofs.Feeding.{WellMarked, unmarked, settled_first, ended_tokens, at_length, line_from, well_read, read_more}
+use Rattle.pgn_lex.proofs.Following.{is_plain}
+use Rattle.pgn_lex.proofs.LineEnds.{is_line_stage, machine_first, plain_first, unmarked_line, line_stage}
 
 -- a token that stands so many bytes and lines further on
 abbrev pub moved_token : ℕ → ℕ → Placed → Placed
@@ -153,3 +154,44 @@ joins_by a b BadRead s l e f = cc
 pub joined_tokens : (a b : List ℕ) → ends_line a ≡ true → (a ≡ []) ⊎ (has_mark b ≡ false) → LeftOpen a ⊎ Joins a b
 joined_tokens a b e (inl none) = inr (joins_none a b (ap length none))
 joined_tokens a b e (inr f) = joins_by a b (machine a).stage refl (line_stage a e) e f
+
+-- lines behind lines
+line_on_none : (a b : List ℕ) → length a ≡ 0 → ends_line b ≡ true → ends_line (a ++ b) ≡ true
+line_on_none [] b e g = g
+line_on_none (x ∷ a) b e g = absurd (omega (arith, e))
+
+line_on : (a b : List ℕ) → is_plain (machine a).stage ≡ true → ends_line a ≡ true → has_mark b ≡ false → ends_line b ≡ true → ends_line (a ++ b) ≡ true
+line_on a b p e f g =
+    sym (machine_first (a ++ b)) ∙ ap (λ (m : Machine). m.first) (read_more at_front a b) ∙ plain_first (machine a) b p
+    ∙ ap (λ x. fold (λ first c. not (in_class InLine c)) x b) (machine_first a ∙ e) ∙ sym (unmarked_line b f) ∙ g
+
+line_by_stage : (a b : List ℕ) (stage : Stage) → (machine a).stage ≡ stage → is_line_stage stage ≡ true → ends_line a ≡ true → has_mark b ≡ false → ends_line b ≡ true → ends_line (a ++ b) ≡ true
+line_by_stage a b Start s l e f g =
+    let w : WellMarked (machine a).stage (machine a).at (machine a).line (machine a).first = well_read at_front a (refl, refl, refl) in
+    let none = rw s at w in
+    line_on_none a b (sym (at_length a) ∙ none.0) g
+line_by_stage a b Marked s l e f g = line_on a b (ap is_plain s) e f g
+line_by_stage a b Between s l e f g = line_on a b (ap is_plain s) e f g
+line_by_stage a b InComment s l e f g = line_on a b (ap is_plain s) e f g
+line_by_stage a b MarkBegun s l e f g = cc
+line_by_stage a b MarkGrown s l e f g = cc
+line_by_stage a b RestOfLine s l e f g = cc
+line_by_stage a b AfterDollar s l e f g = cc
+line_by_stage a b InNumber s l e f g = cc
+line_by_stage a b InWord s l e f g = cc
+line_by_stage a b InTag s l e f g = cc
+line_by_stage a b InName s l e f g = cc
+line_by_stage a b AfterName s l e f g = cc
+line_by_stage a b InValue s l e f g = cc
+line_by_stage a b AfterBackslash s l e f g = cc
+line_by_stage a b AfterValue s l e f g = cc
+line_by_stage a b TagRead s l e f g = cc
+line_by_stage a b Spoilt s l e f g = cc
+line_by_stage a b StarRead s l e f g = cc
+line_by_stage a b EnterRead s l e f g = cc
+line_by_stage a b LeaveRead s l e f g = cc
+line_by_stage a b BadRead s l e f g = cc
+
+pub joined_line : (a b : List ℕ) → ends_line a ≡ true → (a ≡ []) ⊎ (has_mark b ≡ false) → ends_line b ≡ true → ends_line (a ++ b) ≡ true
+joined_line a b e (inl none) g = rw none g
+joined_line a b e (inr f) g = line_by_stage a b (machine a).stage refl (line_stage a e) e f g

@@ -34,7 +34,7 @@ plain_first m (b ∷ bytes) p =
     plain_first (stepped m b (next_stage m.stage b)) bytes h.0 ∙ ap (λ f. fold behind f bytes) h.1
 
 -- a text without the mark
-unmarked_line : (bytes : List ℕ) → has_mark bytes ≡ false → ends_line bytes ≡ fold behind true bytes
+pub unmarked_line : (bytes : List ℕ) → has_mark bytes ≡ false → ends_line bytes ≡ fold behind true bytes
 unfolding ends_line past_mark
 unmarked_line bytes e = rw e refl
 

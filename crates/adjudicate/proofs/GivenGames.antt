@@ -7,7 +7,7 @@ use Rattle.std.proofs.lemmas.List.{length-map, take-map}
 use Rattle.cha_list.specs.declared.classes.Class.TheVariants.{InLine}
 use Rattle.cha_list.specs.Bytes.{in_class}
 use Rattle.pgn_lex.specs.declared.kinds.Placed.{Placed}
-use Rattle.pgn_lex.specs.Tokens.{piece, placed, tokens_after, has_mark, tokens}
+use Rattle.pgn_lex.specs.Tokens.{piece, placed, line_after, tokens_after, has_mark, tokens}
 use Rattle.pgn_lex.proofs.Fed.{placed_one}
 use Rattle.pgn_games.specs.declared.faults.GameFault.{GameFault}
 use Rattle.pgn_games.specs.declared.faults.GameFault.TheVariants.{BadToken, Unclosed, ValueTooLong, Variant, TooManyPlies}
@@ -56,17 +56,19 @@ unfolding placed_games
 few_words bytes n placed e none = few_at (cut Before (tokens bytes)) n placed e none
 
 -- a text has at most as many tokens as bytes, and at most one game more than tokens
-tokens_after_few : (pass at : ℕ) (first : Bool) (bs : List ℕ) → length (tokens_after pass at first bs) ≤ length bs
+tokens_after_few : (pass at line : ℕ) (first : Bool) (bs : List ℕ) → length (tokens_after pass at line first bs) ≤ length bs
 unfolding tokens_after
-tokens_after_few pass at first [] = omega arith
-tokens_after_few (suc pass) at first (b ∷ bs) = omega (arith, tokens_after_few pass (at + 1) (not (in_class InLine b)) bs)
-tokens_after_few zero at first (b ∷ bs) =
+tokens_after_few pass at line first [] = omega arith
+tokens_after_few (suc pass) at line first (b ∷ bs) = omega (arith, tokens_after_few pass (at + 1) (line_after line b) (not (in_class InLine b)) bs)
+tokens_after_few zero at line first (b ∷ bs) =
     let p = piece first b bs in
-    omega (arith, length-append (placed at p.token) (tokens_after p.more (at + 1) (not (in_class InLine b)) bs), placed_one at p.token, tokens_after_few p.more (at + 1) (not (in_class InLine b)) bs)
+    let end = at + 1 + p.more in
+    let rest = tokens_after p.more (at + 1) (line_after line b) (not (in_class InLine b)) bs in
+    omega (arith, length-append (placed at end line p.token) rest, placed_one at end line p.token, tokens_after_few p.more (at + 1) (line_after line b) (not (in_class InLine b)) bs)
 
-tokens_few_if : (v : Bool) (bytes : List ℕ) → length (if v then tokens_after 0 3 true (drop 3 bytes) else tokens_after 0 0 true bytes) ≤ length bytes
-tokens_few_if true bytes = omega (arith, tokens_after_few 0 3 true (drop 3 bytes), length-drop 3 bytes)
-tokens_few_if false bytes = tokens_after_few 0 0 true bytes
+tokens_few_if : (v : Bool) (bytes : List ℕ) → length (if v then tokens_after 0 3 1 true (drop 3 bytes) else tokens_after 0 0 1 true bytes) ≤ length bytes
+tokens_few_if true bytes = omega (arith, tokens_after_few 0 3 1 true (drop 3 bytes), length-drop 3 bytes)
+tokens_few_if false bytes = tokens_after_few 0 0 1 true bytes
 
 tokens_few : (bytes : List ℕ) → length (tokens bytes) ≤ length bytes
 unfolding tokens

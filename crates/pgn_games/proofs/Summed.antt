@@ -149,6 +149,7 @@ span_more (u ∷ told) t =
   where
     later : Placed → ℕ → Span
     later v e = record { start = v.offset; end = e; line = v.line }
+
     some_length : (n : ℕ) → (suc n == 0) ≡ false
     some_length n = grind (arith, nat_tests)
 

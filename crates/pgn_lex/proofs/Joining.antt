@@ -116,8 +116,8 @@ joins_there a b e unmarked_b none gives =
     let settled : tokens a ≡ settled_tokens a = ended_tokens a ∙ ap (λ ts. settled_tokens a ++ ts) none ∙ append-nil (settled_tokens a) in
     let zero_on : n ≡ n + 0 = omega arith in
     settled_first a b ∙ ap (λ ts. ts ++ gives_at m.stage m b) (sym settled) ∙ ap (λ ts. tokens a ++ ts) (
-      gives ∙ ap (λ x. tokens_after 0 x m.line m.first b) (at_length a ∙ zero_on) ∙ ap (λ x. tokens_after 0 (n + 0) x m.first b) (line_there a)
-      ∙ ap (λ f. tokens_after 0 (n + 0) (k + 1) f b) (machine_first a ∙ e) ∙ after_moved n k 0 0 1 true b ∙ ap (map (moved_token n k)) (sym (unmarked b unmarked_b))
+    gives ∙ ap (λ x. tokens_after 0 x m.line m.first b) (at_length a ∙ zero_on) ∙ ap (λ x. tokens_after 0 (n + 0) x m.first b) (line_there a)
+    ∙ ap (λ f. tokens_after 0 (n + 0) (k + 1) f b) (machine_first a ∙ e) ∙ after_moved n k 0 0 1 true b ∙ ap (map (moved_token n k)) (sym (unmarked b unmarked_b))
     )
 
 joins_by : (a b : List ℕ) (stage : Stage) → (machine a).stage ≡ stage → is_line_stage stage ≡ true → ends_line a ≡ true → has_mark b ≡ false → LeftOpen a ⊎ Joins a b

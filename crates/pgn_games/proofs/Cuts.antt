@@ -1,12 +1,14 @@
 -- Where a game ends.
-use Rattle.std.proofs.Common.{◌≡◌, ℕ, ◌+◌, ◌≤◌, ◌==◌, ◌&&◌, Bool, true, false, if◌then◌else◌, List, ◌∷◌, is_some, refl, arith}
+use Rattle.std.proofs.Common.{◌≡◌, ℕ, ◌+◌, ◌≤◌, ◌==◌, ◌&&◌, ◌<◌, Bool, true, false, if◌then◌else◌, List, ◌∷◌, length, drop, slice_index_or, is_some, refl, sym, ap, ◌∙◌, arith}
+use Rattle.std.proofs.lemmas.List.{drop_more, drop_all}
 use Rattle.pgn_lex.specs.declared.kinds.Token.{Token}
 use Rattle.pgn_lex.specs.declared.kinds.Token.TheVariants.{Tag, BadTag, Word, Star, Enter, Leave, Bad, Unclosed}
 use Rattle.pgn_lex.specs.declared.kinds.Placed.{Placed}
 use Rattle.pgn_games.specs.declared.token_turns.Place.{Place}
 use Rattle.pgn_games.specs.declared.token_turns.Place.TheVariants.{Before, Tags, Moves}
+use Rattle.pgn_games.specs.declared.token_turns.Turn.{Turn}
 use Rattle.pgn_games.specs.declared.token_turns.Turn.TheVariants.{Stays, Ends, Begins}
-use Rattle.pgn_games.specs.Cutting.{mark_of, is_tag, depth_after, open_at, tag_turn, move_turn, turn, place_after, put, cut}
+use Rattle.pgn_games.specs.Cutting.{mark_of, is_tag, depth_after, open_at, tag_turn, move_turn, turn, place_after, place_behind, put, cut}
 
 pub cut_step : (place : Place) (t : Placed) (ts : List Placed) → cut place (t ∷ ts) ≡ put (turn place t.token) t (cut (place_after (turn place t.token)) ts)
 unfolding cut
@@ -55,3 +57,21 @@ opens_by false place next token e = moves_open ((open_at place == 0) && is_some 
 pub opens : (place next : Place) (token : Token) → turn place token ≡ Stays next → open_at next ≤ open_at place + 1
 unfolding turn
 opens place next token e = opens_by (is_tag token) place next token e
+
+after_by : (u : Turn) (place : Place) (token : Token) → turn place token ≡ u → open_at (place_after u) ≤ open_at place + 1
+after_by (Stays next) place token e = opens place next token e
+after_by Ends place token e = omega arith
+after_by Begins place token e = omega arith
+
+pub opens_after : (place : Place) (token : Token) → open_at (place_after (turn place token)) ≤ open_at place + 1
+opens_after place token = after_by (turn place token) place token refl
+
+-- from token to token
+pub led_on : (tokens : List Placed) (i : ℕ) (t : Placed) (start stand stand' : Place) (u : Turn) → i < length tokens → t ≡ slice_index_or tokens i t → u ≡ turn stand t.token → stand' ≡ place_after u
+    → place_behind stand (drop i tokens) ≡ place_behind start tokens → place_behind stand' (drop (i + 1) tokens) ≡ place_behind start tokens
+led_on tokens i t start stand stand' u inside is e f before =
+    let cut : drop i tokens ≡ t ∷ drop (i + 1) tokens = drop_more tokens i t inside ∙ ap (λ x. x ∷ drop (i + 1) tokens) (sym is) in
+    ap (λ p. place_behind p (drop (i + 1) tokens)) (f ∙ ap place_after e) ∙ ap (place_behind stand) (sym cut) ∙ before
+
+pub led_end : (tokens : List Placed) (i : ℕ) (start stand : Place) → length tokens ≤ i → place_behind stand (drop i tokens) ≡ place_behind start tokens → stand ≡ place_behind start tokens
+led_end tokens i start stand large before = ap (place_behind stand) (sym (drop_all i tokens large)) ∙ before

@@ -13,7 +13,7 @@ use Rattle.pgn_games.specs.Games.{is_open}
 -- tokens in a row, each of a byte
 from : ℕ → List Token → List Placed
 from at [] = []
-from at (t ∷ ts) = record { token = t; offset = at } ∷ from (suc at) ts
+from at (t ∷ ts) = record { token = t; offset = at; end = suc at; line = 1 } ∷ from (suc at) ts
 
 word : List ℕ → Token
 word text = Word text

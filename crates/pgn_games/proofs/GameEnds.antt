@@ -1,13 +1,14 @@
 -- Where games end.
 use Rattle.std.proofs.Common.{◌≡◌, ℕ, zero, suc, ◌+◌, ◌<◌, ◌≤◌, ◌==◌, ◌&&◌, Bool, true, false, if◌then◌else◌, List, [], ◌∷◌, ◌++◌, Option, Some, None, is_some, length, take, drop, refl, sym, ap, ◌∙◌, subst, arith, append-nil, append_assoc, length-append}
 use Rattle.std.proofs.lemmas.Option.{same_Some}
+use Rattle.std.proofs.lemmas.List.Sums.{fold_push}
 use Rattle.pgn_lex.specs.declared.kinds.Token.{Token}
 use Rattle.pgn_lex.specs.declared.kinds.Placed.{Placed}
 use Rattle.pgn_games.specs.declared.token_turns.Place.{Place}
 use Rattle.pgn_games.specs.declared.token_turns.Place.TheVariants.{Before, Tags, Moves}
 use Rattle.pgn_games.specs.declared.token_turns.Turn.{Turn}
 use Rattle.pgn_games.specs.declared.token_turns.Turn.TheVariants.{Stays, Ends, Begins}
-use Rattle.pgn_games.specs.Cutting.{mark_of, is_tag, depth_after, open_at, tag_turn, move_turn, turn, place_after, onto, put, cut}
+use Rattle.pgn_games.specs.Cutting.{mark_of, is_tag, depth_after, open_at, tag_turn, move_turn, turn, place_after, place_behind, onto, put, cut}
 use Rattle.pgn_games.specs.Settling.{ends_by, games_ended}
 use Rattle.pgn_games.specs.Holding.{shifted, size_with, first_end, IsScanned}
 use Rattle.pgn_games.proofs.Cuts.{cut_step, tag_begins, opens}
@@ -111,6 +112,27 @@ closes place (x ∷ xs) n ts e =
     let u = turn place x.token in
     closes_by u place x xs n ts refl e (λ m f. closes (place_after u) xs m ts f)
 
+-- behind the end of a game a reader stands before the next one
+place_by : (u : Turn) (place : Place) (x : Placed) (xs : List Placed) (n : ℕ) → turn place x.token ≡ u → size_with u (first_end (place_after u) xs) ≡ Some n
+    → ((m : ℕ) → first_end (place_after u) xs ≡ Some m → place_behind (place_after u) xs ≡ place_behind Before (drop m xs)) → place_behind place (x ∷ xs) ≡ place_behind Before (drop n (x ∷ xs))
+place_by (Stays p) place x xs n e f later =
+    let o = one_in_front 0 n (first_end p xs) f in
+    ap (λ v. place_behind (place_after v) xs) e ∙ later o.0 o.1 ∙ ap (λ k. place_behind Before (drop k (x ∷ xs))) (sym o.2)
+place_by Ends place x xs n e f later =
+    let one : n ≡ 1 = sym (same_Some 1 n f) in
+    ap (λ v. place_behind (place_after v) xs) e ∙ ap (λ k. place_behind Before (drop k (x ∷ xs))) (sym one)
+place_by Begins place x xs n e f later =
+    let none : n ≡ 0 = sym (same_Some 0 n f) in
+    ap (λ v. place_behind (place_after v) xs) e ∙ ap (λ v. place_behind (place_after v) xs) (sym (tag_begins place x.token e))
+    ∙ ap (λ k. place_behind Before (drop k (x ∷ xs))) (sym none)
+
+pub ended_place : (place : Place) (xs : List Placed) (n : ℕ) → first_end place xs ≡ Some n → place_behind place xs ≡ place_behind Before (drop n xs)
+unfolding first_end
+ended_place place [] n e = cc
+ended_place place (x ∷ xs) n e =
+    let u = turn place x.token in
+    place_by u place x xs n refl e (λ m f. ended_place (place_after u) xs m f)
+
 -- tokens that end no game
 none_in_front : (o : Option ℕ) → shifted 1 o ≡ None → o ≡ None
 none_in_front None e = refl
@@ -130,7 +152,7 @@ none_ended place (x ∷ xs) e =
     open_by u place x xs refl e (λ f. none_ended (place_after u) xs f)
 
 -- a place within a game
-abbrev is_within : Place → Bool
+abbrev pub is_within : Place → Bool
 is_within Before = false
 is_within Tags = true
 is_within (Moves depth) = true
@@ -148,7 +170,7 @@ within_by : (b : Bool) (place next : Place) (token : Token) → (if b then tag_t
 within_by true place next token e = tags_within place next e
 within_by false place next token e = moves_within ((open_at place == 0) && is_some (mark_of token)) (Moves (depth_after (open_at place) token)) next refl e
 
-stays_within : (place next : Place) (token : Token) → turn place token ≡ Stays next → is_within next ≡ true
+pub stays_within : (place next : Place) (token : Token) → turn place token ≡ Stays next → is_within next ≡ true
 unfolding turn
 stays_within place next token e = within_by (is_tag token) place next token e
 
@@ -210,6 +232,7 @@ scanned_more game place next t h e = record {
   goes_on = λ ts. ap (first_end Before) (append_assoc game (t ∷ []) ts) ∙ h.goes_on (t ∷ ts) ∙ ap (shifted (length game)) (end_by (Stays next) place t ts e)
       ∙ shift_twice (length game) (length (game ++ t ∷ [])) (first_end next ts) (one_longer game t);
   shallow = omega (arith, h.shallow, opens place next t.token e, one_longer game t);
+  stands = fold_push (λ before later. place_after (turn before later.token)) Before game t ∙ ap (λ p. place_after (turn p t.token)) h.stands ∙ ap place_after e;
 }
 
 pub ends_scanned : (game : List Placed) (place : Place) (t : Placed) (ts : List Placed) → IsScanned game place → turn place t.token ≡ Ends → first_end Before ((game ++ t ∷ []) ++ ts) ≡ Some (length (game ++ t ∷ []))
@@ -225,7 +248,7 @@ unfolding first_end
 none_scanned game place h = ap (first_end Before) (sym (append-nil game)) ∙ h.goes_on []
 
 pub nothing_scanned : IsScanned [] Before
-nothing_scanned = record { goes_on = λ ts. sym (shift_none (first_end Before ts)); shallow = omega arith }
+nothing_scanned = record { goes_on = λ ts. sym (shift_none (first_end Before ts)); shallow = omega arith; stands = refl }
   where
     shift_none : (o : Option ℕ) → shifted 0 o ≡ o
     shift_none None = refl

@@ -1,20 +1,23 @@
 -- The tokens that a reader keeps, and the games that they make up.
-use Rattle.std.proofs.Common.{◌≡◌, ◌==◌, ℕ, zero, suc, ◌+◌, ◌-◌, ◌^◌, ◌<◌, ◌≤◌, Bool, true, false, List, [], ◌∷◌, ◌++◌, Some, length, take, drop, map, refl, sym, ap, ◌∙◌, arith, append-nil, append_assoc, length-append}
+use Rattle.std.proofs.Common.{◌≡◌, ◌==◌, ℕ, zero, suc, ◌+◌, ◌-◌, ◌^◌, ◌<◌, ◌≤◌, Bool, true, false, ◌&&◌, List, [], ◌∷◌, ◌++◌, Some, length, take, drop, map, refl, sym, ap, ◌∙◌, arith, append-nil, append_assoc, length-append}
 use Rattle.std.specs.List.{slice_get}
 use Rattle.std.proofs.lemmas.Bool.Decides.{nat_tests}
 use Rattle.std.proofs.lemmas.List.{length-map, take-map}
+use Rattle.std.proofs.lemmas.List.Sums.{fold-append}
 use Rattle.std.proofs.Math.Seq.{take-append_seam}
 use Rattle.pgn_lex.specs.declared.kinds.Placed.{Placed}
 use Rattle.pgn_lex.specs.Lexing.{Appends}
+use Rattle.pgn_lex.specs.Lines.{ends_line}
 use Rattle.pgn_lex.specs.Tokens.{tokens, has_mark, settled_after, has_half_mark, settled_tokens}
 use Rattle.pgn_lex.proofs.Feeding.{settled_first}
 use Rattle.pgn_games.specs.declared.played.PlacedGame.{PlacedGame}
 use Rattle.pgn_games.specs.declared.token_turns.Place.TheVariants.{Before}
-use Rattle.pgn_games.specs.Cutting.{cut}
-use Rattle.pgn_games.specs.Games.{placed_game_of, placed_games}
+use Rattle.pgn_games.specs.declared.token_turns.Place.{Place}
+use Rattle.pgn_games.specs.Cutting.{turn, place_after, place_behind, is_before, cut}
+use Rattle.pgn_games.specs.Games.{placed_game_of, placed_games, is_closed}
 use Rattle.pgn_games.specs.Settling.{games_ended, settled_games}
 use Rattle.pgn_games.specs.Holding.{first_end, IsScanned, IsCut, IsCutAtEnd, IsOpen, IsLast}
-use Rattle.pgn_games.proofs.GameEnds.{closes, none_ended, some_first, none_scanned, nothing_scanned, open_game}
+use Rattle.pgn_games.proofs.GameEnds.{closes, ended_place, none_ended, some_first, none_scanned, nothing_scanned, open_game}
 
 -- before the first byte
 pub nothing_cut : IsCut [] [] 0
@@ -23,8 +26,13 @@ nothing_cut = record {
   number = refl;
   cuts = λ ts. refl;
   counts = λ ts. let f : games_ended Before ts ≡ 0 + games_ended Before ts = omega arith in f;
+  places = refl;
   few = omega arith;
 }
+
+-- the place behind tokens and more tokens
+place_on : (ts us : List Placed) → place_behind Before (ts ++ us) ≡ place_behind (place_behind Before ts) us
+place_on ts us = fold-append (λ before t. place_after (turn before t.token)) Before ts us
 
 -- tokens more
 pub told_more : (told told' kept kept' added : List Placed) (given : ℕ) → IsCut told kept given → told' ≡ told ++ added → kept' ≡ kept ++ added → IsCut told' kept' given
@@ -33,6 +41,7 @@ told_more told told' kept kept' added given h e f = rw (e, f) (record {
   number = h.number;
   cuts = λ ts. ap (cut Before) (append_assoc told added ts) ∙ h.cuts (added ++ ts) ∙ ap (λ xs. h.games ++ cut Before xs) (sym (append_assoc kept added ts));
   counts = λ ts. ap (games_ended Before) (append_assoc told added ts) ∙ h.counts (added ++ ts) ∙ ap (λ xs. given + games_ended Before xs) (sym (append_assoc kept added ts));
+  places = place_on told added ∙ ap (λ p. place_behind p added) h.places ∙ sym (place_on kept added);
   few = omega (arith, h.few, length-append told added, length-append kept added);
 })
 
@@ -70,6 +79,7 @@ gave_open told game behind kept given given' h whole k g = rw (k, g) (record {
   number = omega (arith, h.number, length-append h.games (game ∷ []));
   cuts = λ ts. h.cuts ts ∙ ap (λ gs. h.games ++ gs) (first_game game behind ts whole) ∙ one_behind h.games game (cut Before (behind ++ ts));
   counts = λ ts. h.counts ts ∙ counted (closes Before (game ++ behind) (length game) ts whole).1 (ap (λ xs. games_ended Before (xs ++ ts)) (back_is game behind));
+  places = h.places ∙ ended_place Before (game ++ behind) (length game) whole ∙ ap (place_behind Before) (back_is game behind);
   few = omega (arith, h.few, length-append game behind, some_first (game ++ behind) (length game) whole);
 })
   where
@@ -102,7 +112,7 @@ at_place (g ∷ games) game later all (suc given) n e = rw e (at_place games gam
 
 pub game_open : (fed bytes rest : List ℕ) (game behind : List Placed) (given : ℕ) → IsCut (settled_tokens fed) (game ++ behind) given → first_end Before (game ++ behind) ≡ Some (length game) → bytes ≡ fed ++ rest
     → slice_get (placed_games bytes) given ≡ Some (placed_game_of game)
-unfolding games
+unfolding placed_games
 game_open fed bytes rest game behind given h whole e =
     let first = settled_first fed rest in
     let all = ap tokens e ∙ first in
@@ -110,12 +120,12 @@ game_open fed bytes rest game behind given h whole e =
 
 pub game_last : (fed bytes : List ℕ) (game behind : List Placed) (given : ℕ) → IsCutAtEnd (tokens fed) (game ++ behind) given → cut Before (game ++ behind) ≡ game ∷ cut Before behind → bytes ≡ fed
     → slice_get (placed_games bytes) given ≡ Some (placed_game_of game)
-unfolding games
+unfolding placed_games
 game_last fed bytes game behind given h first e =
     at_place h.games game (cut Before behind) (cut Before (tokens bytes)) given h.number (ap (λ bs. cut Before (tokens bs)) e ∙ h.cuts ∙ ap (λ gs. h.games ++ gs) first)
 
 pub none_last : (fed bytes : List ℕ) (kept : List Placed) (given : ℕ) → IsCutAtEnd (tokens fed) kept given → kept ≡ [] → bytes ≡ fed → length (placed_games bytes) ≤ given
-unfolding games cut
+unfolding placed_games cut
 none_last fed bytes kept given h none e =
     let all : cut Before (tokens bytes) ≡ h.games = ap (λ bs. cut Before (tokens bs)) e ∙ h.cuts ∙ ap (λ xs. h.games ++ cut Before xs) none ∙ append-nil h.games in
     omega (arith, length-map (cut Before (tokens bytes)) placed_game_of, ap length all, h.number)
@@ -125,14 +135,14 @@ front_of : (all games later : List (List Placed)) (given : ℕ) → all ≡ game
 front_of all games later given e n = rw (e, ← n) (take-append_seam games later)
 
 fronts : (fed rest : List ℕ) (kept : List Placed) (given : ℕ) → (h : IsCut (settled_tokens fed) kept given) → take given (placed_games (fed ++ rest)) ≡ map placed_game_of h.games
-unfolding games
+unfolding placed_games
 fronts fed rest kept given h =
     take-map placed_game_of given (cut Before (tokens (fed ++ rest)))
     ∙ ap (map placed_game_of) (front_of (cut Before (tokens (fed ++ rest))) h.games _ given (ap (cut Before) (settled_first fed rest) ∙ h.cuts _) h.number)
 
-pub same_front : (fed a b rest rest' : List ℕ) (kept : List Placed) (given : ℕ) → IsCut (settled_tokens fed) kept given → a ≡ fed ++ rest → b ≡ fed ++ rest' → take given (games a) ≡ take given (games b)
+pub same_front : (fed a b rest rest' : List ℕ) (kept : List Placed) (given : ℕ) → IsCut (settled_tokens fed) kept given → a ≡ fed ++ rest → b ≡ fed ++ rest' → take given (placed_games a) ≡ take given (placed_games b)
 same_front fed a b rest rest' kept given h e f =
-    ap (λ x. take given (games x)) e ∙ fronts fed rest kept given h ∙ sym (fronts fed rest' kept given h) ∙ ap (λ x. take given (games x)) (sym f)
+    ap (λ x. take given (placed_games x)) e ∙ fronts fed rest kept given h ∙ sym (fronts fed rest' kept given h) ∙ ap (λ x. take given (placed_games x)) (sym f)
 
 -- each settled game was given
 pub all_settled : (fed bytes : List ℕ) (game behind : List Placed) (place : _) (given : ℕ) → IsCut (settled_tokens fed) (game ++ behind) given → IsScanned game place → behind ≡ [] → bytes ≡ fed → settled_games bytes ≤ given
@@ -171,12 +181,26 @@ ended fed fed' lexer_ended game behind behind' piece used given taken h same non
   few_bytes = omega (arith, h.few_bytes, h.taken_is);
 })
 
+-- the text is closed where a line begins and no game is open
+pub ends_closed : (fed fed' : List ℕ) (lexer_ended : Bool) (game behind behind' : List Placed) (place place' : Place) (piece : List ℕ) (used given taken : ℕ) (line closed : Bool)
+    → IsOpen fed lexer_ended (game ++ behind) piece used given taken → IsScanned game place → behind ≡ [] → fed' ≡ fed → piece ≡ []
+    → Appends behind behind' (settled_tokens fed) (tokens fed) → line ≡ ends_line fed' → place' ≡ place_behind place behind' → closed ≡ (line && is_before place') → closed ≡ is_closed (fed' ++ drop used piece)
+unfolding is_closed
+ends_closed fed fed' lexer_ended game behind behind' place place' piece used given taken line closed h scanned none same nothing a l p c =
+    let all : fed' ++ drop used piece ≡ fed = ap (λ xs. fed' ++ drop used xs) nothing ∙ ap (λ xs. fed' ++ xs) (drop_none used) ∙ append-nil fed' ∙ same in
+    let added : behind' ≡ a.added = a.appended ∙ ap (λ xs. xs ++ a.added) none in
+    let kept : game ++ behind ≡ game = ap (λ xs. game ++ xs) none ∙ append-nil game in
+    let whole : place_behind Before (tokens fed) ≡ place_behind place behind' =
+    ap (place_behind Before) a.are_next ∙ place_on (settled_tokens fed) a.added ∙ ap (λ q. place_behind q a.added) (h.told.places ∙ ap (place_behind Before) kept ∙ scanned.stands)
+    ∙ ap (place_behind place) (sym added) in
+    c ∙ ap (λ b. b && is_before place') (l ∙ ap ends_line same) ∙ ap (λ q. ends_line fed && is_before q) (p ∙ sym whole) ∙ ap (λ bs. ends_line bs && is_before (place_behind Before (tokens bs))) (sym all)
+
 -- more bytes are taken
-pub next_front : (fed was now rest rest' : List ℕ) (kept : List Placed) (given g : ℕ) (whole : List Game) → IsCut (settled_tokens fed) kept given → given ≡ g → fed ++ rest ≡ was → now ≡ fed ++ rest'
-    → take g (games was) ≡ whole → take g (games now) ≡ whole
+pub next_front : (fed was now rest rest' : List ℕ) (kept : List Placed) (given g : ℕ) (whole : List PlacedGame) → IsCut (settled_tokens fed) kept given → given ≡ g → fed ++ rest ≡ was → now ≡ fed ++ rest'
+    → take g (placed_games was) ≡ whole → take g (placed_games now) ≡ whole
 next_front fed was now rest rest' kept given g whole h same e f before =
-    let one : take given (games now) ≡ take given (games was) = same_front fed now was rest' rest kept given h f (sym e) in
-    ap (λ n. take n (games now)) (sym same) ∙ one ∙ ap (λ n. take n (games was)) same ∙ before
+    let one : take given (placed_games now) ≡ take given (placed_games was) = same_front fed now was rest' rest kept given h f (sym e) in
+    ap (λ n. take n (placed_games now)) (sym same) ∙ one ∙ ap (λ n. take n (placed_games was)) same ∙ before
 
 -- nothing is left of a piece
 pub none_behind : (fed fed' piece : List ℕ) (used : ℕ) → fed' ≡ fed → piece ≡ [] → fed' ++ drop used piece ≡ fed

@@ -1,3 +1,4 @@
+pub mod BehindClosed
 pub mod Cuts
 pub mod EachToken
 pub mod GameEnds
@@ -5,6 +6,7 @@ pub mod Examples
 pub mod KeptTokens
 pub mod KeptWords
 pub mod Moved
+pub mod MovedFields
 pub mod Settled
 pub mod Summed
 pub mod Told

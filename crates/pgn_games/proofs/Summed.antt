@@ -13,7 +13,9 @@ use Rattle.pgn_lex.specs.declared.kinds.Placed.{Placed}
 use Rattle.pgn_games.specs.declared.marks.ResultMark.{ResultMark}
 use Rattle.pgn_games.specs.Cutting.{mark_of, depth_after}
 use Rattle.pgn_games.specs.Fields.{outside, outside_at, depth_at_end, value_named, tag_value, move_word, move_words, bad_offset, first_bad, is_unclosed, is_cut}
-use Rattle.pgn_games.specs.Summing.{word_outside, with_word, first_mark, HasValues, IsSummary}
+use Rattle.pgn_games.specs.declared.played.Span.{Span}
+use Rattle.pgn_games.specs.Games.{span_of}
+use Rattle.pgn_games.specs.Summing.{span_with, word_outside, with_word, first_mark, HasValues, IsSummary}
 use Rattle.pgn_games.proofs.Cuts.{deeper_by_one}
 
 -- the first of two lists
@@ -82,15 +84,16 @@ kept_with all None = ap (take 12001) (sym (append-nil (take 12001 all))) ∙ cut
 kept_with all (Some word) = cut_alike 12001 all (word ∷ [])
 
 -- nothing is kept of no token
-nothing_yet : IsSummary [] true 0 None false false None [] × HasValues [] None None None
-unfolding first_bad move_words outside tag_value
+nothing_yet : IsSummary [] true 0 None false false None [] × HasValues [] None None None × (◌≡◌ {A = Span} (record { start = 0; end = 0; line = 0 }) (span_of []))
+unfolding span_of first_bad move_words outside tag_value
 nothing_yet = (
   record { empty_is = refl; depth_is = refl; bad_is = refl; unclosed_is = refl; cut_is = refl; recorded_is = refl; words_is = refl },
   record { variant_is = refl; fen_is = refl; termination_is = refl },
+  refl,
 )
 
 pub nothing_summed : (told : List Placed) (variant fen termination : Option (List ℕ)) (words : List (List ℕ)) → told ≡ [] → variant ≡ None → fen ≡ None → termination ≡ None → words ≡ []
-    → IsSummary told true 0 None false false None words × HasValues told variant fen termination
+    → IsSummary told true 0 None false false None words × HasValues told variant fen termination × (◌≡◌ {A = Span} (record { start = 0; end = 0; line = 0 }) (span_of told))
 nothing_summed told variant fen termination words e f g h i = rw (e, f, g, h, i) nothing_yet
 
 -- one token more
@@ -137,6 +140,20 @@ deep n (t ∷ told) = omega (arith, deep (depth_after n t.token) told, deeper_by
 
 pub shallow : (told : List Placed) (depth : ℕ) → depth ≡ depth_at_end told → depth ≤ length told
 shallow told depth e = omega (arith, e, deep 0 told)
+
+span_more : (told : List Placed) (t : Placed) → span_of (told ++ t ∷ []) ≡ span_with (length told == 0) (span_of told) t
+unfolding span_of
+span_more [] t = refl
+span_more (u ∷ told) t =
+    ap (λ (e : ℕ). later u e) (fold_push (λ end later. later.end) u.end told t) ∙ ap (λ b. span_with b (span_of (u ∷ told)) t) (sym (some_length (length told)))
+  where
+    later : Placed → ℕ → Span
+    later v e = record { start = v.offset; end = e; line = v.line }
+    some_length : (n : ℕ) → (suc n == 0) ≡ false
+    some_length n = grind (arith, nat_tests)
+
+pub spanned : (told told' : List Placed) (t : Placed) (empty : Bool) (span span' : Span) → empty ≡ (length told == 0) → span ≡ span_of told → told' ≡ told ++ t ∷ [] → span' ≡ span_with empty span t → span' ≡ span_of told'
+spanned told told' t empty span span' e f g h = h ∙ ap (λ b. span_with b span t) e ∙ ap (λ s. span_with (length told == 0) s t) f ∙ sym (span_more told t) ∙ ap span_of (sym g)
 
 pub values_next : (told told' : List Placed) (t : Placed) (variant variant' fen fen' termination termination' : Option (List ℕ)) → HasValues told variant fen termination → told' ≡ told ++ t ∷ []
     → variant' ≡ option_or variant (value_named (codes "Variant") t.token) → fen' ≡ option_or fen (value_named (codes "FEN") t.token) → termination' ≡ option_or termination (value_named (codes "Termination") t.token)

@@ -1,5 +1,6 @@
 -- How the tokens of a text are cut into games.
 use Rattle.std.specs.Prelude.{ℕ, ◌+◌, ◌-◌, ◌==◌, Bool, true, false, ◌&&◌, if◌then◌else◌, List, [], ◌∷◌, Option, Some, None, is_some, codes}
+use Rattle.std.specs.List.{fold}
 use Rattle.std.specs.Str.{bytes_eq}
 use Rattle.pgn_lex.specs.declared.kinds.Token.{Token}
 use Rattle.pgn_lex.specs.declared.kinds.Token.TheVariants.{Tag, BadTag, Word, Star, Enter, Leave}
@@ -55,6 +56,15 @@ abbrev pub place_after : Turn → Place
 place_after (Stays place) = place
 place_after Ends = Before
 place_after Begins = Tags
+
+-- the place behind tokens
+abbrev pub place_behind : Place → List Placed → Place
+place_behind place ts = fold (λ before t. place_after (turn before t.token)) place ts
+
+-- no game is open at a place
+abbrev pub is_before : Place → Bool
+is_before Before = true
+is_before _ = false
 
 -- a token in front of the first of these games
 abbrev pub onto : Placed → List (List Placed) → List (List Placed)

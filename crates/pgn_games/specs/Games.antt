@@ -1,6 +1,6 @@
 -- The games of a text.
-use Rattle.std.specs.Prelude.{ℕ, Bool, true, false, not, if◌then◌else◌, List, map, take, length, Option, Some, None, Result, Ok, Err, codes, nat_lt}
-use Rattle.std.specs.List.{list_any}
+use Rattle.std.specs.Prelude.{ℕ, Bool, true, false, not, ◌&&◌, if◌then◌else◌, List, [], ◌∷◌, map, take, length, Option, Some, None, Result, Ok, Err, codes, nat_lt}
+use Rattle.std.specs.List.{fold, list_any}
 use Rattle.std.specs.Option.{option_map, option_or}
 use Rattle.cha_board.specs.declared.men.Color.TheVariants.{White}
 use Rattle.cha_board.specs.declared.opening.TheConstants.{OPENING_MEN}
@@ -8,6 +8,7 @@ use Rattle.cha_board.specs.Board.{Board}
 use Rattle.cha_fen.specs.declared.faults.FenFault.{FenFault}
 use Rattle.cha_fen.specs.Fen.{fen}
 use Rattle.pgn_lex.specs.declared.kinds.Placed.{Placed}
+use Rattle.pgn_lex.specs.Lines.{ends_line}
 use Rattle.pgn_lex.specs.Tokens.{tokens}
 use Rattle.pgn_games.specs.declared.faults.GameFault.{GameFault}
 use Rattle.pgn_games.specs.declared.faults.GameFault.TheVariants.{BadToken, Unclosed, ValueTooLong, Variant, BadStart, TooManyPlies}
@@ -15,7 +16,7 @@ use Rattle.pgn_games.specs.declared.played.Game.{Game}
 use Rattle.pgn_games.specs.declared.played.PlacedGame.{PlacedGame}
 use Rattle.pgn_games.specs.declared.played.Span.{Span}
 use Rattle.pgn_games.specs.declared.token_turns.Place.TheVariants.{Before}
-use Rattle.pgn_games.specs.Cutting.{cut}
+use Rattle.pgn_games.specs.Cutting.{cut, place_behind, is_before}
 use Rattle.pgn_games.specs.Fields.{depth_at_end, tag_value, recorded_in, move_words, first_bad, is_unclosed, is_cut, says_forfeit, says_chess, passes}
 
 -- the opening position (Laws of Chess, Article 2.3)
@@ -80,17 +81,19 @@ game_of slice = record {
   fault = fault_of slice;
 }
 
--- where the game of these tokens stands
-abbrev pub span_of : List Placed → Span
-span_of slice = record { start = 0; end = 0; line = 0 }
+-- where the game of these tokens stands: from its first token to its last one, and in which line it begins
+unfoldable pub span_of : List Placed → Span
+span_of [] = record { start = 0; end = 0; line = 0 }
+span_of (t ∷ ts) = record { start = t.offset; end = fold (λ end later. later.end) t.end ts; line = t.line }
 
 -- the game of these tokens, and where it stands
 abbrev pub placed_game_of : List Placed → PlacedGame
 placed_game_of slice = record { span = span_of slice; game = game_of slice }
 
--- reading a text leaves a reader as new
-abbrev pub is_closed : List ℕ → Bool
-is_closed bytes = false
+-- Reading a text leaves a reader as new: the next byte begins a line, and no game is open. A comment or a string that is open
+-- is a token of an open game (this project).
+unfoldable pub is_closed : List ℕ → Bool
+is_closed bytes = ends_line bytes && is_before (place_behind Before (tokens bytes))
 
 -- the games of a text, in order
 unfoldable pub games : List ℕ → List Game

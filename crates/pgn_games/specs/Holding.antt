@@ -7,7 +7,7 @@ use Rattle.pgn_games.specs.declared.token_turns.Place.{Place}
 use Rattle.pgn_games.specs.declared.token_turns.Place.TheVariants.{Before}
 use Rattle.pgn_games.specs.declared.token_turns.Turn.{Turn}
 use Rattle.pgn_games.specs.declared.token_turns.Turn.TheVariants.{Stays, Ends, Begins}
-use Rattle.pgn_games.specs.Cutting.{turn, place_after, open_at, cut}
+use Rattle.pgn_games.specs.Cutting.{turn, place_after, place_behind, open_at, cut}
 use Rattle.pgn_games.specs.Settling.{games_ended}
 
 -- a size, with more in front
@@ -30,6 +30,7 @@ first_end place (t ∷ ts) = size_with (turn place t.token) (first_end (place_af
 pub record IsScanned (game : List Placed) (place : Place) : Type 0 where
   pub goes_on : (ts : List Placed) → first_end Before (game ++ ts) ≡ shifted (length game) (first_end place ts)
   pub shallow : open_at place ≤ length game
+  pub stands : place_behind Before game ≡ place
 
 -- of the tokens that were told, all but these belong to so many games, whatever tokens follow
 pub record IsCut (told rest : List Placed) (given : ℕ) : Type 0 where
@@ -37,6 +38,7 @@ pub record IsCut (told rest : List Placed) (given : ℕ) : Type 0 where
   pub number : length games ≡ given
   pub cuts : (ts : List Placed) → cut Before (told ++ ts) ≡ games ++ cut Before (rest ++ ts)
   pub counts : (ts : List Placed) → games_ended Before (told ++ ts) ≡ given + games_ended Before (rest ++ ts)
+  pub places : place_behind Before told ≡ place_behind Before rest
   pub few : given + length rest ≤ length told
 
 -- the same where no token follows

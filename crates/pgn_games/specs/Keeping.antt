@@ -4,6 +4,7 @@ use Rattle.cha_list.specs.declared.memory.NoMemory.{NoMemory}
 use Rattle.pgn_games.specs.declared.played.PlacedGame.{PlacedGame}
 use Rattle.pgn_games.specs.declared.token_turns.Place.TheVariants.{Before}
 use Rattle.pgn_games.specs.declared.cutter.Cutter.{Cutter}
+use Rattle.pgn_games.specs.Games.{is_closed}
 use Rattle.pgn_games.specs.Holding.{first_end, IsScanned, IsOpen, IsLast}
 
 -- the bytes that were taken of the source
@@ -32,4 +33,5 @@ found_one (Err refused) = false
 -- what a reader keeps, as long as no call failed
 pub record IsHeld (c : Cutter) (ended failed : Bool) : Type 0 where
   pub open_yet : ended ≡ false → failed ≡ false → IsOpenAt c × IsScannedAt c
+  pub closed_is : ended ≡ true → c.closed ≡ is_closed (taken_by c)
   pub at_last : ended ≡ true → failed ≡ false → IsLastAt c × IsScannedAt c

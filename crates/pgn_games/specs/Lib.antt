@@ -2,6 +2,7 @@
 pub mod Cutting
 pub mod Fields
 pub mod Games
+pub mod Moving
 pub mod Reading
 pub mod Settling
 pub mod Keeping

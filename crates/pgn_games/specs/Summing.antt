@@ -1,9 +1,10 @@
 -- What is kept of the tokens of a game.
-use Rattle.std.specs.Prelude.{◌≡◌, ℕ, ◌==◌, Bool, if◌then◌else◌, List, [], ◌∷◌, ◌++◌, length, take, filter_map, Option, Some, None, slice_get, codes}
+use Rattle.std.specs.Prelude.{◌≡◌, ℕ, ◌==◌, Bool, true, false, if◌then◌else◌, List, [], ◌∷◌, ◌++◌, length, take, filter_map, Option, Some, None, slice_get, codes}
 use Rattle.std.specs.List.{list_any}
 use Rattle.pgn_lex.specs.declared.kinds.Token.{Token}
 use Rattle.pgn_lex.specs.declared.kinds.Placed.{Placed}
 use Rattle.pgn_games.specs.declared.marks.ResultMark.{ResultMark}
+use Rattle.pgn_games.specs.declared.played.Span.{Span}
 use Rattle.pgn_games.specs.Cutting.{mark_of}
 use Rattle.pgn_games.specs.Fields.{outside, depth_at_end, tag_value, move_word, move_words, first_bad, is_unclosed, is_cut}
 
@@ -19,6 +20,11 @@ with_word words (Some word) = words ++ word ∷ []
 -- the first result outside variations
 abbrev pub first_mark : List Placed → Option ResultMark
 first_mark told = slice_get (filter_map (λ t. mark_of t.token) (outside 0 told)) 0
+
+-- where a game stands, with one token more: its first one, or a later one
+abbrev pub span_with : Bool → Span → Placed → Span
+span_with true span t = record { start = t.offset; end = t.end; line = t.line }
+span_with false span t = record { start = span.start; end = t.end; line = span.line }
 
 -- what is kept of the tag pairs of these tokens
 pub record HasValues (told : List Placed) (variant fen termination : Option (List ℕ)) : Type 0 where

@@ -5,7 +5,7 @@ ghost use Rattle.std.specs.declared.result.Result.TheVariants.{Ok, Err};
 ghost use Rattle.std.specs.declared.option.Option.TheVariants.{Some, None};
 ghost use Rattle.std.specs.Io.KnownBytes.{IsAtEnd};
 ghost use Rattle.cha_outside.specs.Faults.{Rose};
-ghost use Rattle.pgn_games.specs.Games.{placed_games, placed_game_of};
+ghost use Rattle.pgn_games.specs.Games.{placed_games, placed_game_of, is_closed};
 ghost use Rattle.pgn_games.specs.Settling.{settled_games};
 ghost use Rattle.pgn_games.specs.Reading.{Takes};
 
@@ -13,7 +13,7 @@ use crate::filling::{Filled, fill};
 use crate::gathering::{Standing, gather};
 use crate::played::PlacedGame;
 use crate::summary::Summary;
-use crate::token_turns::Place;
+use crate::token_turns::{Place, is_as_new, led_to};
 use cha_list::NoMemory;
 use cha_outside::{MOST_BYTES, ReadEnd, Source};
 use pgn_lex::{Lexer, Placed};
@@ -29,6 +29,7 @@ pub enum Advanced {
 }
 
 /// What the game says that is being read, the tokens behind it that the last byte gave, and the rest of a piece of the source.
+/// Once the source has ended, `closed` says whether its text is.
 #[derive(Drop)]
 pub struct Cutter {
     pub lexer: Lexer,
@@ -39,6 +40,7 @@ pub struct Cutter {
     pub used: usize,
     pub given: usize,
     pub taken: usize,
+    pub closed: bool,
 }
 
 impl Cutter {
@@ -59,6 +61,7 @@ impl Cutter {
             used: 0,
             given: 0,
             taken: 0,
+            closed: false,
         })
     }
 
@@ -124,6 +127,22 @@ impl Cutter {
         Ok(filled)
     }
 
+    /// Takes the end of the source.
+    fn take_end(&mut self) -> Result<(), NoMemory>
+        requires open { IsOpenAt self.old }
+        requires scanned { IsScannedAt self.old }
+        requires used_up { (self.old.behind.items ≡ []) × (self.old.piece.items ≡ []) }
+        ensures taken { taken_by self.new ≡ taken_by self.old }
+        ensures given { self.new.given ≡ self.old.given }
+        ensures last { OnOk result (IsLastAt self.new × IsScannedAt self.new) }
+        ensures closed { OnOk result (self.new.closed ≡ is_closed (taken_by self.new)) }
+    {
+        self.lexer.end(&mut self.behind)?;
+        let place = led_to(self.place, self.behind.as_slice());
+        self.closed = is_as_new(self.lexer.is_at_line(), place);
+        Ok(())
+    }
+
     /// Reads on until the game is whole, or to the end of the source. No piece is read before the last one is used up.
     pub fn advance<S: Source>(&mut self, source: &mut S) -> Result<Advanced, ReadEnd>
         requires open { IsOpenAt self.old }
@@ -133,6 +152,7 @@ impl Cutter {
         ensures first { take self.old.given (placed_games (taken_by self.new)) ≡ take self.old.given (placed_games (taken_by self.old)) }
         ensures whole { result ≡ Ok Advanced.Whole → IsOpenAt self.new × HasGame self.new }
         ensures ended { result ≡ Ok Advanced.Ended → IsLastAt self.new × IsScannedAt self.new × IsAtEnd (S.left source.new) }
+        ensures closed { result ≡ Ok Advanced.Ended → self.new.closed ≡ is_closed (taken_by self.new) }
         ensures read_fault { result ≡ Err ReadEnd.ReadFault → Rose (S.faults source.old) (S.faults source.new) × (settled_games (taken_by self.new) ≤ self.old.given) }
         ensures too_long { (result ≡ Err ReadEnd.TooLong) ↔ (MOST_BYTES < length (taken_by self.new)) }
         ensures few { length (taken_by self.new) ≤ MOST_BYTES + 4096 }
@@ -147,7 +167,7 @@ impl Cutter {
             match self.refill(source) {
                 Ok(Filled::More) => {}
                 Ok(Filled::End) => {
-                    return match self.lexer.end(&mut self.behind) {
+                    return match self.take_end() {
                         Ok(()) => Ok(Advanced::Ended),
                         Err(_) => Err(ReadEnd::NoMemory),
                     };
@@ -161,7 +181,7 @@ impl Cutter {
     pub fn finish(&mut self) -> Result<Standing, NoMemory>
         requires last { IsLastAt self.old }
         requires scanned { IsScannedAt self.old }
-        ensures same { (self.new.given ≡ self.old.given) × (self.new.lexer ≡ self.old.lexer) × (self.new.piece ≡ self.old.piece) × (self.new.used ≡ self.old.used) }
+        ensures same { (self.new.given ≡ self.old.given) × (self.new.lexer ≡ self.old.lexer) × (self.new.piece ≡ self.old.piece) × (self.new.used ≡ self.old.used) × (self.new.closed ≡ self.old.closed) }
         ensures last { OnOk result (IsLastAt self.new) }
         ensures whole { result ≡ Ok Standing.Whole → HasGame self.new }
         ensures open { result ≡ Ok Standing.Open → IsScannedAt self.new × (self.new.behind.items ≡ []) }
@@ -174,7 +194,7 @@ impl Cutter {
         requires { self.old.given < 2 ^ 64 - 1 }
         ensures game { result ≡ placed_game_of self.old.game }
         ensures emptied { (self.new.game ≡ []) × (self.new.place ≡ Place.Before) × (self.new.given ≡ self.old.given + 1) }
-        ensures same { (self.new.lexer ≡ self.old.lexer) × (self.new.behind ≡ self.old.behind) × (self.new.piece ≡ self.old.piece) × (self.new.used ≡ self.old.used) × (self.new.taken ≡ self.old.taken) }
+        ensures same { (self.new.lexer ≡ self.old.lexer) × (self.new.behind ≡ self.old.behind) × (self.new.piece ≡ self.old.piece) × (self.new.used ≡ self.old.used) × (self.new.taken ≡ self.old.taken) × (self.new.closed ≡ self.old.closed) }
     {
         let whole = std::mem::replace(&mut self.game, Summary::new(alloc));
         self.place = Place::Before;
@@ -198,6 +218,7 @@ impl Cutter {
         requires last { IsLastAt self.old }
         requires scanned { IsScannedAt self.old }
         ensures taken { taken_by self.new ≡ taken_by self.old }
+        ensures closed { self.new.closed ≡ self.old.closed }
         ensures last { OnOk result (IsLastAt self.new × IsScannedAt self.new) }
         ensures given { self.new.given ≡ (if found_one result then self.old.given + 1 else self.old.given) }
         ensures game { IfOk result (λ found. IfSome found (λ game. slice_get (placed_games (taken_by self.old)) self.old.given ≡ Some game)) }

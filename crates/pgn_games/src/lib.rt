@@ -2,8 +2,8 @@
 //!
 //! `played`, `marks` and `faults` have the game that is given, and `reading` the reader; `token_turns` says what a
 //! token does to a game, and `cutter` keeps what a reader needs of its source, over `filling`, which reads it in
-//! pieces, and `gathering`, which moves tokens to their game; `whole` has the law that no token is lost, and `settling`
-//! that of the games that are known before the rest; `summary` keeps what the tokens of one game say, by `tag_pairs`
+//! pieces, and `gathering`, which moves tokens to their game; `whole` has the law that no token is lost, `settling`
+//! that of the games that are known before the rest, and `joining` that of closed texts; `summary` keeps what the tokens of one game say, by `tag_pairs`
 //! and `movetext`, and `history` tells contracts which tokens they were.
 #![tactic(auto)]
 
@@ -12,6 +12,7 @@ mod faults;
 mod filling;
 mod gathering;
 mod history;
+mod joining;
 mod marks;
 mod movetext;
 mod played;
@@ -24,6 +25,7 @@ mod whole;
 
 pub use cha_outside::ReadEnd;
 pub use faults::GameFault;
+pub use joining::closed_texts_join;
 pub use marks::ResultMark;
 pub use played::{Game, PlacedGame, Span, Words};
 pub use reading::Reader;

@@ -64,7 +64,7 @@ impl Reader {
     pub fn is_closed(&self) -> bool
         ensures { self.now.ended ≡ true → result ≡ is_closed_text self.now.taken }
     {
-        false
+        self.cutter.closed
     }
 
     /// The next game of a source, or None where the source has ended and all its games were given.

@@ -5,7 +5,7 @@ ghost use Rattle.std.specs.Option.{option_map, option_or};
 ghost use Rattle.pgn_games.specs.declared.faults.GameFault.TheVariants.{BadToken};
 ghost use Rattle.pgn_games.specs.Fields.{value_named};
 ghost use Rattle.pgn_games.specs.Games.{is_open, fault_if, fault_of, span_of, game_of, placed_game_of};
-ghost use Rattle.pgn_games.specs.Summing.{word_outside, with_word};
+ghost use Rattle.pgn_games.specs.Summing.{span_with, word_outside, with_word};
 
 use crate::faults::GameFault;
 use crate::history::TokenHistory;
@@ -27,6 +27,7 @@ const MOST_PLIES: usize = 12_000;
 #[derive(Drop)]
 pub struct Summary {
     told: TokenHistory,
+    span: Span,
     empty: bool,
     depth: usize,
     bad: Option<u64>,
@@ -39,15 +40,16 @@ pub struct Summary {
 
 /// Contracts see the tokens.
 impl Model for Summary {
-    ghost use Rattle.std.specs.Prelude.{List};
+    ghost use Rattle.std.specs.Prelude.{◌≡◌, List};
     ghost use Rattle.pgn_lex.specs.declared.kinds.Placed.{Placed};
+    ghost use Rattle.pgn_games.specs.Games.{span_of};
     ghost use Rattle.pgn_games.specs.Summing.{HasValues, IsSummary};
 
     ghost Value = { List Placed };
 
     ghost view = { λ s. s.told };
 
-    ghost invariant = { λ s. IsSummary s.told s.empty s.depth s.bad s.unclosed s.cut s.recorded s.words × HasValues s.told s.tags.variant s.tags.fen s.tags.termination };
+    ghost invariant = { λ s. IsSummary s.told s.empty s.depth s.bad s.unclosed s.cut s.recorded s.words × HasValues s.told s.tags.variant s.tags.fen s.tags.termination × (s.span ≡ span_of s.told) };
 }
 
 /// Keeps the words and the values of a token. On a refusal nothing is kept.
@@ -71,6 +73,24 @@ fn keep_texts(
             Ok(())
         }
         _ => Ok(()),
+    }
+}
+
+/// Where a game stands, with one token more. `empty` says that it is the first.
+fn longer(empty: bool, span: Span, placed: &Placed) -> Span
+    ensures { result ≡ span_with empty span placed.now }
+{
+    if empty {
+        return Span {
+            start: placed.offset,
+            end: placed.end,
+            line: placed.line,
+        };
+    }
+    Span {
+        start: span.start,
+        end: placed.end,
+        line: span.line,
     }
 }
 
@@ -101,6 +121,11 @@ impl Summary {
     {
         Summary {
             told: TokenHistory::new(),
+            span: Span {
+                start: 0,
+                end: 0,
+                line: 0,
+            },
             empty: true,
             depth: 0,
             bad: None,
@@ -131,8 +156,10 @@ impl Summary {
         let unclosed = self.unclosed | unclosed(&placed.token);
         let cut = self.cut | was_cut(&placed.token);
         let depth = deeper(self.depth, &placed.token);
+        let span = longer(self.empty, self.span, &placed);
         keep_texts(self.depth, placed.token, &mut self.tags, &mut self.words)?;
         self.empty = false;
+        self.span = span;
         self.depth = depth;
         self.bad = bad;
         self.unclosed = unclosed;
@@ -169,11 +196,7 @@ impl Summary {
     fn span(&self) -> Span
         ensures { result ≡ span_of self.now }
     {
-        Span {
-            start: 0,
-            end: 0,
-            line: 0,
-        }
+        self.span
     }
 
     /// The game of the tokens, and where it stands.

@@ -1,11 +1,11 @@
 //! What a token does to the game that is being read.
 
-ghost use Rattle.std.specs.Prelude.{◌≡◌, ◌+◌, ◌-◌, ◌^◌, ◌<◌, ◌≤◌};
+ghost use Rattle.std.specs.Prelude.{◌≡◌, ◌&&◌, ◌+◌, ◌-◌, ◌^◌, ◌<◌, ◌≤◌, length};
 ghost use Rattle.pgn_lex.specs.declared.kinds.Token.TheVariants.{Word};
-ghost use Rattle.pgn_games.specs.Cutting.{mark_of, is_tag, depth_after, open_at, turn};
+ghost use Rattle.pgn_games.specs.Cutting.{mark_of, is_tag, depth_after, open_at, turn, place_after, place_behind, is_before};
 
 use crate::marks::ResultMark;
-use pgn_lex::Token;
+use pgn_lex::{Placed, Token};
 
 /// Where a reader of tokens stands.
 #[derive(Clone, Copy, Debug, PartialEq, Eq)]
@@ -104,4 +104,37 @@ pub fn turned(place: Place, token: &Token) -> Turn
         return Turn::Ends;
     }
     Turn::Stays(Place::Moves(deeper(depth, token)))
+}
+
+/// The place after a turn.
+fn turned_to(turn: Turn) -> Place
+    ensures { result ≡ place_after turn }
+{
+    match turn {
+        Turn::Stays(place) => place,
+        Turn::Ends => Place::Before,
+        Turn::Begins => Place::Tags,
+    }
+}
+
+/// The place behind tokens.
+pub fn led_to(place: Place, tokens: &[Placed]) -> Place
+    requires { open_at place + length tokens.now < 2 ^ 64 - 1 }
+    ensures { result ≡ place_behind place tokens.now }
+{
+    let mut stand = place;
+    for placed in tokens {
+        stand = turned_to(turned(stand, &placed.token));
+    }
+    stand
+}
+
+/// Whether a reader is as new: at the beginning of a line, where `line` says so, with no game open.
+pub fn is_as_new(line: bool, place: Place) -> bool
+    ensures { result ≡ (line && is_before place) }
+{
+    match place {
+        Place::Before => line,
+        _ => false,
+    }
 }

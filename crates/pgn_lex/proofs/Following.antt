@@ -289,3 +289,29 @@ ends_with StarRead word value p = refl
 ends_with EnterRead word value p = refl
 ends_with LeaveRead word value p = refl
 ends_with BadRead word value p = refl
+
+-- it ends there
+pub ends_there : (stage : Stage) (word value : List ℕ) → is_plain stage ≡ true → (left_of_piece stage word value []).more ≡ 0
+unfolding left_of_piece token_at line_piece comment_piece annotation_piece tag_at name_at tag_in_name tag_named tag_in_value tag_valued value_after past_byte
+ends_there Start word value p = cc
+ends_there MarkBegun word value p = cc
+ends_there MarkGrown word value p = cc
+ends_there Marked word value p = refl
+ends_there Between word value p = refl
+ends_there RestOfLine word value p = refl
+ends_there InComment word value p = refl
+ends_there AfterDollar word value p = refl
+ends_there InNumber word value p = refl
+ends_there InWord word value p = refl
+ends_there InTag word value p = refl
+ends_there InName word value p = refl
+ends_there AfterName word value p = refl
+ends_there InValue word value p = refl
+ends_there AfterBackslash word value p = refl
+ends_there AfterValue word value p = refl
+ends_there TagRead word value p = refl
+ends_there Spoilt word value p = refl
+ends_there StarRead word value p = refl
+ends_there EnterRead word value p = refl
+ends_there LeaveRead word value p = refl
+ends_there BadRead word value p = refl

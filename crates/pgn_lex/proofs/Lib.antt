@@ -3,9 +3,11 @@ pub mod Fed
 pub mod Feeding
 pub mod Following
 pub mod InOrder
+pub mod Joining
 pub mod Keeping
 pub mod Kept
 pub mod KeptWords
+pub mod LineEnds
 pub mod Passing
 pub mod Runs
 pub mod TagParts

@@ -1,5 +1,5 @@
 -- What a lexer that takes single bytes still gives, from the bytes that are to come.
-use Rattle.std.specs.Prelude.{ℕ, suc, false, true, List, [], ◌∷◌, ◌++◌, length, take, if◌then◌else◌, nat_lt}
+use Rattle.std.specs.Prelude.{ℕ, suc, ◌+◌, false, true, List, [], ◌∷◌, ◌++◌, length, take, if◌then◌else◌, nat_lt}
 use Rattle.std.specs.List.{prefix_len}
 use Rattle.cha_list.specs.declared.classes.Class.TheVariants.{InLine, Digit}
 use Rattle.cha_list.specs.Bytes.{in_class}
@@ -44,8 +44,8 @@ gives_at Start m rest = tokens rest
 gives_at MarkBegun m rest = tokens (239 ∷ rest)
 gives_at MarkGrown m rest = tokens (239 ∷ 187 ∷ rest)
 gives_at stage m rest =
-    placed m.start (left_of_piece stage m.word m.value rest).token
-    ++ tokens_after (left_of_piece stage m.word m.value rest).more m.at m.first rest
+    placed m.start (m.at + (left_of_piece stage m.word m.value rest).more) m.start_line (left_of_piece stage m.word m.value rest).token
+    ++ tokens_after (left_of_piece stage m.word m.value rest).more m.at m.line m.first rest
 
 -- of these, the tokens that are settled once the rest has come
 unfoldable pub settles_at : Stage → Machine → List ℕ → List Placed
@@ -53,8 +53,9 @@ settles_at Start m rest = settled_tokens rest
 settles_at MarkBegun m rest = settled_tokens (239 ∷ rest)
 settles_at MarkGrown m rest = settled_tokens (239 ∷ 187 ∷ rest)
 settles_at stage m rest =
-    (if nat_lt (left_of_piece stage m.word m.value rest).more (length rest) then placed m.start (left_of_piece stage m.word m.value rest).token else [])
-    ++ settled_after (left_of_piece stage m.word m.value rest).more m.at m.first rest
+    (if nat_lt (left_of_piece stage m.word m.value rest).more (length rest)
+    then placed m.start (m.at + (left_of_piece stage m.word m.value rest).more) m.start_line (left_of_piece stage m.word m.value rest).token else [])
+    ++ settled_after (left_of_piece stage m.word m.value rest).more m.at m.line m.first rest
 
 abbrev pub one_more : Piece → Piece
 one_more p = record { more = suc p.more; token = p.token }

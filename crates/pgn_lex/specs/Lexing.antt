@@ -1,5 +1,5 @@
 -- A lexer that takes single bytes, as its contracts see it.
-use Rattle.std.specs.Prelude.{◌≡◌, ℕ, ◌≤◌, Bool, List, ◌++◌, length, take}
+use Rattle.std.specs.Prelude.{◌≡◌, ℕ, ◌+◌, ◌≤◌, Bool, List, ◌++◌, length, take}
 use Rattle.pgn_lex.specs.declared.kinds.Placed.{Placed}
 use Rattle.pgn_lex.specs.declared.stages.Stage.{Stage}
 use Rattle.pgn_lex.specs.Stages.{machine}
@@ -17,11 +17,14 @@ pub record Appends (out out' told told' : List Placed) : Type 0 where
   pub few : length added ≤ 2
 
 -- What a lexer keeps of the bytes that it was fed: its stage, and as much of the word or the name and of the value as their tokens keep;
--- of a value one byte more, which tells that it is cut.
-pub record IsFed (fed : List ℕ) (stage : Stage) (start at : ℕ) (first : Bool) (word value : List ℕ) (word_room value_room : ℕ) : Type 0 where
+-- of a value one byte more, which tells that it is cut. The line feeds that it has read tell the line.
+pub record IsFed (fed : List ℕ) (stage : Stage) (start start_line at feeds : ℕ) (first : Bool) (word value : List ℕ) (word_room value_room : ℕ) : Type 0 where
   pub stage_is : stage ≡ (machine fed).stage
   pub start_is : start ≡ (machine fed).start
+  pub start_line_is : start_line ≡ (machine fed).start_line
   pub at_is : at ≡ length fed
+  pub line_is : feeds + 1 ≡ (machine fed).line
+  pub few_feeds : feeds ≤ at
   pub first_is : first ≡ (machine fed).first
   pub word_is : word ≡ take 255 (machine fed).word
   pub value_is : value ≡ take 4097 (machine fed).value

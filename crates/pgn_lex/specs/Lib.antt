@@ -1,6 +1,7 @@
 -- what public contracts say
 pub mod Classes
 pub mod Lexing
+pub mod Lines
 pub mod Pieces
 pub mod Tags
 pub mod Tokens

@@ -12,7 +12,7 @@ use Rattle.pgn_lex.specs.declared.stages.Stage.TheVariants.{Start, MarkBegun, Ma
 use Rattle.pgn_lex.specs.declared.stages.Next.{Next}
 use Rattle.pgn_lex.specs.declared.stages.Next.TheVariants.{Stays, Over}
 use Rattle.pgn_lex.specs.Pieces.{is_white, word_token}
-use Rattle.pgn_lex.specs.Tokens.{placed}
+use Rattle.pgn_lex.specs.Tokens.{placed, line_after}
 
 -- what the first byte of a piece begins, by the first rule that fits
 unfoldable pub begun : Bool → ℕ → Stage
@@ -93,15 +93,16 @@ token_at LeaveRead word value = Some Leave
 token_at BadRead word value = Some Bad
 token_at _ word value = None
 
--- the token of a byte that begins nothing
+-- the token of a byte of the first line that begins nothing
 abbrev pub bad_placed : ℕ → List Placed
-bad_placed at = placed at (Some Bad)
+bad_placed at = placed at (at + 1) 1 (Some Bad)
 
--- the tokens of the pieces that ended, which begin at a place: two bytes of the mark EF BB BF are two that begin nothing
-unfoldable pub tokens_at : Stage → ℕ → List ℕ → List ℕ → List Placed
-tokens_at MarkBegun start word value = bad_placed 0
-tokens_at MarkGrown start word value = bad_placed 0 ++ bad_placed 1
-tokens_at stage start word value = placed start (token_at stage word value)
+-- the tokens of the pieces that ended, from where they begin to where they end: two bytes of the mark EF BB BF are two that
+-- begin nothing
+unfoldable pub tokens_at : Stage → ℕ → ℕ → ℕ → List ℕ → List ℕ → List Placed
+tokens_at MarkBegun start end line word value = bad_placed 0
+tokens_at MarkGrown start end line word value = bad_placed 0 ++ bad_placed 1
+tokens_at stage start end line word value = placed start end line (token_at stage word value)
 
 -- a stage in which the last byte was one of a word or of a name
 abbrev pub is_spelling : Stage → Bool
@@ -137,26 +138,30 @@ unfoldable pub begins_line : Stage → ℕ → Bool
 begins_line Marked b = true
 begins_line stage b = not (in_class InLine b)
 
--- A lexer that takes single bytes: where the piece began that is being read, how many bytes were read, whether the next byte is
--- the first of its line, and what was read of a word or a name and of a value.
+-- A lexer that takes single bytes: where and in which line the piece began that is being read, how many bytes were read, in
+-- which line the next byte is and whether it is the first of its line, and what was read of a word or a name and of a value.
 pub record Machine : Type 0 where
   pub stage : Stage
   pub start : ℕ
+  pub start_line : ℕ
   pub at : ℕ
+  pub line : ℕ
   pub first : Bool
   pub word : List ℕ
   pub value : List ℕ
 
 -- before the first byte
 abbrev pub at_front : Machine
-at_front = record { stage = Start; start = 0; at = 0; first = true; word = []; value = [] }
+at_front = record { stage = Start; start = 0; start_line = 1; at = 0; line = 1; first = true; word = []; value = [] }
 
 -- after one byte more, which belongs to the piece or begins the next one
 unfoldable pub stepped : Machine → ℕ → Next → Machine
 stepped m b (Stays now) = record {
   stage = now;
   start = m.start;
+  start_line = m.start_line;
   at = m.at + 1;
+  line = line_after m.line b;
   first = begins_line now b;
   word = word_after m.stage now b m.word;
   value = grown_value m.stage now b m.value;
@@ -164,7 +169,9 @@ stepped m b (Stays now) = record {
 stepped m b Over = record {
   stage = begun m.first b;
   start = m.at;
+  start_line = m.line;
   at = m.at + 1;
+  line = line_after m.line b;
   first = not (in_class InLine b);
   word = b ∷ [];
   value = m.value;
@@ -173,7 +180,7 @@ stepped m b Over = record {
 -- the tokens that one byte more gives
 unfoldable pub said_at : Machine → Next → List Placed
 said_at m (Stays now) = []
-said_at m Over = tokens_at m.stage m.start m.word m.value
+said_at m Over = tokens_at m.stage m.start m.at m.start_line m.word m.value
 
 -- a lexer that has read some bytes
 unfoldable pub read_from : Machine → List ℕ → Machine

@@ -27,19 +27,24 @@ piece first b bs =
     else (if in_pgn_class WordByte b then word_piece b bs
     else spoken_piece Bad 0)))))))))
 
--- the token at a place, if there is one
-abbrev pub placed : ℕ → Option Token → List Placed
-placed at None = []
-placed at (Some token) = record { token = token; offset = at } ∷ []
+-- the token of a piece, if it gives one: where it begins, where it ends, and in which line it begins
+abbrev pub placed : ℕ → ℕ → ℕ → Option Token → List Placed
+placed at end line None = []
+placed at end line (Some token) = record { token = token; offset = at; end = end; line = line } ∷ []
 
--- The tokens of bytes that begin at a place of the input. So many of them are passed first, which belong to a piece that
--- was taken; then each piece gives its token, and its other bytes are passed. A byte is the first of its line where the
+-- the line behind a byte: a line feed begins the next one (this project)
+unfoldable pub line_after : ℕ → ℕ → ℕ
+line_after line b = if b == 10 then line + 1 else line
+
+-- The tokens of bytes that begin at a place of the input, in a line. So many of them are passed first, which belong to a piece
+-- that was taken; then each piece gives its token, and its other bytes are passed. A byte is the first of its line where the
 -- byte before it ends a line.
-unfoldable pub tokens_after : ℕ → ℕ → Bool → List ℕ → List Placed
-tokens_after pass at first [] = []
-tokens_after (suc pass) at first (b ∷ bs) = tokens_after pass (at + 1) (not (in_class InLine b)) bs
-tokens_after zero at first (b ∷ bs) =
-    placed at (piece first b bs).token ++ tokens_after (piece first b bs).more (at + 1) (not (in_class InLine b)) bs
+unfoldable pub tokens_after : ℕ → ℕ → ℕ → Bool → List ℕ → List Placed
+tokens_after pass at line first [] = []
+tokens_after (suc pass) at line first (b ∷ bs) = tokens_after pass (at + 1) (line_after line b) (not (in_class InLine b)) bs
+tokens_after zero at line first (b ∷ bs) =
+    placed at (at + 1 + (piece first b bs).more) line (piece first b bs).token
+    ++ tokens_after (piece first b bs).more (at + 1) (line_after line b) (not (in_class InLine b)) bs
 
 -- the bytes EF BB BF at the front, with which some programs mark UTF-8
 unfoldable pub has_mark : List ℕ → Bool
@@ -48,16 +53,16 @@ has_mark _ = false
 
 -- the tokens of a whole text
 unfoldable pub tokens : List ℕ → List Placed
-tokens bytes = if has_mark bytes then tokens_after 0 3 true (drop 3 bytes) else tokens_after 0 0 true bytes
+tokens bytes = if has_mark bytes then tokens_after 0 3 1 true (drop 3 bytes) else tokens_after 0 0 1 true bytes
 
 -- The tokens of bytes that begin at a place of the input, but for that of a piece which reaches their end: so far it may yet
 -- turn out another token, or be longer. So many bytes are passed first, as above.
-unfoldable pub settled_after : ℕ → ℕ → Bool → List ℕ → List Placed
-settled_after pass at first [] = []
-settled_after (suc pass) at first (b ∷ bs) = settled_after pass (at + 1) (not (in_class InLine b)) bs
-settled_after zero at first (b ∷ bs) =
-    (if nat_lt (piece first b bs).more (length bs) then placed at (piece first b bs).token else [])
-    ++ settled_after (piece first b bs).more (at + 1) (not (in_class InLine b)) bs
+unfoldable pub settled_after : ℕ → ℕ → ℕ → Bool → List ℕ → List Placed
+settled_after pass at line first [] = []
+settled_after (suc pass) at line first (b ∷ bs) = settled_after pass (at + 1) (line_after line b) (not (in_class InLine b)) bs
+settled_after zero at line first (b ∷ bs) =
+    (if nat_lt (piece first b bs).more (length bs) then placed at (at + 1 + (piece first b bs).more) line (piece first b bs).token else [])
+    ++ settled_after (piece first b bs).more (at + 1) (line_after line b) (not (in_class InLine b)) bs
 
 -- two bytes of the mark EF BB BF, whose third may yet come
 unfoldable pub has_half_mark : List ℕ → Bool
@@ -69,4 +74,4 @@ has_half_mark _ = false
 unfoldable pub settled_tokens : List ℕ → List Placed
 settled_tokens bytes =
     if has_half_mark bytes then []
-    else (if has_mark bytes then settled_after 0 3 true (drop 3 bytes) else settled_after 0 0 true bytes)
+    else (if has_mark bytes then settled_after 0 3 1 true (drop 3 bytes) else settled_after 0 0 1 true bytes)

@@ -26,9 +26,22 @@ pub enum Token {
     Unclosed,
 }
 
-/// A token and the place of its first byte in the input, from 0. The bytes EF BB BF at the front count too.
+/// A token and where it stands in the input. The bytes EF BB BF at the front count too.
 #[derive(Drop)]
 pub struct Placed {
     pub token: Token,
+    /// The place of its first byte, from 0.
     pub offset: u64,
+    /// The place behind its last byte, from 0.
+    pub end: u64,
+    /// The line of its first byte, from 1: one more than the line feeds (byte 10) before it.
+    pub line: u64,
+}
+
+/// Where a piece stands, as in `Placed`.
+#[derive(Clone, Copy, Debug, PartialEq, Eq)]
+pub struct Extent {
+    pub start: u64,
+    pub end: u64,
+    pub line: u64,
 }

@@ -1,7 +1,7 @@
 //! The tokens of a text of chess games in PGN, of any bytes whatever.
 //!
 //! `classes` has the bytes that PGN names, `kinds` the tokens, `reading` goes from piece to piece, `piece_rules` is the
-//! table of what begins a piece, and `comments`, `word_tokens`, `tags` and `tag_values` have one function for each
+//! table of what begins a piece, `lines` counts line feeds, and `comments`, `word_tokens`, `tags` and `tag_values` have one function for each
 //! rule; `pieces` has what these give, and `order` the law of the places of tokens.
 //!
 //! `machine` is the lexer that takes single bytes, over `stages`, what each byte does, and `saying`, the tokens of pieces that
@@ -12,6 +12,7 @@ mod classes;
 mod comments;
 mod history;
 mod kinds;
+mod lines;
 mod machine;
 mod order;
 mod piece_rules;

@@ -3,10 +3,12 @@
 ghost use Rattle.std.specs.Prelude.{◌≡◌, ◌+◌, ◌-◌, ◌^◌, ◌<◌, ◌≤◌, ◌++◌, ◌∷◌, [], List, ℕ, true, false, length, take, vec_capacity, OnOk, OnErr, IfOk};
 ghost use Rattle.pgn_lex.specs.Lexing.{Appends};
 ghost use Rattle.pgn_lex.specs.Stages.{begins_line, word_so_far, word_after, grown_value, value_from};
+ghost use Rattle.pgn_lex.specs.Lines.{ends_line};
 ghost use Rattle.pgn_lex.specs.Tokens.{tokens, settled_tokens};
 
 use crate::history::History;
-use crate::kinds::Placed;
+use crate::kinds::{Extent, Placed};
+use crate::lines::feeds_with;
 use crate::saying::say;
 use crate::stages::{Next, Stage, what_begins, what_follows};
 use cha_list::{ByteClass, Class, NoMemory};
@@ -26,7 +28,9 @@ pub struct Lexer {
     fed: History,
     stage: Stage,
     start: u64,
+    start_line: u64,
     at: u64,
+    feeds: u64,
     first: bool,
     word: Vec<u8>,
     value: Vec<u8>,
@@ -42,7 +46,7 @@ impl Model for Lexer {
 
     ghost view = { λ s. record { fed = s.fed; ended = s.ended } };
 
-    ghost invariant = { λ s. IsFed s.fed s.stage s.start s.at s.first s.word.items s.value.items (vec_capacity s.word) (vec_capacity s.value) };
+    ghost invariant = { λ s. IsFed s.fed s.stage s.start s.start_line s.at s.feeds s.first s.word.items s.value.items (vec_capacity s.word) (vec_capacity s.value) };
 }
 
 /// Keeps a byte behind those that are kept, where fewer than `most` are.
@@ -152,12 +156,21 @@ impl Lexer {
             fed: History::new(),
             stage: Stage::Start,
             start: 0,
+            start_line: 1,
             at: 0,
+            feeds: 0,
             first: true,
             word,
             value,
             ended: false,
         })
+    }
+
+    /// Whether the next byte is the first of its line.
+    pub fn is_at_line(&self) -> bool
+        ensures { result ≡ ends_line self.now.fed }
+    {
+        self.first
     }
 
     /// Takes the next byte, and appends the tokens that are settled with it: those of the pieces that end before it. The
@@ -177,23 +190,24 @@ impl Lexer {
                 self.first = line_begins(now, byte);
                 self.stage = now;
                 self.at += 1;
+                self.feeds = feeds_with(self.feeds, byte);
                 self.fed.push(byte);
                 Ok(())
             }
             Next::Over => {
-                say(
-                    self.alloc,
-                    self.stage,
-                    self.start,
-                    &self.word,
-                    &self.value,
-                    out,
-                )?;
+                let at = Extent {
+                    start: self.start,
+                    end: self.at,
+                    line: self.start_line,
+                };
+                say(self.alloc, self.stage, at, &self.word, &self.value, out)?;
                 self.stage = what_begins(self.first, byte);
                 begin_word(byte, &mut self.word);
                 self.start = self.at;
+                self.start_line = self.feeds + 1;
                 self.first = !Class::InLine.is_of(byte);
                 self.at += 1;
+                self.feeds = feeds_with(self.feeds, byte);
                 self.fed.push(byte);
                 Ok(())
             }
@@ -209,14 +223,12 @@ impl Lexer {
         ensures ended { OnOk result (self.new.ended ≡ true) }
         ensures unchanged { OnErr result ((self.new ≡ self.old) × (out.new.items ≡ out.old.items)) }
     {
-        say(
-            self.alloc,
-            self.stage,
-            self.start,
-            &self.word,
-            &self.value,
-            out,
-        )?;
+        let at = Extent {
+            start: self.start,
+            end: self.at,
+            line: self.start_line,
+        };
+        say(self.alloc, self.stage, at, &self.word, &self.value, out)?;
         self.ended = true;
         Ok(())
     }

@@ -1,10 +1,12 @@
 //! From piece to piece through a whole text.
 
-ghost use Rattle.std.specs.Prelude.{◌≡◌, ◌≤◌, ◌++◌, OnOk, OnErr, IfOk, length};
+ghost use Rattle.std.specs.Prelude.{◌≡◌, ◌+◌, ◌^◌, ◌<◌, ◌≤◌, ◌++◌, OnOk, OnErr, IfOk, length};
 ghost use Rattle.std.specs.Bool.{OnTrue};
-ghost use Rattle.pgn_lex.specs.Tokens.{placed, has_mark, tokens};
+ghost use Rattle.std.specs.List.{fold};
+ghost use Rattle.pgn_lex.specs.Tokens.{placed, line_after, has_mark, tokens};
 
-use crate::kinds::{Placed, Token};
+use crate::kinds::{Extent, Placed, Token};
+use crate::lines::behind;
 use crate::piece_rules::piece_at;
 use cha_list::{ByteClass, Class, NoMemory};
 use std::alloc::Global;
@@ -24,14 +26,19 @@ fn marked(bytes: &[u8]) -> bool
 /// Adds the token of a piece, if it has one.
 // To hand a token on costs more than to add it.
 #[inline(always)]
-pub fn place(token: Option<Token>, offset: u64, out: &mut Vec<Placed>) -> Result<(), NoMemory>
-    ensures ok { OnOk result (out.new.items ≡ out.old.items ++ placed offset token) }
+pub fn place(token: Option<Token>, at: Extent, out: &mut Vec<Placed>) -> Result<(), NoMemory>
+    ensures ok { OnOk result (out.new.items ≡ out.old.items ++ placed at.start at.end at.line token) }
     ensures err { OnErr result (out.new.items ≡ out.old.items) }
 {
     match token {
         None => Ok(()),
         Some(token) => {
-            out.push(Placed { token, offset })?;
+            out.push(Placed {
+                token,
+                offset: at.start,
+                end: at.end,
+                line: at.line,
+            })?;
             Ok(())
         }
     }
@@ -47,13 +54,20 @@ pub fn tokens_of(alloc: Global, bytes: &[u8]) -> Result<Vec<Placed>, NoMemory>
 {
     let mut out = Vec::new(alloc);
     let mut at = if marked(bytes) { 3 } else { 0 };
+    let mut line = 1;
     let mut first = true;
     while at < bytes.len() {
         let (_, rest) = bytes.split_at(at + 1);
         let piece = piece_at(alloc, first, bytes[at], rest)?;
         let last = at + piece.more;
         first = !Class::InLine.is_of(bytes[last]);
-        place(piece.token, at as u64, &mut out)?;
+        let extent = Extent {
+            start: at as u64,
+            end: last as u64 + 1,
+            line,
+        };
+        place(piece.token, extent, &mut out)?;
+        line = behind(line, &bytes[at..last + 1]);
         at = last + 1;
     }
     Ok(out)

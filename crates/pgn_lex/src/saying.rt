@@ -1,12 +1,12 @@
 //! The tokens of pieces that ended.
 
-ghost use Rattle.std.specs.Prelude.{◌≡◌, ◌++◌, List, ℕ, OnOk, OnErr, IfOk, length, take, nat_lt};
+ghost use Rattle.std.specs.Prelude.{◌≡◌, ◌+◌, ◌<◌, ◌++◌, List, ℕ, OnOk, OnErr, IfOk, length, take, nat_lt};
 ghost use Rattle.pgn_lex.specs.declared.kinds.Token.TheVariants.{Tag};
 ghost use Rattle.pgn_lex.specs.Pieces.{word_token};
 ghost use Rattle.pgn_lex.specs.Stages.{bad_placed, token_at, tokens_at};
 ghost use Rattle.pgn_lex.specs.Tokens.{placed};
 
-use crate::kinds::{Placed, Token};
+use crate::kinds::{Extent, Placed, Token};
 use crate::reading::place;
 use crate::stages::Stage;
 use crate::word_tokens::word_token_of;
@@ -61,13 +61,16 @@ fn said(alloc: Global, stage: Stage, word: &[u8], value: &[u8]) -> Result<Option
     }
 }
 
-/// A byte that begins nothing, at a place.
+/// A byte of the first line that begins nothing, at a place.
 fn bad_at(offset: u64) -> Placed
-    ensures { result ≡ record { token = Token.Bad; offset = offset } }
+    requires { offset < 2 }
+    ensures { result ≡ record { token = Token.Bad; offset = offset; end = offset + 1; line = 1 } }
 {
     Placed {
         token: Token::Bad,
         offset,
+        end: offset + 1,
+        line: 1,
     }
 }
 
@@ -86,35 +89,35 @@ fn place_two(out: &mut Vec<Placed>) -> Result<(), NoMemory>
     Ok(())
 }
 
-/// Adds the token of a word that began at a place, if it gives one.
+/// Adds the token of a word that ended, if it gives one.
 #[inline(never)]
-fn say_word(alloc: Global, start: u64, word: &[u8], out: &mut Vec<Placed>) -> Result<(), NoMemory>
-    ensures ok { OnOk result (out.new.items ≡ out.old.items ++ placed start (word_token word.now)) }
+fn say_word(alloc: Global, at: Extent, word: &[u8], out: &mut Vec<Placed>) -> Result<(), NoMemory>
+    ensures ok { OnOk result (out.new.items ≡ out.old.items ++ placed at.start at.end at.line (word_token word.now)) }
     ensures err { OnErr result (out.new.items ≡ out.old.items) }
 {
     let token = word_token_of(alloc, word)?;
-    place(token, start, out)
+    place(token, at, out)
 }
 
-/// Adds the tokens of pieces that ended, the last of which began at a place. On a refusal none is added.
+/// Adds the tokens of pieces that ended, the last of which stands there. On a refusal none is added.
 #[tactic(auto, unfolding(crate::specs::Stages::tokens_at, crate::specs::Stages::token_at))]
 // Nearly all pieces are words and white space.
 #[inline(always)]
 pub fn say(
     alloc: Global,
     stage: Stage,
-    start: u64,
+    at: Extent,
     word: &[u8],
     value: &[u8],
     out: &mut Vec<Placed>,
 ) -> Result<(), NoMemory>
-    ensures ok { OnOk result ((w v : List ℕ) → word.now ≡ take 255 w → value.now ≡ take 4097 v → out.new.items ≡ out.old.items ++ tokens_at stage start w v) }
+    ensures ok { OnOk result ((w v : List ℕ) → word.now ≡ take 255 w → value.now ≡ take 4097 v → out.new.items ≡ out.old.items ++ tokens_at stage at.start at.end at.line w v) }
     ensures err { OnErr result (out.new.items ≡ out.old.items) }
 {
     match stage {
         Stage::Between => Ok(()),
-        Stage::InWord => say_word(alloc, start, word, out),
-        _ => say_all(alloc, stage, start, word, value, out),
+        Stage::InWord => say_word(alloc, at, word, out),
+        _ => say_all(alloc, stage, at, word, value, out),
     }
 }
 
@@ -124,20 +127,23 @@ pub fn say(
 fn say_all(
     alloc: Global,
     stage: Stage,
-    start: u64,
+    at: Extent,
     word: &[u8],
     value: &[u8],
     out: &mut Vec<Placed>,
 ) -> Result<(), NoMemory>
-    ensures ok { OnOk result ((w v : List ℕ) → word.now ≡ take 255 w → value.now ≡ take 4097 v → out.new.items ≡ out.old.items ++ tokens_at stage start w v) }
+    ensures ok { OnOk result ((w v : List ℕ) → word.now ≡ take 255 w → value.now ≡ take 4097 v → out.new.items ≡ out.old.items ++ tokens_at stage at.start at.end at.line w v) }
     ensures err { OnErr result (out.new.items ≡ out.old.items) }
 {
     match stage {
-        Stage::MarkBegun => place(Some(Token::Bad), 0, out),
+        Stage::MarkBegun => {
+            out.push(bad_at(0))?;
+            Ok(())
+        }
         Stage::MarkGrown => place_two(out),
         _ => {
             let token = said(alloc, stage, word, value)?;
-            place(token, start, out)
+            place(token, at, out)
         }
     }
 }

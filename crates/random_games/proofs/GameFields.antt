@@ -15,11 +15,9 @@ use Rattle.pgn_games.specs.Cutting.{mark_of, is_tag, depth_after, open_at, turn,
 use Rattle.pgn_games.specs.Fields.{outside, value_named, tag_value, recorded_in, move_word as word_of, move_words, is_bad, bad_offset, first_bad, is_unclosed, is_cut}
 use Rattle.pgn_games.specs.Games.{is_open}
 use Rattle.pgn_games.proofs.Cuts.{cut_step}
-use Rattle.random_games.proofs.GameTokens.{IsMoveWord, AllMoveWords, placed_words, game_tokens}
-
--- a word at a place
-abbrev a_word : List ℕ → ℕ → Placed
-a_word w at = record { token = Word w; offset = at }
+use Rattle.random_games.proofs.Passed.{Spot, a_word}
+use Rattle.random_games.proofs.TagLines.{a_tag}
+use Rattle.random_games.proofs.GameTokens.{IsMoveWord, AllMoveWords, next_word, placed_words, game_tokens}
 
 -- the words and the result are one game
 word_turn : (place : Place) (w : List ℕ) → open_at place ≡ 0 → mark_of (Word w) ≡ None → turn place (Word w) ≡ Stays (Moves 0)
@@ -30,57 +28,57 @@ result_turn : (place : Place) (w : List ℕ) (mark : ResultMark) → open_at pla
 unfolding turn is_tag
 result_turn place w mark none_open some = rw (none_open, some) refl
 
-cut_words : (place : Place) (at e : ℕ) (ws : List (List ℕ)) (result : List ℕ) (mark : ResultMark) (rest : List Placed) → open_at place ≡ 0 → AllMoveWords ws → mark_of (Word result) ≡ Some mark
+cut_words : (place : Place) (at e : Spot) (ws : List (List ℕ)) (result : List ℕ) (mark : ResultMark) (rest : List Placed) → open_at place ≡ 0 → AllMoveWords ws → mark_of (Word result) ≡ Some mark
     → cut place (placed_words at ws ++ a_word result e ∷ rest) ≡ (placed_words at ws ++ a_word result e ∷ []) ∷ cut Before rest
 cut_words place at e [] result mark rest none_open all some =
     let t = a_word result e in
     cut_step place t rest ∙ ap (λ u. put u t (cut (place_after u) rest)) (result_turn place result mark none_open some)
 cut_words place at e (w ∷ ws) result mark rest none_open all some =
     let t = a_word w at in
-    let more = placed_words (at + length w + 1) ws ++ a_word result e ∷ rest in
+    let more = placed_words (next_word w at) ws ++ a_word result e ∷ rest in
     cut_step place t more
     ∙ ap (λ u. put u t (cut (place_after u) more)) (word_turn place w none_open all.0.no_mark)
-    ∙ ap (onto t) (cut_words (Moves 0) (at + length w + 1) e ws result mark rest refl all.1 some)
+    ∙ ap (onto t) (cut_words (Moves 0) (next_word w at) e ws result mark rest refl all.1 some)
 
-pub cut_game : (a b c d e : ℕ) (event result termination : List ℕ) (ws : List (List ℕ)) (mark : ResultMark) (rest : List Placed) → AllMoveWords ws → mark_of (Word result) ≡ Some mark
+pub cut_game : (a b c d e : Spot) (event result termination : List ℕ) (ws : List (List ℕ)) (mark : ResultMark) (rest : List Placed) → AllMoveWords ws → mark_of (Word result) ≡ Some mark
     → cut Before (game_tokens a b c d e event result termination ws ++ rest) ≡ game_tokens a b c d e event result termination ws ∷ cut Before rest
 unfolding cut turn is_tag
 cut_game a b c d e event result termination ws mark rest all some =
-    let t1 : Placed = record { token = Tag (codes "Event") event false; offset = a } in
-    let t2 : Placed = record { token = Tag (codes "Result") result false; offset = b } in
-    let t3 : Placed = record { token = Tag (codes "Termination") termination false; offset = c } in
+    let t1 : Placed = a_tag (codes "Event") event a in
+    let t2 : Placed = a_tag (codes "Result") result b in
+    let t3 : Placed = a_tag (codes "Termination") termination c in
     ap (λ ts. onto t1 (onto t2 (onto t3 (cut Tags ts)))) (append_assoc (placed_words d ws) (a_word result e ∷ []) rest)
     ∙ ap (λ games. onto t1 (onto t2 (onto t3 games))) (cut_words Tags d e ws result mark rest refl all some)
 
 -- what the words alone give
-words_none : {B : Type 0} (f : Placed → Option B) (ws : List (List ℕ)) (at : ℕ) → AllMoveWords ws → ((w : List ℕ) (k : ℕ) → IsMoveWord w → f (a_word w k) ≡ None) → filter_map f (placed_words at ws) ≡ []
+words_none : {B : Type 0} (f : Placed → Option B) (ws : List (List ℕ)) (at : Spot) → AllMoveWords ws → ((w : List ℕ) (k : Spot) → IsMoveWord w → f (a_word w k) ≡ None) → filter_map f (placed_words at ws) ≡ []
 words_none f [] at all none = refl
 words_none f (w ∷ ws) at all none =
-    ap (λ o. cons_option o (filter_map f (placed_words (at + length w + 1) ws))) (none w at all.0) ∙ words_none f ws (at + length w + 1) all.1 none
+    ap (λ o. cons_option o (filter_map f (placed_words (next_word w at) ws))) (none w at all.0) ∙ words_none f ws (next_word w at) all.1 none
 
-words_given : (ws : List (List ℕ)) (at : ℕ) → AllMoveWords ws → filter_map (λ (t : Placed). word_of t.token) (placed_words at ws) ≡ ws
+words_given : (ws : List (List ℕ)) (at : Spot) → AllMoveWords ws → filter_map (λ (t : Placed). word_of t.token) (placed_words at ws) ≡ ws
 unfolding word_of
 words_given [] at all = refl
 words_given (w ∷ ws) at all =
     let here : word_of (Word w) ≡ Some w = rw (all.0.no_mark) refl in
-    ap (λ o. cons_option o (filter_map (λ (t : Placed). word_of t.token) (placed_words (at + length w + 1) ws))) here ∙ ap (λ xs. w ∷ xs) (words_given ws (at + length w + 1) all.1)
+    ap (λ o. cons_option o (filter_map (λ (t : Placed). word_of t.token) (placed_words (next_word w at) ws))) here ∙ ap (λ xs. w ∷ xs) (words_given ws (next_word w at) all.1)
 
-words_not : (p : Placed → Bool) (ws : List (List ℕ)) (at : ℕ) (zs : List Placed) → ((w : List ℕ) (k : ℕ) → p (a_word w k) ≡ false) → list_any p (placed_words at ws ++ zs) ≡ list_any p zs
+words_not : (p : Placed → Bool) (ws : List (List ℕ)) (at : Spot) (zs : List Placed) → ((w : List ℕ) (k : Spot) → p (a_word w k) ≡ false) → list_any p (placed_words at ws ++ zs) ≡ list_any p zs
 words_not p [] at zs none = refl
 words_not p (w ∷ ws) at zs none =
     let here = none w at in
-    let rest = words_not p ws (at + length w + 1) zs none in
+    let rest = words_not p ws (next_word w at) zs none in
     rw (here, rest) refl
 
-outside_words : (ws : List (List ℕ)) (at : ℕ) (zs : List Placed) → outside 0 (placed_words at ws ++ zs) ≡ placed_words at ws ++ outside 0 zs
+outside_words : (ws : List (List ℕ)) (at : Spot) (zs : List Placed) → outside 0 (placed_words at ws ++ zs) ≡ placed_words at ws ++ outside 0 zs
 unfolding outside depth_after
 outside_words [] at zs = refl
-outside_words (w ∷ ws) at zs = ap (λ ts. a_word w at ∷ ts) (outside_words ws (at + length w + 1) zs)
+outside_words (w ∷ ws) at zs = ap (λ ts. a_word w at ∷ ts) (outside_words ws (next_word w at) zs)
 
-depth_words : (ws : List (List ℕ)) (at : ℕ) (zs : List Placed) → fold (λ depth (t : Placed). depth_after depth t.token) 0 (placed_words at ws ++ zs) ≡ fold (λ depth (t : Placed). depth_after depth t.token) 0 zs
+depth_words : (ws : List (List ℕ)) (at : Spot) (zs : List Placed) → fold (λ depth (t : Placed). depth_after depth t.token) 0 (placed_words at ws ++ zs) ≡ fold (λ depth (t : Placed). depth_after depth t.token) 0 zs
 unfolding depth_after
 depth_words [] at zs = refl
-depth_words (w ∷ ws) at zs = depth_words ws (at + length w + 1) zs
+depth_words (w ∷ ws) at zs = depth_words ws (next_word w at) zs
 
 -- the game that these tokens say
 pub record Says (slice : List Placed) (ws : List (List ℕ)) (mark : ResultMark) (termination : List ℕ) : Type 0 where
@@ -93,26 +91,26 @@ pub record Says (slice : List Placed) (ws : List (List ℕ)) (mark : ResultMark)
   pub closed : is_open slice ≡ false
   pub uncut : list_any (λ (t : Placed). is_cut t.token) slice ≡ false
 
-game_outside : (a b c d e : ℕ) (event result termination : List ℕ) (ws : List (List ℕ))
+game_outside : (a b c d e : Spot) (event result termination : List ℕ) (ws : List (List ℕ))
     → outside 0 (game_tokens a b c d e event result termination ws) ≡ game_tokens a b c d e event result termination ws
 unfolding outside depth_after
 game_outside a b c d e event result termination ws =
-    let t1 : Placed = record { token = Tag (codes "Event") event false; offset = a } in
-    let t2 : Placed = record { token = Tag (codes "Result") result false; offset = b } in
-    let t3 : Placed = record { token = Tag (codes "Termination") termination false; offset = c } in
+    let t1 : Placed = a_tag (codes "Event") event a in
+    let t2 : Placed = a_tag (codes "Result") result b in
+    let t3 : Placed = a_tag (codes "Termination") termination c in
     ap (λ ts. t1 ∷ t2 ∷ t3 ∷ ts) (outside_words ws d (a_word result e ∷ []))
 
 -- what is given by the words and the result
-end_given : {B : Type 0} (f : Placed → Option B) (ws : List (List ℕ)) (d e : ℕ) (result : List ℕ) → AllMoveWords ws → ((w : List ℕ) (k : ℕ) → IsMoveWord w → f (a_word w k) ≡ None)
+end_given : {B : Type 0} (f : Placed → Option B) (ws : List (List ℕ)) (d e : Spot) (result : List ℕ) → AllMoveWords ws → ((w : List ℕ) (k : Spot) → IsMoveWord w → f (a_word w k) ≡ None)
     → filter_map f (placed_words d ws ++ a_word result e ∷ []) ≡ filter_map f (a_word result e ∷ [])
 end_given f ws d e result all none = filter_map-append f (placed_words d ws) (a_word result e ∷ []) ∙ ap (λ xs. xs ++ filter_map f (a_word result e ∷ [])) (words_none f ws d all none)
 
-no_word : (result : List ℕ) (e : ℕ) (mark : ResultMark) → mark_of (Word result) ≡ Some mark → filter_map (λ (t : Placed). word_of t.token) (a_word result e ∷ []) ≡ []
+no_word : (result : List ℕ) (e : Spot) (mark : ResultMark) → mark_of (Word result) ≡ Some mark → filter_map (λ (t : Placed). word_of t.token) (a_word result e ∷ []) ≡ []
 unfolding word_of
 no_word result e mark some = rw some refl
 
 -- nothing is none_open behind words
-closed_end : (ws : List (List ℕ)) (d : ℕ) (zs : List Placed) → list_any (λ (t : Placed). is_unclosed t.token) zs ≡ false → fold (λ depth (t : Placed). depth_after depth t.token) 0 zs ≡ 0
+closed_end : (ws : List (List ℕ)) (d : Spot) (zs : List Placed) → list_any (λ (t : Placed). is_unclosed t.token) zs ≡ false → fold (λ depth (t : Placed). depth_after depth t.token) 0 zs ≡ 0
     → is_open (placed_words d ws ++ zs) ≡ false
 unfolding is_open is_unclosed
 closed_end ws d zs none none' =
@@ -120,7 +118,7 @@ closed_end ws d zs none none' =
     let two = depth_words ws d zs ∙ none' in
     rw (one, two) refl
 
-pub game_says : (a b c d e : ℕ) (event result termination : List ℕ) (ws : List (List ℕ)) (mark : ResultMark) → AllMoveWords ws → mark_of (Word result) ≡ Some mark
+pub game_says : (a b c d e : Spot) (event result termination : List ℕ) (ws : List (List ℕ)) (mark : ResultMark) → AllMoveWords ws → mark_of (Word result) ≡ Some mark
     → Says (game_tokens a b c d e event result termination ws) ws mark termination
 unfolding tag_value value_named recorded_in move_words word_of first_bad is_bad is_open is_unclosed is_cut mark_of depth_after
 game_says a b c d e event result termination ws mark all some =

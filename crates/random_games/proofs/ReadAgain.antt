@@ -30,6 +30,7 @@ use Rattle.pgn_games.specs.Games.{opening, start_of, start_fault, fault_of, game
 use Rattle.random_games.specs.Games.{MadeGame, seeded, drawn, onward, made_from, made_game, made_games}
 use Rattle.random_games.specs.Made.{result_text, termination_text, tag_line, tags_text, game_text, texts_from, made}
 use Rattle.random_games.specs.AsRead.{result_of, is_forfeit, as_read}
+use Rattle.random_games.proofs.Passed.{spot}
 use Rattle.random_games.proofs.TagLines.{is_plain, IsTagValue}
 use Rattle.random_games.proofs.GameTokens.{AllMoveWords, is_result, game_tokens, game_read}
 use Rattle.random_games.proofs.GameFields.{Says, cut_game, game_says}
@@ -123,33 +124,33 @@ event_value number small =
     let few = length-decimal-le 4 number (omega arith) (omega (arith, small)) (omega (arith, small)) in
     record { plain = digits_plain number (omega (arith, small)); short = omega (arith, size, few) }
 
-one_game : (number : ℕ) (game : MadeGame) (ys : List ℕ) (at : ℕ) (first : Bool) (rest : List Game) → number ≤ 1001 → HasWords game 100
-    → ((k : ℕ) → map game_of (cut Before (tokens_after 0 k true ys)) ≡ rest)
-    → map game_of (cut Before (tokens_after 0 at first (game_text number game ++ ys))) ≡ as_read game ∷ rest
+one_game : (number : ℕ) (game : MadeGame) (ys : List ℕ) (at line : ℕ) (first : Bool) (rest : List Game) → number ≤ 1001 → HasWords game 100
+    → ((k l : ℕ) → map game_of (cut Before (tokens_after 0 k l true ys)) ≡ rest)
+    → map game_of (cut Before (tokens_after 0 at line first (game_text number game ++ ys))) ≡ as_read game ∷ rest
 unfolding as_read
-one_game number game ys at first rest small h later =
+one_game number game ys at line first rest small h later =
     let standing = standing_of game.last in
     let event = codes "gen " ++ decimal number in
     let result = result_text game.last.side standing in
     let mark = result_of game.last.side standing in
     let termination = termination_text standing in
     let marks = (is_result game.last.side standing).marks in
-    let r = game_read number game ys at first (event_value number small) h.each in
+    let r = game_read number game ys at line first (event_value number small) h.each in
     let few = h.few in
     ap (λ ts. map game_of (cut Before ts)) r.tokens_are
-    ∙ ap (map game_of) (cut_game at r.b r.c r.d r.e event result termination game.words mark (tokens_after 0 r.end true ys) h.each marks)
-    ∙ ap (λ x. x ∷ map game_of (cut Before (tokens_after 0 r.end true ys)))
-    (game_is (game_tokens at r.b r.c r.d r.e event result termination game.words) game.words mark termination (is_forfeit standing)
-    (game_says at r.b r.c r.d r.e event result termination game.words mark h.each marks) (omega (arith, few)) (says_ending standing))
-    ∙ ap (λ xs. as_read game ∷ xs) (later r.end)
+    ∙ ap (map game_of) (cut_game (spot at line) r.b r.c r.d r.e event result termination game.words mark (tokens_after 0 r.end r.end_line true ys) h.each marks)
+    ∙ ap (λ x. x ∷ map game_of (cut Before (tokens_after 0 r.end r.end_line true ys)))
+    (game_is (game_tokens (spot at line) r.b r.c r.d r.e event result termination game.words) game.words mark termination (is_forfeit standing)
+    (game_says (spot at line) r.b r.c r.d r.e event result termination game.words mark h.each marks) (omega (arith, few)) (says_ending standing))
+    ∙ ap (λ xs. as_read game ∷ xs) (later r.end r.end_line)
 
-games_from : (count number : ℕ) (g : Lcg) (at : ℕ) (first : Bool) → number + count ≤ 1001 → map game_of (cut Before (tokens_after 0 at first (texts_from number (made_games count g)))) ≡ map as_read (made_games count g)
+games_from : (count number : ℕ) (g : Lcg) (at line : ℕ) (first : Bool) → number + count ≤ 1001 → map game_of (cut Before (tokens_after 0 at line first (texts_from number (made_games count g)))) ≡ map as_read (made_games count g)
 unfolding made_games texts_from tokens_after cut
-games_from zero number g at first few = refl
-games_from (suc count) number g at first few =
+games_from zero number g at line first few = refl
+games_from (suc count) number g at line first few =
     let game = made_game g in
-    one_game number game (texts_from (number + 1) (made_games count game.generator)) at first (map as_read (made_games count game.generator)) (omega (arith, few)) (has_words 100 opening g)
-    (λ k. games_from count (number + 1) game.generator k true (omega (arith, few)))
+    one_game number game (texts_from (number + 1) (made_games count game.generator)) at line first (map as_read (made_games count game.generator)) (omega (arith, few)) (has_words 100 opening g)
+    (λ k l. games_from count (number + 1) game.generator k l true (omega (arith, few)))
 
 no_mark : (number : ℕ) (games : List MadeGame) → has_mark (texts_from number games) ≡ false
 unfolding has_mark texts_from game_text tags_text tag_line
@@ -160,4 +161,4 @@ pub games_are_read : (seed count : ℕ) → 1 ≤ count → count ≤ 1000 → g
 unfolding games made
 games_are_read seed count some few =
     let all = made_games count (seeded seed) in
-    ap (λ ts. map game_of (cut Before ts)) (unmarked (texts_from 1 all) (no_mark 1 all)) ∙ games_from count 1 (seeded seed) 0 true (omega (arith, few))
+    ap (λ ts. map game_of (cut Before ts)) (unmarked (texts_from 1 all) (no_mark 1 all)) ∙ games_from count 1 (seeded seed) 0 1 true (omega (arith, few))

@@ -1,20 +1,21 @@
 -- The token of a tag pair on a line.
 use Rattle.std.proofs.Common.{◌≡◌, ℕ, ◌+◌, ◌-◌, ◌≤◌, ◌==◌, ◌&&◌, Bool, true, false, not, nat_lt, List, [], ◌∷◌, ◌++◌, Some, length, take, refl, sym, ap, ◌∙◌, arith, append_assoc}
 use Rattle.std.specs.Prelude.{codes}
-use Rattle.std.specs.List.{list_all}
+use Rattle.std.specs.List.{list_all, fold}
 use Rattle.std.proofs.lemmas.List.{take_all, length-append}
 use Rattle.std.proofs.lemmas.Bool.{and_parts, not-true}
 use Rattle.cha_list.specs.declared.classes.Class.TheVariants.{InLine}
 use Rattle.cha_list.specs.Bytes.{in_class}
 use Rattle.pgn_lex.specs.declared.kinds.Token.TheVariants.{Tag}
+use Rattle.pgn_lex.specs.declared.kinds.Placed.{Placed}
 use Rattle.pgn_lex.specs.declared.pieces.Piece.{Piece}
 use Rattle.pgn_lex.specs.Pieces.{spoken_piece, is_white}
 use Rattle.pgn_lex.specs.Tags.{past_blanks, past_byte, name_at, onto, value_after, tag_piece}
-use Rattle.pgn_lex.specs.Tokens.{piece, placed, tokens_after}
+use Rattle.pgn_lex.specs.Tokens.{piece, placed, line_after, tokens_after}
 use Rattle.pgn_lex.proofs.Keeping.{below}
 use Rattle.pgn_lex.proofs.TagParts.{tag_is}
 use Rattle.random_games.specs.Made.{tag_line}
-use Rattle.random_games.proofs.Passed.{first_behind, passed, new_line}
+use Rattle.random_games.proofs.Passed.{Spot, spot, first_behind, passed, new_line}
 
 -- a byte that stands for itself in a value
 abbrev pub is_plain : ℕ → Bool
@@ -97,18 +98,27 @@ tag_found name value ys first h v =
     ∙ ap (λ x. spoken_piece (Tag name value x) (length bs - length (10 ∷ ys))) (below (length value) v.short)
     ∙ ap (λ x. spoken_piece (Tag name value false) x) size
 
-pub tag_read : (name value ys : List ℕ) (at end : ℕ) (first : Bool) → IsTagName name → IsTagValue value → end ≡ at + length (tag_line name value)
-    → tokens_after 0 at first (tag_line name value ++ ys) ≡ record { token = Tag name value false; offset = at } ∷ tokens_after 0 end true ys
+-- a tag pair at a place
+abbrev pub a_tag : List ℕ → List ℕ → Spot → Placed
+a_tag name value at = record { token = Tag name value false; offset = at.start; end = at.start + 1 + length (inside name value); line = at.line }
+
+-- the line behind it
+abbrev pub line_behind : ℕ → List ℕ → List ℕ → ℕ
+line_behind line name value = line_after (fold line_after (line_after line 91) (inside name value)) 10
+
+pub tag_read : (name value ys : List ℕ) (at line end : ℕ) (first : Bool) → IsTagName name → IsTagValue value → end ≡ at + length (tag_line name value)
+    → tokens_after 0 at line first (tag_line name value ++ ys) ≡ a_tag name value (spot at line) ∷ tokens_after 0 end (line_behind line name value) true ys
 unfolding tokens_after
-tag_read name value ys at end first h v e =
+tag_read name value ys at line end first h v e =
     let within = inside name value in
     let all = within ++ 10 ∷ ys in
     let size = length_line name value in
     let text : tag_line name value ++ ys ≡ 91 ∷ all = line_is name value ys ∙ ap (λ x. 91 ∷ x) (sym (inside_is name value ys)) in
     let found = tag_found name value ys first h v in
     let next = at + 1 + length within in
-    let last : tokens_after 0 next (first_behind (not (in_class InLine 91)) within) (10 ∷ ys) ≡ tokens_after 0 end true ys =
-    new_line ys next (first_behind (not (in_class InLine 91)) within) ∙ ap (λ n. tokens_after 0 n true ys) (omega (arith, e, size)) in
-    ap (tokens_after 0 at first) text
-    ∙ ap (λ (p : Piece). placed at p.token ++ tokens_after p.more (at + 1) (not (in_class InLine 91)) all) found
-    ∙ ap (λ ts. record { token = Tag name value false; offset = at } ∷ ts) (passed within (10 ∷ ys) (length within) (at + 1) next (not (in_class InLine 91)) refl refl ∙ last)
+    let behind = fold line_after (line_after line 91) within in
+    let last : tokens_after 0 next behind (first_behind (not (in_class InLine 91)) within) (10 ∷ ys) ≡ tokens_after 0 end (line_after behind 10) true ys =
+    new_line ys next behind (first_behind (not (in_class InLine 91)) within) ∙ ap (λ n. tokens_after 0 n (line_after behind 10) true ys) (omega (arith, e, size)) in
+    ap (tokens_after 0 at line first) text
+    ∙ ap (λ (p : Piece). placed at (at + 1 + p.more) line p.token ++ tokens_after p.more (at + 1) (line_after line 91) (not (in_class InLine 91)) all) found
+    ∙ ap (λ ts. a_tag name value (spot at line) ∷ ts) (passed within (10 ∷ ys) (length within) (at + 1) (line_after line 91) next (not (in_class InLine 91)) refl refl ∙ last)

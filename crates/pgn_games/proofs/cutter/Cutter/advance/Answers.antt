@@ -24,7 +24,7 @@ returns-in-Ok-clause-ended g c = λ e.
     let up = c.feed_piece.ensures.used_up (c.in-Ok-Open.is ∙ ap Ok c.in-Ok-Open.field-0-is) in
     let same = c.refill.ensures.same in
     let end = c.refill.ensures.end (c.in-Ok-End.is ∙ ap Ok c.in-Ok-End.field-0-is) in
-    (ended c.refill.new.self.lexer.fed _ _ _ _ _ _ _ _ _ c.in-Ok-End.ensures.open c.end.ensures.fed end.1 c.in-Ok.ensures.tokens, rw (same.2, same.4) up.0, end.0)
+    (c.in-Ok.ensures.last.0, c.in-Ok.ensures.last.1, end.0)
 
 pub returns-in-Err-refill-clause-bytes : goal.returns-in-Err-refill-clause-bytes
 returns-in-Err-refill-clause-bytes g c =

@@ -1,6 +1,6 @@
 use Rattle.std.proofs.Common.{length, ◌||◌, ◌++◌, ◌∷◌, [], ap, ◌∙◌, arith}
 use Rattle.std.specs.Option.{option_or}
-use Rattle.pgn_games.proofs.Summed.{summed, values_next, few_words, shallow}
+use Rattle.pgn_games.proofs.Summed.{summed, spanned, values_next, few_words, shallow}
 use Rattle.pgn_games.proofs.summary.Summary.take.Goals as goal
 
 pub deeper-depth-requires : goal.deeper-depth-requires
@@ -17,4 +17,5 @@ invariant_of-self-2 c =
           (c.or-bad.ensures ∙ ap (λ o. option_or c.self.inside.bad o) c.bad_outside.ensures) (ap (λ b. c.self.inside.unclosed || b) c.unclosed.ensures) (ap (λ b. c.self.inside.cut || b) c.was_cut.ensures)
           (c.or-recorded.ensures ∙ ap (λ o. option_or c.self.inside.recorded o) c.mark_outside.ensures) kept.words,
       values_next c.self.inside.told _ c.args.placed _ _ _ _ _ _ c.self.invariant.1 told kept.variant kept.fen kept.termination,
+      spanned c.self.inside.told _ c.args.placed _ _ _ c.self.invariant.0.empty_is c.self.invariant.2 told c.longer-span.ensures,
     )

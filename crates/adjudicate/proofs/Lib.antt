@@ -1,5 +1,4 @@
 pub mod Items
-pub mod LineEnds
 pub mod Progress
 pub mod RunEndings
 pub mod Answering

@@ -1,8 +1,6 @@
 -- What an order asks for (this project).
-use Rattle.std.specs.Prelude.{ℕ, Bool, true, false, not, List, map, filter, Option, Some, None}
-use Rattle.std.specs.List.{list_all}
-use Rattle.cha_list.specs.declared.classes.Class.TheVariants.{Blank}
-use Rattle.cha_list.specs.Bytes.{in_class}
+use Rattle.std.specs.Prelude.{ℕ, Bool, true, false, List, map, Option, Some, None}
+use Rattle.text_lines.specs.Lines.{text_lines, settled_lines}
 use Rattle.pgn_games.specs.Games.{placed_games}
 use Rattle.pgn_games.specs.Settling.{settled_games}
 use Rattle.random_games.specs.Made.{made}
@@ -19,15 +17,10 @@ use Rattle.flag_report.specs.declared.styles.Subject.TheVariants.{Games, Positio
 use Rattle.flag_report.specs.Styles.{summary}
 use Rattle.cha_words.specs.declared.orders.Order.{Order}
 use Rattle.cha_words.specs.declared.orders.Order.TheVariants.{AdjudicateGames, JudgePositions, CheckCert, GenGames, ListMates}
-use Rattle.adjudicate.specs.InputLines.{lines}
-
--- a line counts where it has a byte other than a space and a tab
-unfoldable pub counts : List ℕ → Bool
-counts text = not (list_all (in_class Blank) text)
 
 -- the items of a text of positions: its lines that count, in order
-unfoldable pub position_items : List ℕ → List Item
-position_items bytes = map (line_item 0) (filter counts (lines bytes))
+abbrev pub position_items : List ℕ → List Item
+position_items bytes = map (λ line. line_item line.number line.text) (text_lines bytes)
 
 -- the items of a text of games, in order
 abbrev pub game_items : List ℕ → List Item
@@ -43,12 +36,12 @@ pub record Job : Type 0 where
   pub style : Style
   pub subject : Subject
 
--- a job on games as they come, and on lines once all of them were read
+-- a job on games as they come, and on lines as they come
 abbrev pub on_games : Question → Style → Job
 on_games question style = record { reads = true; items = game_items; settled = settled_games; question = question; style = style; subject = Games }
 
 abbrev pub on_lines : Question → Style → Subject → Job
-on_lines question style subject = record { reads = true; items = position_items; settled = λ _. 0; question = question; style = style; subject = subject }
+on_lines question style subject = record { reads = true; items = position_items; settled = settled_lines; question = question; style = style; subject = subject }
 
 -- a job on games that are made of a seed, whose blocks are not printed
 abbrev pub on_made : Question → ℕ → ℕ → Job

@@ -1,11 +1,9 @@
 -- what public contracts say
-pub mod InputLines
 pub mod CertFindings
 pub mod Jobs
 pub mod Report
 pub mod Runs
 pub mod Statuses
 -- what only the crate's own functions say of each other
-pub mod LinesState
 pub mod Readers
 pub mod Steps

@@ -1,5 +1,6 @@
 -- What a reader of items has taken and given.
-use Rattle.std.specs.Prelude.{◌≡◌, ℕ, ◌-◌, ◌≤◌, Bool, true, false, List, drop, length, ⊤}
+use Rattle.std.specs.Prelude.{◌≡◌, ℕ, ◌≤◌, Bool, true, false, List, length, ⊤}
+use Rattle.text_lines.specs.Lines.{settled_lines}
 use Rattle.pgn_games.specs.Settling.{settled_games}
 use Rattle.cha_outcome.specs.declared.items.Item.{Item}
 use Rattle.cha_outcome.specs.declared.questions.Question.{Question}
@@ -13,28 +14,27 @@ use Rattle.adjudicate.specs.Runs.{most_bytes}
 -- it gives games, and not lines
 abbrev pub is_of_games : ItemReader → Bool
 is_of_games (Games reader) = true
-is_of_games (Lines lines) = false
+is_of_games (Lines reader) = false
 
--- the bytes that it has taken: games as they come, and all of a text of lines
+-- the bytes that it has taken
 abbrev pub taken_by : ItemReader → List ℕ
 taken_by (Games reader) = reader.taken
-taken_by (Lines lines) = lines.text
+taken_by (Lines reader) = reader.taken
 
 -- how many items it has given
 abbrev pub given_by : ItemReader → ℕ
 given_by (Games reader) = reader.given
-given_by (Lines lines) = length (position_items lines.text) - length (position_items lines.rest)
+given_by (Lines reader) = reader.given
 
 -- it has taken all that there is
 abbrev pub has_ended : ItemReader → Bool
 has_ended (Games reader) = reader.ended
-has_ended (Lines lines) = true
+has_ended (Lines reader) = reader.ended
 
--- it can give more: no call has failed, no more was taken than an input may have, and what is left of lines are the items that were not
--- given
+-- it can give more: no call has failed, and no more was taken than an input may have
 abbrev pub CanGoOn : ItemReader → Type 0
 CanGoOn (Games reader) = (reader.failed ≡ false) × (length reader.taken ≤ most_bytes)
-CanGoOn (Lines lines) = (drop (given_by (Lines lines)) (position_items lines.text) ≡ position_items lines.rest) × (length lines.text ≤ most_bytes)
+CanGoOn (Lines reader) = (reader.failed ≡ false) × (length reader.taken ≤ most_bytes)
 
 -- the items of bytes, and how many of them are settled, where they are games or lines
 abbrev pub items_by : Bool → List ℕ → List Item
@@ -43,7 +43,7 @@ items_by false = position_items
 
 abbrev pub settled_by : Bool → List ℕ → ℕ
 settled_by true = settled_games
-settled_by false = λ _. 0
+settled_by false = settled_lines
 
 -- a question is asked about such items
 abbrev pub IsAskedOf : Bool → Question → Type 0

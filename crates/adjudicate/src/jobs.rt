@@ -8,15 +8,15 @@ ghost use Rattle.adjudicate.specs.Runs.{IsRunOf, outside};
 ghost use Rattle.adjudicate.specs.Steps.{made_status};
 
 use crate::endings::Status;
-use crate::lines::LineReader;
 use crate::readers::ItemReader;
 use crate::reports::{Form, write_report};
 use cha_judge::Judge;
-use cha_outside::{Bytes, MOST_BYTES, Sink, Source, read_all};
+use cha_outside::{Bytes, Sink, Source};
 use flag_report::{Style, Subject};
 use pgn_games::Reader;
 use random_games::games_text;
 use std::alloc::Global;
+use text_lines::LineReader;
 
 /// Writes the report on the games of a source, each as soon as it has come.
 pub fn report_games<J: Judge, S: Source, K: Sink>(
@@ -40,7 +40,7 @@ pub fn report_games<J: Judge, S: Source, K: Sink>(
     write_report(alloc, form, ItemReader::Games(reader), judge, source, sink)
 }
 
-/// Writes the report on the lines of a source that are not blank. It reads the whole source first.
+/// Writes the report on the lines of a source that are not blank, each as soon as it has come.
 pub fn report_lines<J: Judge, S: Source, K: Sink>(
     alloc: Global,
     form: Form,
@@ -51,13 +51,8 @@ pub fn report_lines<J: Judge, S: Source, K: Sink>(
     requires { J.ready judge.old }
     ensures { IsRunOf (demand_by (Some (on_lines (J.question judge.old) form.style form.subject))) result (outside (S.left source.old) (S.faults source.old) (K.written sink.old) (K.faults sink.old)) (outside (S.left source.new) (S.faults source.new) (K.written sink.new) (K.faults sink.new)) }
 {
-    match read_all(alloc, source, MOST_BYTES) {
-        Ok(bytes) => {
-            let lines = LineReader::new(bytes.as_slice());
-            write_report(alloc, form, ItemReader::Lines(lines), judge, source, sink)
-        }
-        Err(end) => Status::from(end),
-    }
+    let reader = LineReader::new(alloc);
+    write_report(alloc, form, ItemReader::Lines(reader), judge, source, sink)
 }
 
 /// Makes so many games of a seed, and writes the summary of the report on them alone. Nothing is read.

@@ -1,6 +1,6 @@
 //! The one call that reads an input, judges its items and writes the report.
 //!
-//! `endings` has how a run ends, `splitting` the lines of a text, `lines` and `readers` the items of an input, one at a time,
+//! `endings` has how a run ends, `readers` the items of an input, one at a time,
 //! `writing` how what is printed goes out, `reports` the one loop over items, `jobs` where the items of each job come from,
 //! `checking` the check of a certificate, `commands` what each order does, `top` the call `run`, and `alone` the same call without a
 //! runtime.
@@ -11,10 +11,8 @@ mod checking;
 mod commands;
 mod endings;
 mod jobs;
-mod lines;
 mod readers;
 mod reports;
-mod splitting;
 mod top;
 mod writing;
 

@@ -8,27 +8,28 @@ ghost use Rattle.cha_limits.specs.Bounds.{Bounds};
 ghost use Rattle.cha_outcome.specs.declared.questions.Question.{Question};
 ghost use Rattle.cha_outcome.specs.declared.questions.Question.TheVariants.{Verdicts};
 ghost use Rattle.pgn_games.specs.Settling.{settled_games};
+ghost use Rattle.text_lines.specs.Lines.{settled_lines};
 ghost use Rattle.cha_outcome.specs.Outcomes.{CanBeAsked};
-ghost use Rattle.adjudicate.specs.Jobs.{game_items};
+ghost use Rattle.adjudicate.specs.Jobs.{game_items, position_items};
 ghost use Rattle.adjudicate.specs.Readers.{taken_by, given_by, has_ended, is_of_games, items_by, settled_by, CanGoOn, IsAskedOf};
 ghost use Rattle.adjudicate.specs.Runs.{most_bytes};
 
-use crate::lines::LineReader;
-use cha_outcome::{Item, item_of_game};
+use cha_outcome::{Item, item_of_game, item_of_line};
 use cha_outside::{ReadEnd, Source};
 use pgn_games::Reader;
 use std::alloc::Global;
+use text_lines::LineReader;
 
 /// Who gives the items of an input.
 #[derive(Drop)]
-pub enum ItemReader<'a> {
+pub enum ItemReader {
     /// Games, each as soon as it has come.
     Games(Reader),
-    /// Lines of a text that was read whole.
-    Lines(LineReader<'a>),
+    /// Lines, each as soon as it has come.
+    Lines(LineReader),
 }
 
-impl<'a> ItemReader<'a> {
+impl ItemReader {
     /// The next item, or None where all were given. After an error no call may follow.
     pub fn next<S: Source>(
         &mut self,
@@ -53,7 +54,7 @@ impl<'a> ItemReader<'a> {
     {
         match self {
             ItemReader::Games(reader) => next_game(alloc, reader, source),
-            ItemReader::Lines(lines) => Ok(lines.next()),
+            ItemReader::Lines(reader) => next_line(reader, source),
         }
     }
 }
@@ -84,6 +85,33 @@ fn next_game<S: Source>(
             Ok(item) => Ok(Some(item)),
             Err(_) => Err(ReadEnd::NoMemory),
         },
+        Ok(None) => Ok(None),
+        Err(end) => Err(end),
+    }
+}
+
+/// The item of the next line that is not blank, or None where all were given.
+fn next_line<S: Source>(
+    reader: &mut LineReader,
+    source: &mut S,
+) -> Result<Option<Item>, ReadEnd>
+    requires { reader.old.failed ≡ false }
+    ensures bytes { Gathers (S.left source.old) (S.left source.new) reader.old.taken reader.new.taken }
+    ensures item { IfOk result (λ found. IfSome found (λ item. slice_get (position_items reader.new.taken) reader.old.given ≡ Some item)) }
+    ensures asked { IfOk result (λ found. IfSome found (λ item. (question : Question) → CanBeAsked question item)) }
+    ensures given { IfOk result (λ found. IfSome found (λ item. (reader.new.given ≡ reader.old.given + 1) × (reader.old.given < 2 ^ 62))) }
+    ensures none { result ≡ Ok None → (reader.new.ended ≡ true) × (length (position_items reader.new.taken) ≤ reader.old.given) }
+    ensures first { take reader.old.given (position_items reader.new.taken) ≡ take reader.old.given (position_items reader.old.taken) }
+    ensures end { (reader.old.ended ≡ true → IsAtEnd (S.left source.old)) → reader.new.ended ≡ true → IsAtEnd (S.left source.new) }
+    ensures read_fault { result ≡ Err ReadEnd.ReadFault → Rose (S.faults source.old) (S.faults source.new) }
+    ensures settled { result ≡ Err ReadEnd.ReadFault → settled_lines reader.new.taken ≤ reader.old.given }
+    ensures too_long { (result ≡ Err ReadEnd.TooLong) ↔ (most_bytes < length reader.new.taken) }
+    ensures few { length reader.new.taken ≤ most_bytes + 4096 }
+    ensures goes_on { IfOk result (λ _. (reader.new.failed ≡ false) × (length reader.new.taken ≤ most_bytes)) }
+    ensures later { S.faults source.old ≤ S.faults source.new }
+{
+    match reader.next(source) {
+        Ok(Some(line)) => Ok(Some(item_of_line(line.number, line.text.items()))),
         Ok(None) => Ok(None),
         Err(end) => Err(end),
     }

@@ -1,6 +1,7 @@
 //! Whether the sides can still mate.
 
 ghost use Rattle.std.specs.Prelude.{◌<◌, ◌≤◌, length, IfOk};
+ghost use Rattle.cha_outcome.specs.declared.questions.FlaggedDraws.{FlaggedDraws as DrawRule};
 ghost use Rattle.cha_outcome.specs.declared.questions.Question.TheVariants.{Verdicts};
 ghost use Rattle.cha_outcome.specs.declared.items.Item.TheVariants.{Position as OfPosition, Played};
 ghost use Rattle.cha_outcome.specs.Outcomes.{Answers, HasPositions, IsPrintableOutcome};
@@ -11,7 +12,7 @@ use cha_decide::{decide_by, scan_by};
 use cha_limits::Limits;
 use cha_list::NoMemory;
 use cha_moves::state;
-use cha_outcome::{Item, Outcome, PlayedGame, first_examined, judgment_of, status_of};
+use cha_outcome::{FlaggedDraws, Item, Outcome, PlayedGame, claim_of, first_examined, judgment_of, status_of};
 use root_workers::Crew;
 use std::alloc::Global;
 
@@ -21,6 +22,8 @@ use std::alloc::Global;
 pub struct VerdictsJudge<C: Crew> {
     /// What a search may spend on a side.
     pub limits: Limits,
+    /// What becomes of drawn games whose flag fell.
+    pub draws: FlaggedDraws,
     /// The workers who search.
     pub crew: C,
 }
@@ -30,14 +33,14 @@ impl<C: Crew> Judge for VerdictsJudge<C> {
 
     ghost ready = { λ s. C.ready s.crew };
 
-    ghost question = { λ s. Verdicts s.limits };
+    ghost question = { λ s. Verdicts s.limits s.draws };
 
     fn judge(&mut self, alloc: Global, item: Item) -> Result<Outcome, NoMemory> {
         match item {
             Item::Position { line, position } => {
                 judge_position(alloc, line, position, &self.limits, &mut self.crew)
             }
-            Item::Played(game) => judge_game(alloc, game, &self.limits, &mut self.crew),
+            Item::Played(game) => judge_game(alloc, game, &self.limits, self.draws, &mut self.crew),
             Item::RefusedLine { line, fault } => Ok(Outcome::RefusedLine { line, fault }),
             Item::UnreadableGame { span, why } => Ok(Outcome::UnreadableGame { span, why }),
         }
@@ -54,7 +57,7 @@ fn judge_position<C: Crew>(
 ) -> Result<Outcome, NoMemory>
     requires ready { C.ready crew.old }
     ensures stays_ready { C.ready crew.new }
-    ensures answers { IfOk result (Answers (Verdicts limits.now) (OfPosition line position)) }
+    ensures answers { IfOk result ((λ outcome. (draws : DrawRule) → Answers (Verdicts limits.now draws) (OfPosition line position) outcome)) }
     ensures printable { IfOk result IsPrintableOutcome }
 {
     let decision = decide_by(alloc, &position, Color::White, limits, crew)?;
@@ -73,15 +76,17 @@ fn judge_game<C: Crew>(
     alloc: Global,
     game: PlayedGame,
     limits: &Limits,
+    draws: FlaggedDraws,
     crew: &mut C,
 ) -> Result<Outcome, NoMemory>
     requires positions { HasPositions game }
     requires ready { C.ready crew.old }
     ensures stays_ready { C.ready crew.new }
-    ensures answers { IfOk result (Answers (Verdicts limits.now) (Played game)) }
+    ensures answers { IfOk result (Answers (Verdicts limits.now draws) (Played game)) }
     ensures printable { IfOk result IsPrintableOutcome }
 {
-    let first = first_examined(game.recorded);
+    let claim = claim_of(draws, &game);
+    let first = first_examined(claim);
     let decision = decide_by(alloc, &game.last, first, limits, crew)?;
     let scan = scan_by(
         alloc,
@@ -93,7 +98,7 @@ fn judge_game<C: Crew>(
     )?;
     let standing = state(&game.last);
     let status = status_of(standing, &decision.white, &decision.black);
-    let judgment = judgment_of(&game, standing, &decision, &scan);
+    let judgment = judgment_of(&game, claim, standing, &decision, &scan);
     Ok(Outcome::JudgedGame {
         game,
         decision,

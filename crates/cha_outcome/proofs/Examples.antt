@@ -1,5 +1,5 @@
 -- The table of rulings, and the other tables of rulings, row by row.
-use Rattle.std.proofs.Common.{◌≡◌, ℕ, Bool, true, false, List, [], ◌∷◌, map, refl}
+use Rattle.std.proofs.Common.{◌≡◌, ℕ, Bool, true, false, List, [], ◌∷◌, map, Option, Some, None, refl}
 use Rattle.cha_board.specs.declared.men.Color.{Color}
 use Rattle.cha_board.specs.declared.men.Color.TheVariants.{White, Black}
 use Rattle.cha_moves.specs.Step.{Move}
@@ -10,26 +10,31 @@ use Rattle.pgn_games.specs.declared.marks.ResultMark.TheVariants.{WhiteWins, Bla
 use Rattle.pgn_games.specs.Wins.{win_of}
 use Rattle.cha_verdict.specs.declared.verdicts.Verdict.{Verdict}
 use Rattle.cha_verdict.specs.declared.verdicts.Verdict.TheVariants.{Winnable, Unwinnable, Undecided, Skipped}
-use Rattle.cha_outcome.specs.declared.rulings.Cause.TheVariants.{Mate511, Stalemate521, Dead522, Flag69, Recorded, RecordedUndecided}
+use Rattle.cha_outcome.specs.declared.rulings.Cause.TheVariants.{Mate511, Stalemate521, Dead522, Flag69, FlagOfMover69, Recorded, RecordedUndecided}
+use Rattle.cha_outcome.specs.declared.rulings.Claim.{Claim}
 use Rattle.cha_outcome.specs.declared.rulings.Judgment.{Judgment}
-use Rattle.cha_outcome.specs.Rulings.{judged, winner_ruling_of, running_ruling_of, ruling_of, first_of, is_changed}
+use Rattle.cha_outcome.specs.Rulings.{judged, winner_ruling_of, flag_ruling_of, running_ruling_of, ruling_of, first_by, is_changed}
+
+-- what a text says of the end of a game, where no draw is examined
+abbrev claim : ResultMark → Bool → Claim
+claim recorded forfeit = record { recorded = recorded; forfeit = forfeit; claimant = None }
 
 -- a mate, whatever was recorded and found
-mated : (winner : Color) (recorded : ResultMark) (forfeit : Bool) (white black : Verdict) (earlier : Bool) → ruling_of (Mate winner) recorded forfeit white black earlier ≡ judged (win_of winner) Mate511
+mated : (winner : Color) (recorded : ResultMark) (forfeit : Bool) (white black : Verdict) (earlier : Bool) → ruling_of (Mate winner) (claim recorded forfeit) white black earlier ≡ judged (win_of winner) Mate511
 unfolding ruling_of
 mated winner recorded forfeit white black earlier = refl
 
 -- a game that was dead before its end, whatever was recorded and found there: played on to a stalemate, or not
-dead_before : (recorded : ResultMark) (forfeit : Bool) (white black : Verdict) → ruling_of Stalemate recorded forfeit white black true ≡ judged Draw Dead522
+dead_before : (recorded : ResultMark) (forfeit : Bool) (white black : Verdict) → ruling_of Stalemate (claim recorded forfeit) white black true ≡ judged Draw Dead522
 unfolding ruling_of
 dead_before recorded forfeit white black = refl
 
-dead_before_running : (recorded : ResultMark) (forfeit : Bool) (white black : Verdict) → ruling_of Running recorded forfeit white black true ≡ judged Draw Dead522
+dead_before_running : (recorded : ResultMark) (forfeit : Bool) (white black : Verdict) → ruling_of Running (claim recorded forfeit) white black true ≡ judged Draw Dead522
 unfolding ruling_of
 dead_before_running recorded forfeit white black = refl
 
 -- a stalemate, whatever was recorded and found
-stalemated : (recorded : ResultMark) (forfeit : Bool) (white black : Verdict) → ruling_of Stalemate recorded forfeit white black false ≡ judged Draw Stalemate521
+stalemated : (recorded : ResultMark) (forfeit : Bool) (white black : Verdict) → ruling_of Stalemate (claim recorded forfeit) white black false ≡ judged Draw Stalemate521
 unfolding ruling_of
 stalemated recorded forfeit white black = refl
 
@@ -39,7 +44,7 @@ each_verdict moves cert units depth = Winnable moves ∷ Unwinnable cert ∷ Und
 
 -- the rulings where the game goes on, and was not dead before: a row for each verdict on White, and in it one for each verdict on Black
 abbrev rulings : ResultMark → Bool → List Verdict → List (List Judgment)
-rulings recorded forfeit verdicts = map (λ white. map (λ black. ruling_of Running recorded forfeit white black false) verdicts) verdicts
+rulings recorded forfeit verdicts = map (λ white. map (λ black. ruling_of Running (claim recorded forfeit) white black false) verdicts) verdicts
 
 -- a dead position, a draw by the flag, a recorded result, and a recorded winner of whom nothing was shown
 abbrev d : Judgment
@@ -95,12 +100,31 @@ without_result : (forfeit : Bool) (moves : List Move) (cert : List Node) (units 
 unfolding ruling_of running_ruling_of winner_ruling_of
 without_result forfeit moves cert units depth = refl
 
+-- a draw whose flag fell and that is examined: won where the claimant can mate, and by its verdict alone, but in a dead position
+abbrev claims : Color → List Verdict → List (List Judgment)
+claims claimant verdicts = map (λ white. map (λ black. ruling_of Running (record { recorded = Draw; forfeit = true; claimant = Some claimant }) white black false) verdicts) verdicts
+
+abbrev w : Color → Judgment
+w winner = judged (win_of winner) FlagOfMover69
+
+claimed_by_white : (moves : List Move) (cert : List Node) (units depth : ℕ) → let x = Draw in
+    claims White (each_verdict moves cert units depth)
+    ≡ ((w White ∷ w White ∷ w White ∷ w White ∷ []) ∷ (f ∷ d ∷ f ∷ f ∷ []) ∷ (u x ∷ u x ∷ u x ∷ u x ∷ []) ∷ (u x ∷ u x ∷ u x ∷ u x ∷ []) ∷ [])
+unfolding ruling_of running_ruling_of flag_ruling_of
+claimed_by_white moves cert units depth = refl
+
+claimed_by_black : (moves : List Move) (cert : List Node) (units depth : ℕ) → let x = Draw in
+    claims Black (each_verdict moves cert units depth)
+    ≡ ((w Black ∷ f ∷ u x ∷ u x ∷ []) ∷ (w Black ∷ d ∷ u x ∷ u x ∷ []) ∷ (w Black ∷ f ∷ u x ∷ u x ∷ []) ∷ (w Black ∷ f ∷ u x ∷ u x ∷ []) ∷ [])
+unfolding ruling_of running_ruling_of flag_ruling_of
+claimed_by_black moves cert units depth = refl
+
 abbrev each_mark : List ResultMark
 each_mark = WhiteWins ∷ BlackWins ∷ Draw ∷ Unknown ∷ []
 
 -- a recorded winner is examined first
-firsts : map first_of each_mark ≡ White ∷ Black ∷ White ∷ White ∷ []
-unfolding first_of
+firsts : map (λ mark. first_by (claim mark false)) each_mark ≡ White ∷ Black ∷ White ∷ White ∷ []
+unfolding first_by
 firsts = refl
 
 -- a row for each recorded result: whether each result is another

@@ -34,7 +34,7 @@ final_of start qs = slice_index_or qs (length qs - 1) start
 
 -- a game that was played to its final position
 abbrev pub played : Span → Game → List Board → PlayedGame
-played span game qs = record { span = span; last = final_of game.start qs; positions = qs; recorded = game.recorded; forfeit = game.forfeit }
+played span game qs = record { span = span; last = final_of game.start qs; positions = qs; recorded = game.recorded; forfeit = game.forfeit; flag_fell = game.flag_fell }
 
 -- the first word of a game that names no move
 abbrev pub stopped_by : Game → PlayFault → Unreadable

@@ -15,6 +15,7 @@ use Rattle.helpmate_list.specs.Shortest.{shortest}
 use Rattle.cha_outcome.specs.declared.items.PlayedGame.{PlayedGame}
 use Rattle.cha_outcome.specs.declared.items.Item.{Item}
 use Rattle.cha_outcome.specs.declared.items.Item.TheVariants.{Position, RefusedLine as Refused, Played, UnreadableGame as Unread}
+use Rattle.cha_outcome.specs.declared.questions.FlaggedDraws.{FlaggedDraws}
 use Rattle.cha_outcome.specs.declared.questions.Question.{Question}
 use Rattle.cha_outcome.specs.declared.questions.Question.TheVariants.{Verdicts, Mates}
 use Rattle.cha_outcome.specs.declared.outcomes.Outcome.{Outcome}
@@ -32,14 +33,14 @@ item_of (UnreadableGame span why) = Unread span why
 
 -- the verdicts are true of the position, and a game whose final position they show dead has a sound scan, and no other has one; the
 -- status and the result are by these. A line that is refused and a game that cannot be read have no verdicts.
-unfoldable pub HasSoundVerdicts : Bounds → Outcome → Type 0
-HasSoundVerdicts limits (JudgedPosition number q d status) = IsSound q White limits d × (status ≡ status_of (standing_of q) d.white d.black)
-HasSoundVerdicts limits (JudgedGame game d scan status judgment) =
-    IsSound game.last (first_of game.recorded) limits d × HasScan game.positions (first_of game.recorded) limits d scan
-    × (status ≡ status_of (standing_of game.last) d.white d.black) × (judgment ≡ judgment_of game d scan)
-HasSoundVerdicts limits (ListedMates number q depth found) = ⊥
-HasSoundVerdicts limits (RefusedLine number fault) = ⊤
-HasSoundVerdicts limits (UnreadableGame span why) = ⊤
+unfoldable pub HasSoundVerdicts : Bounds → FlaggedDraws → Outcome → Type 0
+HasSoundVerdicts limits draws (JudgedPosition number q d status) = IsSound q White limits d × (status ≡ status_of (standing_of q) d.white d.black)
+HasSoundVerdicts limits draws (JudgedGame game d scan status judgment) =
+    IsSound game.last (first_of draws game) limits d × HasScan game.positions (first_of draws game) limits d scan
+    × (status ≡ status_of (standing_of game.last) d.white d.black) × (judgment ≡ judgment_of draws game d scan)
+HasSoundVerdicts limits draws (ListedMates number q depth found) = ⊥
+HasSoundVerdicts limits draws (RefusedLine number fault) = ⊤
+HasSoundVerdicts limits draws (UnreadableGame span why) = ⊤
 
 -- what was found are the shortest mates of the position within that many plies
 unfoldable pub HasShortestMates : Color → ℕ → Outcome → Type 0
@@ -51,7 +52,7 @@ HasShortestMates side depth (UnreadableGame span why) = ⊤
 
 -- an outcome answers a question
 abbrev pub IsSoundOutcome : Question → Outcome → Type 0
-IsSoundOutcome (Verdicts limits) o = HasSoundVerdicts limits o
+IsSoundOutcome (Verdicts limits draws) o = HasSoundVerdicts limits draws o
 IsSoundOutcome (Mates side depth) o = HasShortestMates side depth o
 
 -- it does, about this item
@@ -64,10 +65,10 @@ HasPositions game = (0 < length game.positions) × (length game.positions ≤ 12
 
 -- a question can be asked about an item: mates are looked for in positions, and not in games
 abbrev pub CanBeAsked : Question → Item → Type 0
-CanBeAsked (Verdicts limits) (Position number q) = ⊤
-CanBeAsked (Verdicts limits) (Refused number fault) = ⊤
-CanBeAsked (Verdicts limits) (Played game) = HasPositions game
-CanBeAsked (Verdicts limits) (Unread span why) = ⊤
+CanBeAsked (Verdicts limits draws) (Position number q) = ⊤
+CanBeAsked (Verdicts limits draws) (Refused number fault) = ⊤
+CanBeAsked (Verdicts limits draws) (Played game) = HasPositions game
+CanBeAsked (Verdicts limits draws) (Unread span why) = ⊤
 CanBeAsked (Mates side depth) (Position number q) = ⊤
 CanBeAsked (Mates side depth) (Refused number fault) = ⊤
 CanBeAsked (Mates side depth) (Played game) = ⊥

@@ -4,6 +4,7 @@ ghost use Rattle.std.specs.Prelude.{◌≡◌, ◌≢◌, ◌≤◌, ◌⊎◌, 
 ghost use Rattle.std.specs.Bool.{OnTrue, OnFalse};
 ghost use Rattle.cha_san.specs.Playing.{positions};
 ghost use Rattle.cha_limits.specs.Bounds.{Bounds};
+ghost use Rattle.cha_outcome.specs.declared.questions.FlaggedDraws.{FlaggedDraws as DrawRule};
 ghost use Rattle.cha_outcome.specs.declared.questions.Question.{Question};
 ghost use Rattle.cha_outcome.specs.declared.questions.Question.TheVariants.{Verdicts};
 ghost use Rattle.cha_outcome.specs.Outcomes.{CanBeAsked};
@@ -32,6 +33,8 @@ pub struct PlayedGame {
     pub recorded: ResultMark,
     /// Whether its text says that it was lost on time.
     pub forfeit: bool,
+    /// Whether its text says that a flag fell, also where the game was drawn.
+    pub flag_fell: bool,
 }
 
 /// One item of an input.
@@ -85,7 +88,7 @@ pub fn item_of_line(line: u64, text: &[u8]) -> Item
 pub fn item_of_game(alloc: Global, placed: &PlacedGame) -> Result<Item, NoMemory>
     requires { placed.now.game.fault ≡ None → length placed.now.game.words ≤ 12000 }
     ensures item { IfOk result (λ item. item ≡ game_item placed.now) }
-    ensures asked { IfOk result (λ item. (limits : Bounds) → CanBeAsked (Verdicts limits) item) }
+    ensures asked { IfOk result (λ item. (limits : Bounds) (draws : DrawRule) → CanBeAsked (Verdicts limits draws) item) }
 {
     match placed.game.fault {
         Some(fault) => Ok(Item::UnreadableGame {
@@ -101,7 +104,7 @@ fn played_out(alloc: Global, span: Span, game: &Game) -> Result<Item, NoMemory>
     requires readable { game.now.fault ≡ None }
     requires few { length game.now.words ≤ 12000 }
     ensures item { IfOk result (λ item. item ≡ played_item span game.now (positions game.now.start game.now.words)) }
-    ensures asked { IfOk result (λ item. (limits : Bounds) → CanBeAsked (Verdicts limits) item) }
+    ensures asked { IfOk result (λ item. (limits : Bounds) (draws : DrawRule) → CanBeAsked (Verdicts limits draws) item) }
 {
     match play(alloc, game) {
         Ok(positions) => {
@@ -112,6 +115,7 @@ fn played_out(alloc: Global, span: Span, game: &Game) -> Result<Item, NoMemory>
                 positions,
                 recorded: game.recorded,
                 forfeit: game.forfeit,
+                flag_fell: game.flag_fell,
             }))
         }
         Err(stop) => stopped(alloc, span, game, stop),

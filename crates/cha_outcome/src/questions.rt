@@ -3,11 +3,22 @@
 use cha_board::Color;
 use cha_limits::Limits;
 
+/// What becomes of a game that is recorded as drawn though its text says that a flag fell.
+#[derive(Clone, Copy, Debug, PartialEq, Eq)]
+pub enum FlaggedDraws {
+    /// The draw stands.
+    Stand,
+    /// It is taken that the flag of the player to move fell, for that player's clock alone runs (Laws of Chess, Article 6.2.1): the
+    /// other player wins, if that player can mate (Article 6.9).
+    Examined,
+}
+
 /// What is asked about each item of an input.
 #[derive(Clone, Copy, Debug, PartialEq, Eq)]
 pub enum Question {
-    /// Whether each side can still mate, by a search that may spend this on a side; and of a game, from where on neither can.
-    Verdicts(Limits),
+    /// Whether each side can still mate, by a search that may spend this on a side; and of a game, from where on neither can, and which
+    /// result it has.
+    Verdicts(Limits, FlaggedDraws),
     /// What the shortest mates are. It is asked about positions alone.
     Mates {
         /// The side that mates.

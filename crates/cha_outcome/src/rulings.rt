@@ -3,12 +3,14 @@
 ghost use Rattle.std.specs.Prelude.{◌≡◌};
 ghost use Rattle.cha_moves.specs.Standings.{standing_of};
 ghost use Rattle.pgn_games.specs.Wins.{win_of};
-ghost use Rattle.cha_outcome.specs.Rulings.{winner_ruling_of, running_ruling_of, ruling_of, first_of, is_changed, was_dead as was_dead_before, judgment_of as judgment_from};
+ghost use Rattle.cha_outcome.specs.declared.questions.FlaggedDraws.{FlaggedDraws as DrawRule};
+ghost use Rattle.cha_outcome.specs.Rulings.{winner_ruling_of, flag_ruling_of, drawn_ruling_of, running_ruling_of, ruling_of, claimant_by, claim_of as claim_by, first_by, is_changed, was_dead as was_dead_before, judgment_of as judgment_from};
 
 use crate::items::PlayedGame;
+use crate::questions::FlaggedDraws;
 use cha_board::Color;
 use cha_moves::Standing;
-use cha_verdict::{Decision, Scan, Verdict, are_dead, is_undecided, is_unwinnable};
+use cha_verdict::{Decision, Scan, Verdict, are_dead, is_undecided, is_unwinnable, is_winnable};
 use pgn_games::ResultMark;
 
 /// Why a game has its result.
@@ -20,8 +22,10 @@ pub enum Cause {
     Stalemate521,
     /// Neither side can mate (Laws of Chess, Article 5.2.2).
     Dead522,
-    /// The loser's flag fell, and the winner cannot mate (Laws of Chess, Article 6.9).
+    /// A flag fell, and the other player cannot mate (Laws of Chess, Article 6.9).
     Flag69,
+    /// A draw was recorded, the flag of the player to move fell, and the other can mate (Laws of Chess, Article 6.9).
+    FlagOfMover69,
     /// Nothing speaks against the recorded result.
     Recorded,
     /// The result is as recorded, and whether its winner can mate was not shown.
@@ -35,6 +39,17 @@ pub struct Judgment {
     pub mark: ResultMark,
     /// Why the game has it.
     pub cause: Cause,
+}
+
+/// What the text of a game says of its end.
+#[derive(Clone, Copy, Debug, PartialEq, Eq)]
+pub struct Claim {
+    /// The recorded result.
+    pub recorded: ResultMark,
+    /// Whether the game was lost on time.
+    pub forfeit: bool,
+    /// Who wins though a draw is recorded, if that player can mate: a flag fell, and it was not that player's.
+    pub claimant: Option<Color>,
 }
 
 /// A draw, since neither side can mate.
@@ -75,27 +90,64 @@ fn winner_ruling(recorded: ResultMark, forfeit: bool, winner: &Verdict) -> Judgm
     }
 }
 
+/// The result of a drawn game whose flag fell, by the verdict on the player whose flag it was not.
+#[tactic(auto, unfolding(crate::specs::Rulings::flag_ruling_of))]
+fn flag_ruling(claimant: Color, verdict: &Verdict) -> Judgment
+    ensures { result ≡ flag_ruling_of claimant verdict.now }
+{
+    if is_winnable(verdict) {
+        return Judgment {
+            mark: win(claimant),
+            cause: Cause::FlagOfMover69,
+        };
+    }
+    let cause = if is_unwinnable(verdict) {
+        Cause::Flag69
+    } else {
+        Cause::RecordedUndecided
+    };
+    Judgment {
+        mark: ResultMark::Draw,
+        cause,
+    }
+}
+
+/// The result of a game that is recorded as drawn and that the board does not end.
+fn drawn_ruling(claimant: Option<Color>, white: &Verdict, black: &Verdict) -> Judgment
+    ensures { result ≡ drawn_ruling_of claimant white.now black.now }
+{
+    match claimant {
+        Some(Color::White) => flag_ruling(Color::White, white),
+        Some(Color::Black) => flag_ruling(Color::Black, black),
+        None => Judgment {
+            mark: ResultMark::Draw,
+            cause: Cause::Recorded,
+        },
+    }
+}
+
 /// The result of a game that the board does not end.
 #[tactic(auto, unfolding(crate::specs::Rulings::running_ruling_of))]
-fn running_ruling(recorded: ResultMark, forfeit: bool, white: &Verdict, black: &Verdict) -> Judgment
-    ensures { result ≡ running_ruling_of recorded forfeit white.now black.now }
+fn running_ruling(claim: Claim, white: &Verdict, black: &Verdict) -> Judgment
+    ensures { result ≡ running_ruling_of claim white.now black.now }
 {
     if are_dead(white, black) {
         return DEAD;
     }
+    let recorded = claim.recorded;
     match recorded {
-        ResultMark::WhiteWins => winner_ruling(recorded, forfeit, white),
-        ResultMark::BlackWins => winner_ruling(recorded, forfeit, black),
-        ResultMark::Draw | ResultMark::Unknown => Judgment {
+        ResultMark::WhiteWins => winner_ruling(recorded, claim.forfeit, white),
+        ResultMark::BlackWins => winner_ruling(recorded, claim.forfeit, black),
+        ResultMark::Draw => drawn_ruling(claim.claimant, white, black),
+        ResultMark::Unknown => Judgment {
             mark: recorded,
             cause: Cause::Recorded,
         },
     }
 }
 
-/// The result of a game: its final position stands so, this was recorded, `forfeit` says that a side lost on time, these are
-/// the verdicts on the final position, and `earlier` says that a position before it was dead already, where the game ended at
-/// once. The first that fits is the cause:
+/// The result of a game: its final position stands so, its text says this of its end, these are the verdicts on the final position, and
+/// `earlier` says that a position before it was dead already, where the game ended at once. The first that fits is the cause:
 ///
 /// | where | result | cause |
 /// |---|---|---|
@@ -105,17 +157,19 @@ fn running_ruling(recorded: ResultMark, forfeit: bool, white: &Verdict, black: &
 /// | neither side can mate | a draw | `Dead522` |
 /// | a side lost on time, and the recorded winner cannot mate | a draw | `Flag69` |
 /// | nothing was shown about the recorded winner | as recorded | `RecordedUndecided` |
+/// | a draw with a claimant, who can mate | the claimant wins | `FlagOfMover69` |
+/// | a draw with a claimant, who cannot mate | a draw | `Flag69` |
+/// | a draw with a claimant, of whom nothing was shown | a draw | `RecordedUndecided` |
 /// | in all other cases | as recorded | `Recorded` |
 #[tactic(auto, unfolding(crate::specs::Rulings::ruling_of))]
 pub fn ruling(
     state: Standing,
-    recorded: ResultMark,
-    forfeit: bool,
+    claim: Claim,
     white: &Verdict,
     black: &Verdict,
     earlier: bool,
 ) -> Judgment
-    ensures { result ≡ ruling_of state recorded forfeit white.now black.now earlier }
+    ensures { result ≡ ruling_of state claim white.now black.now earlier }
 {
     match state {
         Standing::Mate(winner) => Judgment {
@@ -127,18 +181,49 @@ pub fn ruling(
             mark: ResultMark::Draw,
             cause: Cause::Stalemate521,
         },
-        Standing::Running => running_ruling(recorded, forfeit, white, black),
+        Standing::Running => running_ruling(claim, white, black),
     }
 }
 
-/// The side that is examined first: the recorded winner, and White where no side won.
-#[tactic(auto, unfolding(crate::specs::Rulings::first_of))]
-pub fn first_examined(recorded: ResultMark) -> Color
-    ensures { result ≡ first_of recorded }
+/// Who wins a game that is recorded as drawn though a flag fell, if that player can mate.
+fn claimant(draws: FlaggedDraws, flag_fell: bool, recorded: ResultMark, mover: Color) -> Option<Color>
+    ensures { result ≡ claimant_by draws flag_fell recorded mover }
 {
-    match recorded {
+    match draws {
+        FlaggedDraws::Stand => None,
+        FlaggedDraws::Examined => match recorded {
+            ResultMark::Draw => {
+                if flag_fell {
+                    Some(mover.other())
+                } else {
+                    None
+                }
+            }
+            ResultMark::WhiteWins | ResultMark::BlackWins | ResultMark::Unknown => None,
+        },
+    }
+}
+
+/// What the text of a game says of its end.
+pub fn claim_of(draws: FlaggedDraws, game: &PlayedGame) -> Claim
+    ensures { result ≡ claim_by draws game.now }
+{
+    Claim {
+        recorded: game.recorded,
+        forfeit: game.forfeit,
+        claimant: claimant(draws, game.flag_fell, game.recorded, game.last.side()),
+    }
+}
+
+/// The side that is examined first: the recorded winner, or the claimant of a draw, and White where there is none.
+#[tactic(auto, unfolding(crate::specs::Rulings::first_by))]
+pub fn first_examined(claim: Claim) -> Color
+    ensures { result ≡ first_by claim }
+{
+    match claim.recorded {
         ResultMark::BlackWins => Color::Black,
-        ResultMark::WhiteWins | ResultMark::Draw | ResultMark::Unknown => Color::White,
+        ResultMark::Draw => claim.claimant.unwrap_or(Color::White),
+        ResultMark::WhiteWins | ResultMark::Unknown => Color::White,
     }
 }
 
@@ -160,21 +245,21 @@ fn was_dead(game: &PlayedGame, scan: &Option<Scan>) -> bool
     }
 }
 
-/// The result of a game whose final position stands so, by the verdicts on that position and from where on the game was dead, if it
-/// was.
+/// The result of a game whose final position stands so and of whose end its text says this, by the verdicts on that position and from
+/// where on the game was dead, if it was.
 pub fn judgment_of(
     game: &PlayedGame,
+    claim: Claim,
     standing: Standing,
     decision: &Decision,
     scan: &Option<Scan>,
 ) -> Judgment
     requires { standing ≡ standing_of game.now.last }
-    ensures { result ≡ judgment_from game.now decision.now scan.now }
+    ensures { (draws : DrawRule) → claim ≡ claim_by draws game.now → result ≡ judgment_from draws game.now decision.now scan.now }
 {
     ruling(
         standing,
-        game.recorded,
-        game.forfeit,
+        claim,
         &decision.white,
         &decision.black,
         was_dead(game, scan),

@@ -10,7 +10,7 @@ use Rattle.pgn_games.specs.declared.faults.GameFault.TheVariants.{BadToken, Uncl
 use Rattle.pgn_games.specs.declared.marks.ResultMark.{ResultMark}
 use Rattle.pgn_games.specs.declared.marks.ResultMark.TheVariants.{Unknown}
 use Rattle.pgn_games.specs.declared.played.Game.{Game}
-use Rattle.pgn_games.specs.Fields.{recorded_in, move_words, says_forfeit, says_chess, passes}
+use Rattle.pgn_games.specs.Fields.{recorded_in, move_words, says_forfeit, says_flag_fell, says_chess, passes}
 use Rattle.pgn_games.specs.Games.{◌or_else◌, is_open, start_of, start_fault, fault_if, fault_of, game_of}
 use Rattle.pgn_games.specs.Summing.{HasValues, IsSummary}
 
@@ -49,7 +49,7 @@ module _ (told : List Placed) (empty : Bool) (depth : ℕ) (bad : Option ℕ) (u
         rw (e5, e4, e3, e2, e1, chain a b c d e f, ea, eb, ec, ed, ee, ef, last, es, eo, h.bad_is, h.cut_is, v.variant_is, v.fen_is, same) refl
 
     -- the game
-    pub game_told : (start : Board) (mark : ResultMark) (forfeit : Bool) (fault : Option GameFault) → start ≡ start_of fen → mark ≡ unwrap_or recorded Unknown → forfeit ≡ passes says_forfeit termination → fault ≡ fault_of told'
-        → ◌≡◌ {A = Game} (record { start = start; recorded = mark; forfeit = forfeit; words = words; fault = fault }) (game_of told')
+    pub game_told : (start : Board) (mark : ResultMark) (forfeit fell : Bool) (fault : Option GameFault) → start ≡ start_of fen → mark ≡ unwrap_or recorded Unknown → forfeit ≡ passes says_forfeit termination → fell ≡ passes says_flag_fell termination → fault ≡ fault_of told'
+        → ◌≡◌ {A = Game} (record { start = start; recorded = mark; forfeit = forfeit; flag_fell = fell; words = words; fault = fault }) (game_of told')
     unfolding game_of recorded_in
-    game_told start mark forfeit fault e f g i = rw (e, f, g, i, h.recorded_is, h.words_is, v.fen_is, v.termination_is, same) refl
+    game_told start mark forfeit fell fault e f g k i = rw (e, f, g, k, i, h.recorded_is, h.words_is, v.fen_is, v.termination_is, same) refl

@@ -1,5 +1,5 @@
 -- What the tokens of one game say.
-use Rattle.std.specs.Prelude.{ℕ, ◌-◌, ◌==◌, Bool, true, false, ◌||◌, if◌then◌else◌, List, [], ◌∷◌, ◌++◌, length, drop, fold, filter_map, Option, Some, None, is_some, slice_get, codes}
+use Rattle.std.specs.Prelude.{ℕ, ◌-◌, ◌==◌, Bool, true, false, ◌||◌, if◌then◌else◌, List, [], ◌∷◌, ◌++◌, length, take, drop, fold, filter_map, Option, Some, None, is_some, slice_get, codes}
 use Rattle.std.specs.Option.{unwrap_or}
 use Rattle.std.specs.Str.{bytes_eq, str_eq_ignore_ascii_case}
 use Rattle.pgn_lex.specs.declared.kinds.Token.{Token}
@@ -74,6 +74,16 @@ unfoldable pub says_forfeit : List ℕ → Bool
 says_forfeit value =
     str_eq_ignore_ascii_case value (codes "time forfeit")
     || str_eq_ignore_ascii_case (drop (length value - length (codes "won on time")) value) (codes "won on time")
+
+-- a text says these words somewhere, whatever the case of ASCII letters
+unfoldable pub speaks_of : List ℕ → List ℕ → Bool
+speaks_of wanted [] = false
+speaks_of wanted (b ∷ bs) = str_eq_ignore_ascii_case (take (length wanted) (b ∷ bs)) wanted || speaks_of wanted bs
+
+-- A Termination value that says that a flag fell, also where the game was drawn: of the PGN standard, 9.8.1, or as chess.com writes it
+-- of a player who has no time against one who it counts as unable to mate.
+unfoldable pub says_flag_fell : List ℕ → Bool
+says_flag_fell value = str_eq_ignore_ascii_case value (codes "time forfeit") || speaks_of (codes "timeout vs insufficient material") value
 
 -- a Variant value that means chess (this project)
 unfoldable pub says_chess : List ℕ → Bool

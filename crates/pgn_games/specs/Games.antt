@@ -17,7 +17,7 @@ use Rattle.pgn_games.specs.declared.played.PlacedGame.{PlacedGame}
 use Rattle.pgn_games.specs.declared.played.Span.{Span}
 use Rattle.pgn_games.specs.declared.token_turns.Place.TheVariants.{Before}
 use Rattle.pgn_games.specs.Cutting.{cut, place_behind, is_before}
-use Rattle.pgn_games.specs.Fields.{depth_at_end, tag_value, recorded_in, move_words, first_bad, is_unclosed, is_cut, says_forfeit, says_chess, passes}
+use Rattle.pgn_games.specs.Fields.{depth_at_end, tag_value, recorded_in, move_words, first_bad, is_unclosed, is_cut, says_forfeit, says_flag_fell, says_chess, passes}
 
 -- the opening position (Laws of Chess, Article 2.3)
 unfoldable pub opening : Board
@@ -77,6 +77,7 @@ game_of slice = record {
   start = start_of (tag_value (codes "FEN") slice);
   recorded = recorded_in slice;
   forfeit = passes says_forfeit (tag_value (codes "Termination") slice);
+  flag_fell = passes says_flag_fell (tag_value (codes "Termination") slice);
   words = take 12001 (move_words slice);
   fault = fault_of slice;
 }

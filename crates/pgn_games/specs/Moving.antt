@@ -22,6 +22,7 @@ moved_game n game = record {
   start = game.start;
   recorded = game.recorded;
   forfeit = game.forfeit;
+  flag_fell = game.flag_fell;
   words = game.words;
   fault = option_map (moved_fault n) game.fault;
 }

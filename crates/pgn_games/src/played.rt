@@ -17,6 +17,8 @@ pub struct Game {
     pub recorded: ResultMark,
     /// The Termination tag says that the game was lost on time.
     pub forfeit: bool,
+    /// The Termination tag says that a flag fell, also where the game was drawn.
+    pub flag_fell: bool,
     /// The move words outside variations, of which the first 12,001 are kept.
     pub words: Words,
     /// Why the game cannot be read, or None.

@@ -12,7 +12,7 @@ use crate::history::TokenHistory;
 use crate::marks::ResultMark;
 use crate::movetext::{bad_outside, keep_word, mark_outside, unclosed};
 use crate::played::{Game, PlacedGame, Span, Words};
-use crate::tag_pairs::{TagValues, forfeited, other_game, start_refused, started, was_cut};
+use crate::tag_pairs::{TagValues, flag_fell, forfeited, other_game, start_refused, started, was_cut};
 use crate::token_turns::deeper;
 use cha_list::NoMemory;
 use pgn_lex::{Placed, Token};
@@ -217,12 +217,14 @@ impl Summary {
         let fault = self.fault();
         let start = started(&self.tags.fen);
         let forfeit = forfeited(&self.tags.termination);
+        let flag_fell = flag_fell(&self.tags.termination);
         let recorded = self.recorded.unwrap_or(ResultMark::Unknown);
         let Summary { words, .. } = self;
         Game {
             start,
             recorded,
             forfeit,
+            flag_fell,
             words,
             fault,
         }

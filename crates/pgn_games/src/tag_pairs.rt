@@ -3,7 +3,7 @@
 ghost use Rattle.std.specs.Prelude.{◌≡◌, if◌then◌else◌, not, Some, None, codes};
 ghost use Rattle.std.specs.Option.{option_or};
 ghost use Rattle.std.specs.Str.{bytes_eq, str_eq_ignore_ascii_case};
-ghost use Rattle.pgn_games.specs.Fields.{is_cut, says_forfeit, says_chess, passes};
+ghost use Rattle.pgn_games.specs.Fields.{is_cut, says_forfeit, speaks_of as speaks_of_words, says_flag_fell, says_chess, passes};
 ghost use Rattle.pgn_games.specs.Games.{opening, start_of, start_fault};
 
 use crate::faults::GameFault;
@@ -98,6 +98,40 @@ pub fn forfeited(termination: &Option<Text>) -> bool
 {
     match termination {
         Some(value) => lost_on_time(value.items()),
+        None => false,
+    }
+}
+
+/// Whether a text says these words somewhere, whatever the case of ASCII letters.
+#[tactic(auto, unfolding(crate::specs::Fields::speaks_of))]
+fn speaks_of(value: &[u8], wanted: &[u8]) -> bool
+    ensures { result ≡ speaks_of_words wanted.now value.now }
+{
+    let mut rest = value;
+    while !rest.is_empty() {
+        let size = wanted.len().min(rest.len());
+        if reads(rest.split_at(size).0, wanted) {
+            return true;
+        }
+        rest = rest.split_at(1).1;
+    }
+    false
+}
+
+/// Whether a Termination value says that a flag fell.
+#[tactic(auto, unfolding(crate::specs::Fields::says_flag_fell))]
+fn tells_of_a_flag(value: &[u8]) -> bool
+    ensures { result ≡ says_flag_fell value.now }
+{
+    reads(value, b"time forfeit") || speaks_of(value, b"timeout vs insufficient material")
+}
+
+/// Whether the Termination tag says that a flag fell, also where the game was drawn.
+pub fn flag_fell(termination: &Option<Text>) -> bool
+    ensures { result ≡ passes says_flag_fell termination.now }
+{
+    match termination {
+        Some(value) => tells_of_a_flag(value.items()),
         None => false,
     }
 }

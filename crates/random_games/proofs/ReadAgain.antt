@@ -25,7 +25,7 @@ use Rattle.pgn_games.specs.declared.marks.ResultMark.{ResultMark}
 use Rattle.pgn_games.specs.declared.played.Game.{Game}
 use Rattle.pgn_games.specs.declared.token_turns.Place.TheVariants.{Before}
 use Rattle.pgn_games.specs.Cutting.{cut}
-use Rattle.pgn_games.specs.Fields.{tag_value, recorded_in, move_words, says_forfeit, passes}
+use Rattle.pgn_games.specs.Fields.{tag_value, recorded_in, move_words, says_forfeit, speaks_of, says_flag_fell, passes}
 use Rattle.pgn_games.specs.Games.{opening, start_of, start_fault, fault_of, game_of, games}
 use Rattle.random_games.specs.Games.{MadeGame, seeded, drawn, onward, made_from, made_game, made_games}
 use Rattle.random_games.specs.Made.{result_text, termination_text, tag_line, tags_text, game_text, texts_from, made}
@@ -38,13 +38,19 @@ use Rattle.random_games.proofs.SpelledWords.{is_move_word}
 
 -- a game by its parts
 abbrev game_with : Board → ResultMark → Bool → List (List ℕ) → Option GameFault → Game
-game_with start recorded forfeit words fault = record { start = start; recorded = recorded; forfeit = forfeit; words = words; fault = fault }
+game_with start recorded forfeit words fault = record { start = start; recorded = recorded; forfeit = forfeit; flag_fell = forfeit; words = words; fault = fault }
 
 says_ending : (standing : Standing) → says_forfeit (termination_text standing) ≡ is_forfeit standing
 unfolding says_forfeit
 says_ending (Mate winner) = refl
 says_ending Stalemate = refl
 says_ending Running = refl
+
+says_flag : (standing : Standing) → says_flag_fell (termination_text standing) ≡ is_forfeit standing
+unfolding says_flag_fell speaks_of
+says_flag (Mate winner) = refl
+says_flag Stalemate = refl
+says_flag Running = refl
 
 not_many : (n : ℕ) → n ≤ 12000 → nat_lt 12000 n ≡ false
 not_many n few = grind (arith, nat_tests)
@@ -61,20 +67,17 @@ no_fault slice ws mark termination h few =
     let small = not_many (length ws) few in
     rw (bad, closed, uncut, variant, position, words, small) refl
 
-game_is : (slice : List Placed) (ws : List (List ℕ)) (mark : ResultMark) (termination : List ℕ) (forfeit : Bool) → Says slice ws mark termination → length ws ≤ 12000 → says_forfeit termination ≡ forfeit
+game_is : (slice : List Placed) (ws : List (List ℕ)) (mark : ResultMark) (termination : List ℕ) (forfeit : Bool) → Says slice ws mark termination → length ws ≤ 12000 → says_forfeit termination ≡ forfeit → says_flag_fell termination ≡ forfeit
     → game_of slice ≡ game_with opening mark forfeit ws None
 unfolding game_of start_of
-game_is slice ws mark termination forfeit h few ends =
+game_is slice ws mark termination forfeit h few ends flag =
     let recorded = recorded_in slice in
     let lost = passes says_forfeit (tag_value (codes "Termination") slice) in
     let words = take 12001 (move_words slice) in
     let all : words ≡ ws = ap (take 12001) h.words ∙ take_all 12001 ws (omega (arith, few)) in
-    ap (λ o. game_with (start_of o) recorded lost words (fault_of slice)) h.no_position
-    ∙ ap (λ x. game_with opening x lost words (fault_of slice)) h.recorded
-    ∙ ap (λ o. game_with opening mark (passes says_forfeit o) words (fault_of slice)) h.ending
-    ∙ ap (λ x. game_with opening mark x words (fault_of slice)) ends
-    ∙ ap (λ x. game_with opening mark forfeit x (fault_of slice)) all
-    ∙ ap (game_with opening mark forfeit ws) (no_fault slice ws mark termination h few)
+    let told = tag_value (codes "Termination") slice in
+    let both : (passes says_forfeit told ≡ forfeit) × (passes says_flag_fell told ≡ forfeit) = (ap (passes says_forfeit) h.ending ∙ ends, ap (passes says_flag_fell) h.ending ∙ flag) in
+    rw (h.no_position, h.recorded, both.0, both.1, all, no_fault slice ws mark termination h few) refl
 
 -- the words of a game that was made
 pub record HasWords (game : MadeGame) (plies : ℕ) : Type 0 where
@@ -141,7 +144,7 @@ one_game number game ys at line first rest small h later =
     ∙ ap (map game_of) (cut_game (spot at line) r.b r.c r.d r.e event result termination game.words mark (tokens_after 0 r.end r.end_line true ys) h.each marks)
     ∙ ap (λ x. x ∷ map game_of (cut Before (tokens_after 0 r.end r.end_line true ys)))
     (game_is (game_tokens (spot at line) r.b r.c r.d r.e event result termination game.words) game.words mark termination (is_forfeit standing)
-    (game_says (spot at line) r.b r.c r.d r.e event result termination game.words mark h.each marks) (omega (arith, few)) (says_ending standing))
+    (game_says (spot at line) r.b r.c r.d r.e event result termination game.words mark h.each marks) (omega (arith, few)) (says_ending standing) (says_flag standing))
     ∙ ap (λ xs. as_read game ∷ xs) (later r.end r.end_line)
 
 games_from : (count number : ℕ) (g : Lcg) (at line : ℕ) (first : Bool) → number + count ≤ 1001 → map game_of (cut Before (tokens_after 0 at line first (texts_from number (made_games count g)))) ≡ map as_read (made_games count g)

@@ -30,6 +30,7 @@ as_read game = record {
   start = opening;
   recorded = result_of game.last.side (standing_of game.last);
   forfeit = is_forfeit (standing_of game.last);
+  flag_fell = is_forfeit (standing_of game.last);
   words = game.words;
   fault = None;
 }

@@ -62,6 +62,7 @@ fn game_of(alloc: Global, words: &str, times: usize) -> Result<Game, NoMemory> {
         start: Position::start(),
         recorded: ResultMark::Unknown,
         forfeit: false,
+        flag_fell: false,
         words: kept,
         fault: None,
     })

@@ -6,7 +6,7 @@ use Rattle.std.proofs.lemmas.List.{take_all, drop_all}
 use Rattle.std.proofs.lemmas.Bool.Decides.{nat_tests}
 use Rattle.cha_list.specs.declared.classes.Class.TheVariants.{NotLineFeed}
 use Rattle.cha_list.specs.Bytes.{in_class}
-use Rattle.adjudicate.specs.InputLines.{begins_with_line_feed, onto_first, lines, without_return}
+use Rattle.text_lines.specs.Lines.{begins_with_line_feed, onto_first, lines, without_return}
 
 -- a line that ends in a carriage return is without it
 pub return_dropped : (xs : List ℕ) (n : ℕ) → n + 1 ≡ length xs → get_or xs n 0 ≡ 13 → take n xs ≡ without_return xs

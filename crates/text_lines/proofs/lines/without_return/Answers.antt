@@ -1,7 +1,7 @@
 use Rattle.std.proofs.Common.{◌-◌, length, ◌∙◌, arith}
-use Rattle.adjudicate.proofs.LineEnds.{return_dropped, no_return, empty_stays}
-use Rattle.adjudicate.proofs.splitting.without_return.Goals as goal
-use Rattle.adjudicate.proofs.splitting.without_return.Goals.{else-end-gt0-via-then-end-gt0+else-line-end-eq13, else-end-gt0-via-else-end-gt0}
+use Rattle.text_lines.proofs.LineEnds.{return_dropped, no_return, empty_stays}
+use Rattle.text_lines.proofs.lines.without_return.Goals as goal
+use Rattle.text_lines.proofs.lines.without_return.Goals.{else-end-gt0-via-then-end-gt0+else-line-end-eq13, else-end-gt0-via-else-end-gt0}
 
 pub returns-then-line-end-eq13 : goal.returns-then-line-end-eq13
 returns-then-line-end-eq13 c = c.split_at.ensures.front ∙ return_dropped c.args.line.now (length c.args.line.now - 1) (omega arith) c.if-line-end-eq13.true

@@ -1,0 +1,3 @@
+pub mod LineEnds
+pub mod Runs
+pub mod Given

@@ -1,0 +1,17 @@
+-- What a reader of lines has taken and given.
+use Rattle.std.specs.Prelude.{ℕ, Bool, true, false, List, Option, Some, None, Result, Ok, Err}
+use Rattle.cha_outside.specs.declared.gathering.ReadEnd.{ReadEnd}
+use Rattle.text_lines.specs.declared.lines.TextLine.{TextLine}
+
+-- the bytes taken from a source, how many of their lines were given, whether the source has ended, and whether a call failed
+pub record ReaderState : Type 0 where
+  pub taken : List ℕ
+  pub given : ℕ
+  pub ended : Bool
+  pub failed : Bool
+
+-- a line was given
+abbrev pub gives_line : Result (Option TextLine) ReadEnd → Bool
+gives_line (Ok (Some line)) = true
+gives_line (Ok None) = false
+gives_line (Err end) = false

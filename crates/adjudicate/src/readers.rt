@@ -10,7 +10,7 @@ ghost use Rattle.cha_outcome.specs.declared.questions.Question.TheVariants.{Verd
 ghost use Rattle.pgn_games.specs.Settling.{settled_games};
 ghost use Rattle.cha_outcome.specs.Outcomes.{CanBeAsked};
 ghost use Rattle.adjudicate.specs.Jobs.{game_items};
-ghost use Rattle.adjudicate.specs.Readers.{taken_by, given_by, has_ended, is_of_games, items_by, settled_by, CanGoOn, IsAskedOf};
+ghost use Rattle.adjudicate.specs.Readers.{taken_by, given_by, has_ended, is_of_games, items_by, settled_by, closed_by, CanGoOn, IsAskedOf};
 ghost use Rattle.adjudicate.specs.Runs.{most_bytes};
 
 use crate::lines::LineReader;
@@ -54,6 +54,16 @@ impl<'a> ItemReader<'a> {
         match self {
             ItemReader::Games(reader) => next_game(alloc, reader, source),
             ItemReader::Lines(lines) => Ok(lines.next()),
+        }
+    }
+
+    /// Whether the text that was taken is closed, once all of it was. Lines always are.
+    pub fn is_closed(&self) -> bool
+        ensures { has_ended self.now ≡ true → result ≡ closed_by (is_of_games self.now) (taken_by self.now) }
+    {
+        match self {
+            ItemReader::Games(reader) => reader.is_closed(),
+            ItemReader::Lines(_) => true,
         }
     }
 }

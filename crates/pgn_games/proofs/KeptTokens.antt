@@ -102,7 +102,7 @@ at_place (g ∷ games) game later all (suc given) n e = rw e (at_place games gam
 
 pub game_open : (fed bytes rest : List ℕ) (game behind : List Placed) (given : ℕ) → IsCut (settled_tokens fed) (game ++ behind) given → first_end Before (game ++ behind) ≡ Some (length game) → bytes ≡ fed ++ rest
     → slice_get (placed_games bytes) given ≡ Some (placed_game_of game)
-unfolding games
+unfolding placed_games
 game_open fed bytes rest game behind given h whole e =
     let first = settled_first fed rest in
     let all = ap tokens e ∙ first in
@@ -110,12 +110,12 @@ game_open fed bytes rest game behind given h whole e =
 
 pub game_last : (fed bytes : List ℕ) (game behind : List Placed) (given : ℕ) → IsCutAtEnd (tokens fed) (game ++ behind) given → cut Before (game ++ behind) ≡ game ∷ cut Before behind → bytes ≡ fed
     → slice_get (placed_games bytes) given ≡ Some (placed_game_of game)
-unfolding games
+unfolding placed_games
 game_last fed bytes game behind given h first e =
     at_place h.games game (cut Before behind) (cut Before (tokens bytes)) given h.number (ap (λ bs. cut Before (tokens bs)) e ∙ h.cuts ∙ ap (λ gs. h.games ++ gs) first)
 
 pub none_last : (fed bytes : List ℕ) (kept : List Placed) (given : ℕ) → IsCutAtEnd (tokens fed) kept given → kept ≡ [] → bytes ≡ fed → length (placed_games bytes) ≤ given
-unfolding games cut
+unfolding placed_games cut
 none_last fed bytes kept given h none e =
     let all : cut Before (tokens bytes) ≡ h.games = ap (λ bs. cut Before (tokens bs)) e ∙ h.cuts ∙ ap (λ xs. h.games ++ cut Before xs) none ∙ append-nil h.games in
     omega (arith, length-map (cut Before (tokens bytes)) placed_game_of, ap length all, h.number)
@@ -125,14 +125,14 @@ front_of : (all games later : List (List Placed)) (given : ℕ) → all ≡ game
 front_of all games later given e n = rw (e, ← n) (take-append_seam games later)
 
 fronts : (fed rest : List ℕ) (kept : List Placed) (given : ℕ) → (h : IsCut (settled_tokens fed) kept given) → take given (placed_games (fed ++ rest)) ≡ map placed_game_of h.games
-unfolding games
+unfolding placed_games
 fronts fed rest kept given h =
     take-map placed_game_of given (cut Before (tokens (fed ++ rest)))
     ∙ ap (map placed_game_of) (front_of (cut Before (tokens (fed ++ rest))) h.games _ given (ap (cut Before) (settled_first fed rest) ∙ h.cuts _) h.number)
 
-pub same_front : (fed a b rest rest' : List ℕ) (kept : List Placed) (given : ℕ) → IsCut (settled_tokens fed) kept given → a ≡ fed ++ rest → b ≡ fed ++ rest' → take given (games a) ≡ take given (games b)
+pub same_front : (fed a b rest rest' : List ℕ) (kept : List Placed) (given : ℕ) → IsCut (settled_tokens fed) kept given → a ≡ fed ++ rest → b ≡ fed ++ rest' → take given (placed_games a) ≡ take given (placed_games b)
 same_front fed a b rest rest' kept given h e f =
-    ap (λ x. take given (games x)) e ∙ fronts fed rest kept given h ∙ sym (fronts fed rest' kept given h) ∙ ap (λ x. take given (games x)) (sym f)
+    ap (λ x. take given (placed_games x)) e ∙ fronts fed rest kept given h ∙ sym (fronts fed rest' kept given h) ∙ ap (λ x. take given (placed_games x)) (sym f)
 
 -- each settled game was given
 pub all_settled : (fed bytes : List ℕ) (game behind : List Placed) (place : _) (given : ℕ) → IsCut (settled_tokens fed) (game ++ behind) given → IsScanned game place → behind ≡ [] → bytes ≡ fed → settled_games bytes ≤ given
@@ -172,11 +172,11 @@ ended fed fed' lexer_ended game behind behind' piece used given taken h same non
 })
 
 -- more bytes are taken
-pub next_front : (fed was now rest rest' : List ℕ) (kept : List Placed) (given g : ℕ) (whole : List Game) → IsCut (settled_tokens fed) kept given → given ≡ g → fed ++ rest ≡ was → now ≡ fed ++ rest'
-    → take g (games was) ≡ whole → take g (games now) ≡ whole
+pub next_front : (fed was now rest rest' : List ℕ) (kept : List Placed) (given g : ℕ) (whole : List PlacedGame) → IsCut (settled_tokens fed) kept given → given ≡ g → fed ++ rest ≡ was → now ≡ fed ++ rest'
+    → take g (placed_games was) ≡ whole → take g (placed_games now) ≡ whole
 next_front fed was now rest rest' kept given g whole h same e f before =
-    let one : take given (games now) ≡ take given (games was) = same_front fed now was rest' rest kept given h f (sym e) in
-    ap (λ n. take n (games now)) (sym same) ∙ one ∙ ap (λ n. take n (games was)) same ∙ before
+    let one : take given (placed_games now) ≡ take given (placed_games was) = same_front fed now was rest' rest kept given h f (sym e) in
+    ap (λ n. take n (placed_games now)) (sym same) ∙ one ∙ ap (λ n. take n (placed_games was)) same ∙ before
 
 -- nothing is left of a piece
 pub none_behind : (fed fed' piece : List ℕ) (used : ℕ) → fed' ≡ fed → piece ≡ [] → fed' ++ drop used piece ≡ fed

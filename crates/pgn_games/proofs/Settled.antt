@@ -14,13 +14,13 @@ abbrev pub AreFirst : Type 0
 AreFirst = (bytes rest : List ℕ) → (later : List Placed) × (tokens (bytes ++ rest) ≡ settled_tokens bytes ++ later)
 
 pub settled_there : AreFirst → (bytes rest : List ℕ) → settled_games bytes ≤ length (placed_games (bytes ++ rest))
-unfolding settled_games games
+unfolding settled_games placed_games
 settled_there first bytes rest =
     let h = first bytes rest in
     omega (arith, length-map (cut Before (tokens (bytes ++ rest))) placed_game_of, ap (λ ts. length (cut Before ts)) h.1, ended_are_there Before (settled_tokens bytes) h.0)
 
 settled_cut : AreFirst → (bytes rest : List ℕ) → take (settled_games bytes) (placed_games (bytes ++ rest)) ≡ map placed_game_of (take (games_ended Before (settled_tokens bytes)) (cut Before (settled_tokens bytes ++ [])))
-unfolding settled_games games
+unfolding settled_games placed_games
 settled_cut first bytes rest =
     let h = first bytes rest in
     let n = games_ended Before (settled_tokens bytes) in
@@ -28,4 +28,4 @@ settled_cut first bytes rest =
 
 pub settled_same : AreFirst → (bytes rest : List ℕ) → take (settled_games bytes) (placed_games (bytes ++ rest)) ≡ take (settled_games bytes) (placed_games bytes)
 settled_same first bytes rest =
-    settled_cut first bytes rest ∙ sym (ap (λ bs. take (settled_games bytes) (games bs)) (sym (append-nil bytes)) ∙ settled_cut first bytes [])
+    settled_cut first bytes rest ∙ sym (ap (λ bs. take (settled_games bytes) (placed_games bs)) (sym (append-nil bytes)) ∙ settled_cut first bytes [])

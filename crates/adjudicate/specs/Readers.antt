@@ -1,5 +1,6 @@
 -- What a reader of items has taken and given.
 use Rattle.std.specs.Prelude.{◌≡◌, ℕ, ◌≤◌, Bool, true, false, List, length, ⊤}
+use Rattle.pgn_games.specs.Games.{is_closed}
 use Rattle.text_lines.specs.Lines.{settled_lines}
 use Rattle.pgn_games.specs.Settling.{settled_games}
 use Rattle.cha_outcome.specs.declared.items.Item.{Item}
@@ -45,6 +46,11 @@ abbrev pub settled_by : Bool → List ℕ → ℕ
 settled_by true = settled_games
 settled_by false = settled_lines
 
+-- whether their text is closed: lines always are
+abbrev pub closed_by : Bool → List ℕ → Bool
+closed_by true = is_closed
+closed_by false = λ _. true
+
 -- a question is asked about such items
 abbrev pub IsAskedOf : Bool → Question → Type 0
 IsAskedOf true (Verdicts limits) = ⊤
@@ -54,4 +60,4 @@ IsAskedOf false question = ⊤
 -- the job on such items
 abbrev pub job_on : Bool → Question → Form → Job
 job_on of_games question form =
-    record { reads = true; items = items_by of_games; settled = settled_by of_games; question = question; style = form.style; subject = form.subject }
+    record { reads = true; items = items_by of_games; settled = settled_by of_games; question = question; closed = closed_by of_games; style = form.style; subject = form.subject }

@@ -11,7 +11,7 @@ use Rattle.adjudicate.specs.Jobs.{Job, job, last}
 
 -- there is one sound outcome for each item, in order, and the output is their blocks, numbered from 1, and their summary
 abbrev pub HasReport : Job → List ℕ → List ℕ → Type 0
-HasReport j bytes out = (os : List Outcome) × (map item_of os ≡ j.items bytes) × AllSound j.question os × (out ≡ blocks j.style 1 os ++ last j os)
+HasReport j bytes out = (os : List Outcome) × (map item_of os ≡ j.items bytes) × AllSound j.question os × (out ≡ blocks j.style 1 os ++ last j bytes os)
 
 -- the output is the blocks of sound outcomes of the first items, so many at least
 abbrev pub HasBlocks : Job → ℕ → List ℕ → List ℕ → Type 0

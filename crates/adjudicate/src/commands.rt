@@ -5,6 +5,8 @@ ghost use Rattle.cha_limits.specs.Bounds.{Bounds};
 ghost use Rattle.cha_words.specs.declared.orders.Order.TheVariants.{GenGames, ListMates};
 ghost use Rattle.cha_board.specs.declared.men.Color.{Color as Side};
 ghost use Rattle.cha_words.specs.Language.{limits_in};
+ghost use Rattle.cha_words.specs.declared.orders.Printing.{Printing as Printed};
+ghost use Rattle.adjudicate.specs.Jobs.{style_of as style_by};
 ghost use Rattle.adjudicate.specs.Runs.{IsRun, outside};
 
 use crate::checking::check_cert;
@@ -14,11 +16,33 @@ use crate::reports::Form;
 use cert_par::Checker;
 use cha_judge::{MatesJudge, VerdictsJudge};
 use cha_outside::{Sink, Source};
-use cha_words::Order;
-use flag_report::{Style, Subject};
+use cha_words::{Order, Printing};
+use flag_report::{BlockForm, Notation, Style, Subject};
 use helpmate_list::Spread;
+use json_report::Extras;
 use root_workers::Crew;
 use std::alloc::Global;
+
+/// The style in which a report is printed.
+fn style_of(printing: Printing) -> Style
+    ensures { result ≡ style_by printing }
+{
+    if printing.json {
+        return Style::Json(Extras {
+            certs: printing.certs,
+            fens: printing.fens,
+        });
+    }
+    let notation = if printing.san {
+        Notation::San
+    } else {
+        Notation::Coordinates
+    };
+    Style::Blocks(BlockForm {
+        certs: printing.certs,
+        notation,
+    })
+}
 
 /// Reads a source to its end, and writes the report that an order asks for, with a crew of workers that searches.
 pub fn carry_out<C: Crew + Drop, S: Source, K: Sink>(
@@ -34,21 +58,20 @@ pub fn carry_out<C: Crew + Drop, S: Source, K: Sink>(
     ensures { IsRun order.now result (outside (S.left source.old) (S.faults source.old) (K.written sink.old) (K.faults sink.old)) (outside (S.left source.new) (S.faults source.new) (K.written sink.new) (K.faults sink.new)) }
 {
     match order {
-        Order::AdjudicateGames { limits, certs } => {
+        Order::AdjudicateGames { limits, printing } => {
             let mut judge = VerdictsJudge {
                 limits: *limits,
                 crew,
             };
-            let style = Style::Blocks { certs: *certs };
-            report_games(alloc, style, &mut judge, source, sink)
+            report_games(alloc, style_of(*printing), &mut judge, source, sink)
         }
-        Order::JudgePositions { limits, certs } => {
+        Order::JudgePositions { limits, printing } => {
             let mut judge = VerdictsJudge {
                 limits: *limits,
                 crew,
             };
             let form = Form {
-                style: Style::Blocks { certs: *certs },
+                style: style_of(*printing),
                 subject: Subject::Positions,
             };
             report_lines(alloc, form, &mut judge, source, sink)
@@ -82,7 +105,7 @@ pub fn carry_out_plain<P: Spread + Drop, C: Checker, S: Source, K: Sink>(
     requires ready { P.ready spread }
     requires checks { C.ready checker.now }
     requires no_search { limits_in order.now ≡ None }
-    requires bounded { (side : Side) (workers depth : ℕ) → order.now ≡ ListMates side workers depth → ((1 ≤ workers) × (workers ≤ 16)) × ((1 ≤ depth) × (depth ≤ 6)) }
+    requires bounded { (side : Side) (workers depth : ℕ) (printing : Printed) → order.now ≡ ListMates side workers depth printing → ((1 ≤ workers) × (workers ≤ 16)) × ((1 ≤ depth) × (depth ≤ 6)) }
     ensures { IsRun order.now result (outside (S.left source.old) (S.faults source.old) (K.written sink.old) (K.faults sink.old)) (outside (S.left source.new) (S.faults source.new) (K.written sink.new) (K.faults sink.new)) }
 {
     match order {
@@ -91,6 +114,7 @@ pub fn carry_out_plain<P: Spread + Drop, C: Checker, S: Source, K: Sink>(
             side,
             workers,
             depth,
+            printing,
         } => {
             let mut judge = MatesJudge {
                 side: *side,
@@ -99,7 +123,7 @@ pub fn carry_out_plain<P: Spread + Drop, C: Checker, S: Source, K: Sink>(
                 spread,
             };
             let form = Form {
-                style: Style::Blocks { certs: false },
+                style: style_of(*printing),
                 subject: Subject::Mates,
             };
             report_lines(alloc, form, &mut judge, source, sink)

@@ -11,7 +11,7 @@ ghost use Rattle.pgn_games.specs.Settling.{settled_games};
 ghost use Rattle.text_lines.specs.Lines.{settled_lines};
 ghost use Rattle.cha_outcome.specs.Outcomes.{CanBeAsked};
 ghost use Rattle.adjudicate.specs.Jobs.{game_items, position_items};
-ghost use Rattle.adjudicate.specs.Readers.{taken_by, given_by, has_ended, is_of_games, items_by, settled_by, CanGoOn, IsAskedOf};
+ghost use Rattle.adjudicate.specs.Readers.{taken_by, given_by, has_ended, is_of_games, items_by, settled_by, closed_by, CanGoOn, IsAskedOf};
 ghost use Rattle.adjudicate.specs.Runs.{most_bytes};
 
 use cha_outcome::{Item, item_of_game, item_of_line};
@@ -55,6 +55,16 @@ impl ItemReader {
         match self {
             ItemReader::Games(reader) => next_game(alloc, reader, source),
             ItemReader::Lines(reader) => next_line(reader, source),
+        }
+    }
+
+    /// Whether the text that was taken is closed, once all of it was. Lines always are.
+    pub fn is_closed(&self) -> bool
+        ensures { has_ended self.now ≡ true → result ≡ closed_by (is_of_games self.now) (taken_by self.now) }
+    {
+        match self {
+            ItemReader::Games(reader) => reader.is_closed(),
+            ItemReader::Lines(_) => true,
         }
     }
 }

@@ -6,6 +6,7 @@ ghost use Rattle.cha_outside.specs.Faults.{Rose};
 ghost use Rattle.cha_outside.specs.Writing.{Takes, WriteCause};
 ghost use Rattle.cha_outcome.specs.Outcomes.{IsPrintableOutcome};
 ghost use Rattle.cha_outcome.specs.Totals.{counted, HasRoom};
+ghost use Rattle.report_words.specs.LegalLines.{HasLegalLines};
 ghost use Rattle.flag_report.specs.Styles.{block, summary as summary_of};
 ghost use Rattle.adjudicate.specs.Readers.{taken_by, given_by, has_ended, is_of_games, CanGoOn, IsAskedOf, job_on};
 ghost use Rattle.adjudicate.specs.Report.{demand_by};
@@ -55,7 +56,7 @@ pub fn write_report<J: Judge, S: Source, K: Sink>(
             Err(end) => return Status::from(end),
         };
         let Some(item) = found else {
-            return end_report(alloc, form, &totals, sink);
+            return end_report(alloc, form, items.is_closed(), &totals, sink);
         };
         let Ok(outcome) = judge.judge(alloc, item) else {
             return Status::NoMemory;
@@ -79,6 +80,7 @@ fn write_outcome<K: Sink>(
     sink: &mut K,
 ) -> Result<Wrote, NoMemory>
     requires printable { IsPrintableOutcome outcome }
+    requires legal { HasLegalLines outcome }
     requires room { HasRoom totals.old }
     ensures counted { totals.new ≡ counted totals.old outcome }
     ensures bytes { IfOk result (λ wrote. Takes (K.written sink.old) (K.written sink.new) wrote (block style (totals.old.items + 1) outcome)) }
@@ -92,17 +94,23 @@ fn write_outcome<K: Sink>(
     Ok(put(sink, text.items()))
 }
 
-/// Writes the end of a report.
-fn end_report<K: Sink>(alloc: Global, form: Form, totals: &Totals, sink: &mut K) -> Status
-    ensures whole { result ≡ Status.Done → Appends (K.written sink.old) (K.written sink.new) (summary_of form.style form.subject totals.now) }
-    ensures cut { result ≡ Status.WriteFault → (n : ℕ) × Appends (K.written sink.old) (K.written sink.new) (take n (summary_of form.style form.subject totals.now)) }
+/// Writes the end of a report; `closed` says whether its text is closed.
+fn end_report<K: Sink>(
+    alloc: Global,
+    form: Form,
+    closed: bool,
+    totals: &Totals,
+    sink: &mut K,
+) -> Status
+    ensures whole { result ≡ Status.Done → Appends (K.written sink.old) (K.written sink.new) (summary_of form.style form.subject closed totals.now) }
+    ensures cut { result ≡ Status.WriteFault → (n : ℕ) × Appends (K.written sink.old) (K.written sink.new) (take n (summary_of form.style form.subject closed totals.now)) }
     ensures no_memory { result ≡ Status.NoMemory → (K.written sink.new ≡ K.written sink.old) }
     ensures cause { result ≡ Status.WriteFault → Rose (K.faults sink.old) (K.faults sink.new) }
     ensures either { (result ≡ Status.Done) ⊎ ((result ≡ Status.WriteFault) ⊎ (result ≡ Status.NoMemory)) }
     ensures later { K.faults sink.old ≤ K.faults sink.new }
 {
     let mut text = Text::new(alloc);
-    let Ok(()) = put_summary(alloc, form.style, form.subject, totals, &mut text) else {
+    let Ok(()) = put_summary(alloc, form.style, form.subject, closed, totals, &mut text) else {
         return Status::NoMemory;
     };
     match put(sink, text.items()) {

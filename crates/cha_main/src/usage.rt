@@ -34,6 +34,9 @@ fn about_setting(setting: Setting) -> &'static str {
         Setting::Depth => "plies to which mates are looked for in rounds",
         Setting::Entries => "facts that each shard of the table keeps",
         Setting::Certs => "prints the certificate of each side that cannot mate",
+        Setting::Json => "prints each block and the summary as a line of JSON",
+        Setting::San => "prints moves as words, as Nf2#",
+        Setting::Fens => "prints the position after each move, behind --json",
     }
 }
 

@@ -2,6 +2,7 @@
 use Rattle.std.proofs.Common.{◌≡◌, ℕ, ◌≤◌, List, [], ◌∷◌, Option, Some, None, filter_map, refl, subst, arith}
 use Rattle.cha_limits.specs.Bounds.{Bounds}
 use Rattle.cha_board.specs.declared.men.Color.{Color}
+use Rattle.cha_words.specs.declared.orders.Printing.{Printing}
 use Rattle.cha_words.specs.declared.orders.Order.TheVariants.{GenGames, ListMates}
 use Rattle.cha_words.specs.declared.table.Command.{Command}
 use Rattle.cha_words.specs.declared.table.Command.TheVariants.{Adjudicate, Position, Check, Gen, Mates}
@@ -13,7 +14,7 @@ use Rattle.cha_words.specs.Language.{Part, Numbers, next_argument, say, say_all,
 use Rattle.cha_words.specs.Reading.{IsSaid}
 use Rattle.cha_words.proofs.Digits.{number_in_range}
 use Rattle.cha_words.proofs.Choosing.{can_be_said}
-use Rattle.cha_words.proofs.Ending.{five, of_some}
+use Rattle.cha_words.proofs.Ending.{eight, of_some}
 
 said_all : (c : Command) (words : List (List ℕ)) (o : Option Said) (t : Said) → ((s : Said) → o ≡ Some s → IsSaid c s) → say_all c o words ≡ Some t → IsSaid c t
 said_all c [] None t h e = cc
@@ -47,22 +48,22 @@ pub record OfMates (c : Command) (n : Option Numbers) (workers depth : ℕ) : Ty
   pub workers-is : numbers.workers ≡ workers
   pub depth-is : numbers.depth ≡ depth
 
-mates_of : (c : Command) (n : Numbers) (s : Said) (side : Color) (w d : ℕ) → made c n s ≡ Some (ListMates side w d) → OfMates c (Some n) w d
-mates_of Mates n (Sided t) side w d e = record { mates = refl; numbers = n; is = refl; workers-is = cc; depth-is = cc }
-mates_of Mates n s side w d e = cc
-mates_of Adjudicate n Nothing side w d e = cc
-mates_of Adjudicate n s side w d e = cc
-mates_of Position n Nothing side w d e = cc
-mates_of Position n s side w d e = cc
-mates_of Check n Nothing side w d e = cc
-mates_of Check n s side w d e = cc
-mates_of Gen n (Games seed count) side w d e = cc
-mates_of Gen n s side w d e = cc
+mates_of : (c : Command) (n : Numbers) (s : Said) (side : Color) (w d : ℕ) (p : Printing) → made c n s ≡ Some (ListMates side w d p) → OfMates c (Some n) w d
+mates_of Mates n (Sided t) side w d p e = record { mates = refl; numbers = n; is = refl; workers-is = cc; depth-is = cc }
+mates_of Mates n s side w d p e = cc
+mates_of Adjudicate n Nothing side w d p e = cc
+mates_of Adjudicate n s side w d p e = cc
+mates_of Position n Nothing side w d p e = cc
+mates_of Position n s side w d p e = cc
+mates_of Check n Nothing side w d p e = cc
+mates_of Check n s side w d p e = cc
+mates_of Gen n (Games seed count) side w d p e = cc
+mates_of Gen n s side w d p e = cc
 
-made_mates : (c : Command) (n : Option Numbers) (s : Option Said) (side : Color) (w d : ℕ) → made_of c n s ≡ Some (ListMates side w d) → OfMates c n w d
-made_mates c (Some n) (Some s) side w d e = mates_of c n s side w d e
-made_mates c None s side w d e = cc
-made_mates c (Some n) None side w d e = cc
+made_mates : (c : Command) (n : Option Numbers) (s : Option Said) (side : Color) (w d : ℕ) (p : Printing) → made_of c n s ≡ Some (ListMates side w d p) → OfMates c n w d
+made_mates c (Some n) (Some s) side w d p e = mates_of c n s side w d p e
+made_mates c None s side w d p e = cc
+made_mates c (Some n) None side w d p e = cc
 
 nothing_said : (c : Command) (s : Said) → Some Nothing ≡ Some s → IsSaid c s
 nothing_said c s e = subst (λ t. IsSaid c t) (of_some Nothing s e) tt
@@ -89,22 +90,22 @@ chosen_in r (value ∷ more ∷ values) n low high e = cc
 
 mates_in : (n : Numbers) (cut : List Part) (w d : ℕ) → numbers Mates cut ≡ Some n → n.workers ≡ w → n.depth ≡ d → ((1 ≤ w) × (w ≤ 16)) × ((1 ≤ d) × (d ≤ 6))
 mates_in n cut w d e hw hd =
-    let each = five _ _ _ _ _ n e in
+    let each = eight _ _ _ _ _ _ _ _ n e in
     let workers = chosen_in (record { least = 1; most = 16; usual = 2 }) (filter_map (value_for Workers) cut) n.workers (omega arith) (omega arith) each.workers in
     let depth = chosen_in (record { least = 1; most = 6; usual = 4 }) (filter_map (value_for Depth) cut) n.depth (omega arith) (omega arith) each.depth in
     let w_in : (1 ≤ w) × (w ≤ 16) = subst (λ k. (1 ≤ k) × (k ≤ 16)) hw workers in
     let d_in : (1 ≤ d) × (d ≤ 6) = subst (λ k. (1 ≤ k) × (k ≤ 6)) hd depth in
     (w_in, d_in)
 
-mates_by : (o : Option Command) (words : List (List ℕ)) (side : Color) (w d : ℕ) → order_behind o words ≡ Some (ListMates side w d) → ((1 ≤ w) × (w ≤ 16)) × ((1 ≤ d) × (d ≤ 6))
+mates_by : (o : Option Command) (words : List (List ℕ)) (side : Color) (w d : ℕ) (p : Printing) → order_behind o words ≡ Some (ListMates side w d p) → ((1 ≤ w) × (w ≤ 16)) × ((1 ≤ d) × (d ≤ 6))
 unfolding order_by
-mates_by None words side w d e = cc
-mates_by (Some c) words side w d e =
-    let made = made_mates c (numbers c (parts words)) (say_all c (Some Nothing) (filter_map plain_word (parts words))) side w d e in
+mates_by None words side w d p e = cc
+mates_by (Some c) words side w d p e =
+    let made = made_mates c (numbers c (parts words)) (say_all c (Some Nothing) (filter_map plain_word (parts words))) side w d p e in
     mates_in made.numbers (parts words) w d (subst (λ k. numbers k (parts words) ≡ Some made.numbers) made.mates made.is) made.workers-is made.depth-is
 
 -- the shortest mates that are ordered
-pub mates_counted : (words : List (List ℕ)) (side : Color) (w d : ℕ) → order_of words ≡ Some (ListMates side w d) → ((1 ≤ w) × (w ≤ 16)) × ((1 ≤ d) × (d ≤ 6))
+pub mates_counted : (words : List (List ℕ)) (side : Color) (w d : ℕ) (p : Printing) → order_of words ≡ Some (ListMates side w d p) → ((1 ≤ w) × (w ≤ 16)) × ((1 ≤ d) × (d ≤ 6))
 unfolding order_of
-mates_counted [] side w d e = cc
-mates_counted (word ∷ words) side w d e = mates_by (command_named word) words side w d e
+mates_counted [] side w d p e = cc
+mates_counted (word ∷ words) side w d p e = mates_by (command_named word) words side w d p e

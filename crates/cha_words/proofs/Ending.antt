@@ -3,17 +3,18 @@ use Rattle.std.proofs.Common.{◌≡◌, ℕ, ◌==◌, [], ◌∷◌, Option, S
 use Rattle.cha_limits.specs.Bounds.{Bounds}
 use Rattle.cha_board.specs.declared.men.Color.{Color}
 use Rattle.cha_words.specs.declared.orders.Order.{Order}
+use Rattle.cha_words.specs.declared.orders.Printing.{Printing}
 use Rattle.cha_words.specs.declared.orders.Order.TheVariants.{AdjudicateGames, JudgePositions, CheckCert, GenGames, ListMates}
 use Rattle.cha_words.specs.declared.table.Command.{Command}
 use Rattle.cha_words.specs.declared.table.Command.TheVariants.{Adjudicate, Position, Check, Gen, Mates}
 use Rattle.cha_words.specs.declared.table.Setting.{Setting}
-use Rattle.cha_words.specs.declared.table.Setting.TheVariants.{Budget, Workers, Depth, Entries, Certs}
+use Rattle.cha_words.specs.declared.table.Setting.TheVariants.{Budget, Workers, Depth, Entries, Certs, Json, San, Fens}
 use Rattle.cha_words.specs.declared.table.Range.{Range}
 use Rattle.cha_words.specs.declared.given.Given.{Given}
 use Rattle.cha_words.specs.declared.given.Said.{Said}
 use Rattle.cha_words.specs.declared.given.Said.TheVariants.{Nothing, Games, Sided}
 use Rattle.cha_words.specs.declared.given.Progress.{Progress}
-use Rattle.cha_words.specs.Language.{Numbers, range, all_of, bounds, made, made_of}
+use Rattle.cha_words.specs.Language.{Numbers, range, all_of, bounds, printing, made, made_of}
 use Rattle.cha_words.specs.Language.Part.{Value}
 use Rattle.cha_words.specs.Reading.{open_in, chosen_from, numbers_from, order_from, order_with}
 use Rattle.cha_words.proofs.Digits.{no_number}
@@ -26,34 +27,43 @@ ends None None = (0, refl)
 ends (Some r) None = (r.usual, refl)
 ends r (Some n) = (n, refl)
 
-all_five : (b w d e c : Option ℕ) → ((n : ℕ) × (b ≡ Some n)) → ((n : ℕ) × (w ≡ Some n)) → ((n : ℕ) × (d ≡ Some n)) → ((n : ℕ) × (e ≡ Some n)) → ((n : ℕ) × (c ≡ Some n)) → (n : Numbers) × (all_of b w d e c ≡ Some n)
-all_five b w d e c hb hw hd he hc = (record { budget = hb.0; workers = hw.0; depth = hd.0; entries = he.0; certs = hc.0 }, rw (hb.1, hw.1, hd.1, he.1, hc.1) refl)
+all_eight : (b w d e c j s f : Option ℕ) → ((n : ℕ) × (b ≡ Some n)) → ((n : ℕ) × (w ≡ Some n)) → ((n : ℕ) × (d ≡ Some n)) → ((n : ℕ) × (e ≡ Some n)) → ((n : ℕ) × (c ≡ Some n)) → ((n : ℕ) × (j ≡ Some n)) → ((n : ℕ) × (s ≡ Some n)) → ((n : ℕ) × (f ≡ Some n)) → (n : Numbers) × (all_of b w d e c j s f ≡ Some n)
+all_eight b w d e c j s f hb hw hd he hc hj hs hf = (record { budget = hb.0; workers = hw.0; depth = hd.0; entries = he.0; certs = hc.0; json = hj.0; san = hs.0; fens = hf.0 }, rw (hb.1, hw.1, hd.1, he.1, hc.1, hj.1, hs.1, hf.1) refl)
 
 pub whole : (c : Command) (g : Given) → (n : Numbers) × (numbers_from c g [] ≡ Some n)
-whole c g = all_five _ _ _ _ _ (ends (range c Budget) g.budget) (ends (range c Workers) g.workers) (ends (range c Depth) g.depth) (ends (range c Entries) g.entries) (ends (range c Certs) g.certs)
+whole c g = all_eight _ _ _ _ _ _ _ _ (ends (range c Budget) g.budget) (ends (range c Workers) g.workers) (ends (range c Depth) g.depth) (ends (range c Entries) g.entries) (ends (range c Certs) g.certs) (ends (range c Json) g.json) (ends (range c San) g.san) (ends (range c Fens) g.fens)
 
--- each of five numbers
-pub record Five (b w d e c : Option ℕ) (n : Numbers) : Type 0 where
+-- each of eight numbers
+pub record Eight (b w d e c j s f : Option ℕ) (n : Numbers) : Type 0 where
   pub budget : b ≡ Some n.budget
   pub workers : w ≡ Some n.workers
   pub depth : d ≡ Some n.depth
   pub entries : e ≡ Some n.entries
   pub certs : c ≡ Some n.certs
+  pub json : j ≡ Some n.json
+  pub san : s ≡ Some n.san
+  pub fens : f ≡ Some n.fens
 
-pub five : (b w d e c : Option ℕ) (n : Numbers) → all_of b w d e c ≡ Some n → Five b w d e c n
-five (Some b) (Some w) (Some d) (Some e) (Some c) n h =
-    let same : record { budget = b; workers = w; depth = d; entries = e; certs = c } ≡ n = cc in record {
+pub eight : (b w d e c j s f : Option ℕ) (n : Numbers) → all_of b w d e c j s f ≡ Some n → Eight b w d e c j s f n
+eight (Some b) (Some w) (Some d) (Some e) (Some c) (Some j) (Some s) (Some f) n h =
+    let same : record { budget = b; workers = w; depth = d; entries = e; certs = c; json = j; san = s; fens = f } ≡ n = cc in record {
       budget = ap (λ (m : Numbers). Some m.budget) same;
       workers = ap (λ (m : Numbers). Some m.workers) same;
       depth = ap (λ (m : Numbers). Some m.depth) same;
       entries = ap (λ (m : Numbers). Some m.entries) same;
       certs = ap (λ (m : Numbers). Some m.certs) same;
+      json = ap (λ (m : Numbers). Some m.json) same;
+      san = ap (λ (m : Numbers). Some m.san) same;
+      fens = ap (λ (m : Numbers). Some m.fens) same;
     }
-five None w d e c n h = cc
-five (Some b) None d e c n h = cc
-five (Some b) (Some w) None e c n h = cc
-five (Some b) (Some w) (Some d) None c n h = cc
-five (Some b) (Some w) (Some d) (Some e) None n h = cc
+eight None w d e c j s f n h = cc
+eight (Some b) None d e c j s f n h = cc
+eight (Some b) (Some w) None e c j s f n h = cc
+eight (Some b) (Some w) (Some d) None c j s f n h = cc
+eight (Some b) (Some w) (Some d) (Some e) None j s f n h = cc
+eight (Some b) (Some w) (Some d) (Some e) (Some c) None s f n h = cc
+eight (Some b) (Some w) (Some d) (Some e) (Some c) (Some j) None f n h = cc
+eight (Some b) (Some w) (Some d) (Some e) (Some c) (Some j) (Some s) None n h = cc
 
 pub of_some : {A : Type 0} (x y : A) → Some x ≡ Some y → x ≡ y
 of_some x y e = cc
@@ -72,21 +82,30 @@ unmade Mates (Sided side) n ha hp hc hg hm = absurd (hm side refl refl)
 unmade c said n ha hp hc hg hm = refl
 
 module _ (c : Command) (g : Given) (n : Numbers) (is : numbers_from c g [] ≡ Some n) where
-  each : Five (chosen_from (range c Budget) g.budget []) (chosen_from (range c Workers) g.workers []) (chosen_from (range c Depth) g.depth []) (chosen_from (range c Entries) g.entries []) (chosen_from (range c Certs) g.certs []) n
-  each = five _ _ _ _ _ n is
+  each : Eight (chosen_from (range c Budget) g.budget []) (chosen_from (range c Workers) g.workers []) (chosen_from (range c Depth) g.depth []) (chosen_from (range c Entries) g.entries []) (chosen_from (range c Certs) g.certs []) (chosen_from (range c Json) g.json []) (chosen_from (range c San) g.san []) (chosen_from (range c Fens) g.fens []) n
+  each = eight _ _ _ _ _ _ _ _ n is
 
   limited : (l : Bounds) → IfSome (numbers_from c g []) (λ n. l ≡ bounds n) → l ≡ bounds n
   limited l h = let k = rw is at h in k
 
-  pub games_made : (l : Bounds) (k : ℕ) → c ≡ Adjudicate → g.said ≡ Nothing → IfSome (numbers_from c g []) (λ n. l ≡ bounds n) → chosen_from (range c Certs) g.certs [] ≡ Some k → Some (AdjudicateGames l (k == 1)) ≡ order_from c g []
-  games_made l k e s h certs =
-      let same : k ≡ n.certs = of_some k n.certs (sym certs ∙ each.certs) in
-      rw (at_end c g n is, e, s, limited l h, same) refl
+  printed : (p : Printing) → IfSome (numbers_from c g []) (λ n. p ≡ printing n) → p ≡ printing n
+  printed p h = let k = rw is at h in k
 
-  pub positions_made : (l : Bounds) (k : ℕ) → c ≡ Position → g.said ≡ Nothing → IfSome (numbers_from c g []) (λ n. l ≡ bounds n) → chosen_from (range c Certs) g.certs [] ≡ Some k → Some (JudgePositions l (k == 1)) ≡ order_from c g []
-  positions_made l k e s h certs =
-      let same : k ≡ n.certs = of_some k n.certs (sym certs ∙ each.certs) in
-      rw (at_end c g n is, e, s, limited l h, same) refl
+  pub games_made : (l : Bounds) (p : Printing) → c ≡ Adjudicate → g.said ≡ Nothing → IfSome (numbers_from c g []) (λ n. l ≡ bounds n) → IfSome (numbers_from c g []) (λ n. p ≡ printing n) → Some (AdjudicateGames l p) ≡ order_from c g []
+  games_made l p e s h hp = rw (at_end c g n is, e, s, limited l h, printed p hp) refl
+
+  pub positions_made : (l : Bounds) (p : Printing) → c ≡ Position → g.said ≡ Nothing → IfSome (numbers_from c g []) (λ n. l ≡ bounds n) → IfSome (numbers_from c g []) (λ n. p ≡ printing n) → Some (JudgePositions l p) ≡ order_from c g []
+  positions_made l p e s h hp = rw (at_end c g n is, e, s, limited l h, printed p hp) refl
+
+  -- how the report is printed, by what is chosen
+  pub printing_chosen : (kc kj ks kf : ℕ) → chosen_from (range c Certs) g.certs [] ≡ Some kc → chosen_from (range c Json) g.json [] ≡ Some kj → chosen_from (range c San) g.san [] ≡ Some ks → chosen_from (range c Fens) g.fens [] ≡ Some kf
+      → IfSome (numbers_from c g []) (λ n. record { certs = kc == 1; json = kj == 1; san = ks == 1; fens = kf == 1 } ≡ printing n)
+  printing_chosen kc kj ks kf hc hj hs hf =
+      let certs : kc ≡ n.certs = of_some kc n.certs (sym hc ∙ each.certs) in
+      let json : kj ≡ n.json = of_some kj n.json (sym hj ∙ each.json) in
+      let san : ks ≡ n.san = of_some ks n.san (sym hs ∙ each.san) in
+      let fens : kf ≡ n.fens = of_some kf n.fens (sym hf ∙ each.fens) in
+      rw (is, certs, json, san, fens) refl
 
   pub check_made : c ≡ Check → g.said ≡ Nothing → Some CheckCert ≡ order_from c g []
   check_made e s = rw (at_end c g n is, e, s) refl
@@ -94,11 +113,12 @@ module _ (c : Command) (g : Given) (n : Numbers) (is : numbers_from c g [] ≡ S
   pub games_generated : (l : Bounds) (seed count : ℕ) → c ≡ Gen → g.said ≡ Games seed count → IfSome (numbers_from c g []) (λ n. l ≡ bounds n) → Some (GenGames l seed count) ≡ order_from c g []
   games_generated l seed count e s h = rw (at_end c g n is, e, s, limited l h) refl
 
-  pub mates_made : (side : Color) (w d : ℕ) → c ≡ Mates → g.said ≡ Sided side → chosen_from (range c Workers) g.workers [] ≡ Some w → chosen_from (range c Depth) g.depth [] ≡ Some d → Some (ListMates side w d) ≡ order_from c g []
-  mates_made side w d e s hw hd =
+  pub mates_made : (side : Color) (w d : ℕ) (p : Printing) → c ≡ Mates → g.said ≡ Sided side → chosen_from (range c Workers) g.workers [] ≡ Some w → chosen_from (range c Depth) g.depth [] ≡ Some d → IfSome (numbers_from c g []) (λ n. p ≡ printing n)
+      → Some (ListMates side w d p) ≡ order_from c g []
+  mates_made side w d p e s hw hd hp =
       let workers : w ≡ n.workers = of_some w n.workers (sym hw ∙ each.workers) in
       let depth : d ≡ n.depth = of_some d n.depth (sym hd ∙ each.depth) in
-      rw (at_end c g n is, e, s, workers, depth) refl
+      rw (at_end c g n is, e, s, workers, depth, printed p hp) refl
 
   -- a command whose further words are not complete
   pub not_made : (c ≡ Adjudicate → g.said ≡ Nothing → ⊥) → (c ≡ Position → g.said ≡ Nothing → ⊥) → (c ≡ Check → g.said ≡ Nothing → ⊥) → ((seed count : ℕ) → c ≡ Gen → g.said ≡ Games seed count → ⊥)

@@ -9,11 +9,12 @@ use Rattle.cha_board.specs.declared.men.Color.{Color}
 use Rattle.cha_board.specs.declared.men.Color.TheVariants.{White, Black}
 use Rattle.cha_limits.specs.Bounds.{Bounds}
 use Rattle.cha_words.specs.declared.orders.Order.{Order}
+use Rattle.cha_words.specs.declared.orders.Printing.{Printing}
 use Rattle.cha_words.specs.declared.orders.Order.TheVariants.{AdjudicateGames, JudgePositions, CheckCert, GenGames, ListMates}
 use Rattle.cha_words.specs.declared.table.Command.{Command}
 use Rattle.cha_words.specs.declared.table.Command.TheVariants.{Adjudicate, Position, Check, Gen, Mates}
 use Rattle.cha_words.specs.declared.table.Setting.{Setting}
-use Rattle.cha_words.specs.declared.table.Setting.TheVariants.{Budget, Workers, Depth, Entries, Certs}
+use Rattle.cha_words.specs.declared.table.Setting.TheVariants.{Budget, Workers, Depth, Entries, Certs, Json, San, Fens}
 use Rattle.cha_words.specs.declared.table.Range.{Range}
 use Rattle.cha_words.specs.declared.table.Argument.{Argument}
 use Rattle.cha_words.specs.declared.table.Argument.TheVariants.{Seed, Count, Side}
@@ -46,11 +47,17 @@ setting_named word =
     else (if bytes_eq word (codes "--workers") then Some Workers
     else (if bytes_eq word (codes "--depth") then Some Depth
     else (if bytes_eq word (codes "--entries") then Some Entries
-    else (if bytes_eq word (codes "--certs") then Some Certs else None))))
+    else (if bytes_eq word (codes "--certs") then Some Certs
+    else (if bytes_eq word (codes "--json") then Some Json
+    else (if bytes_eq word (codes "--san") then Some San
+    else (if bytes_eq word (codes "--fens") then Some Fens else None)))))))
 
 -- a flag stands alone, which counts as the number 1; any other option stands with a number
 abbrev pub is_flag : Setting → Bool
 is_flag Certs = true
+is_flag Json = true
+is_flag San = true
+is_flag Fens = true
 is_flag _ = false
 
 -- numbers from least to most, and the one that counts where the option does not stand
@@ -64,6 +71,9 @@ for_search workers Workers = from_to 1 16 workers
 for_search workers Depth = from_to 2 8 4
 for_search workers Entries = from_to 1 65536 4096
 for_search workers Certs = from_to 0 1 0
+for_search workers Json = from_to 0 1 0
+for_search workers San = from_to 0 1 0
+for_search workers Fens = from_to 0 1 0
 
 -- the table of options: the numbers that an option takes behind a command, or None where it does not stand there
 abbrev pub range : Command → Setting → Option Range
@@ -71,9 +81,14 @@ range Adjudicate setting = Some (for_search 2 setting)
 range Position setting = Some (for_search 2 setting)
 range Check setting = None
 range Gen Certs = None
+range Gen Json = None
+range Gen San = None
+range Gen Fens = None
 range Gen setting = Some (for_search 1 setting)
 range Mates Workers = Some (from_to 1 16 2)
 range Mates Depth = Some (from_to 1 6 4)
+range Mates Json = Some (from_to 0 1 0)
+range Mates San = Some (from_to 0 1 0)
 range Mates _ = None
 
 -- the table of the words that are no options: which comes next, by what such words have said
@@ -138,6 +153,9 @@ value_for Workers (Value Workers word) = Some word
 value_for Depth (Value Depth word) = Some word
 value_for Entries (Value Entries word) = Some word
 value_for Certs (Value Certs word) = Some word
+value_for Json (Value Json word) = Some word
+value_for San (Value San word) = Some word
+value_for Fens (Value Fens word) = Some word
 value_for _ _ = None
 
 -- the word that a part is
@@ -161,12 +179,15 @@ pub record Numbers : Type 0 where
   pub depth : ℕ
   pub entries : ℕ
   pub certs : ℕ
+  pub json : ℕ
+  pub san : ℕ
+  pub fens : ℕ
 
 -- all of them, where each is one
-abbrev pub all_of : Option ℕ → Option ℕ → Option ℕ → Option ℕ → Option ℕ → Option Numbers
-all_of (Some budget) (Some workers) (Some depth) (Some entries) (Some certs) =
-    Some (record { budget = budget; workers = workers; depth = depth; entries = entries; certs = certs })
-all_of _ _ _ _ _ = None
+abbrev pub all_of : Option ℕ → Option ℕ → Option ℕ → Option ℕ → Option ℕ → Option ℕ → Option ℕ → Option ℕ → Option Numbers
+all_of (Some budget) (Some workers) (Some depth) (Some entries) (Some certs) (Some json) (Some san) (Some fens) =
+    Some (record { budget = budget; workers = workers; depth = depth; entries = entries; certs = certs; json = json; san = san; fens = fens })
+all_of _ _ _ _ _ _ _ _ = None
 
 -- what a word says that is no option, behind those that said the second argument
 abbrev pub say : Option Argument → Said → List ℕ → Option Said
@@ -185,13 +206,17 @@ say_all command (Some said) (word ∷ words) = say_all command (say (next_argume
 abbrev pub bounds : Numbers → Bounds
 bounds n = record { budget = n.budget; depth = n.depth; workers = n.workers; entries = n.entries }
 
+-- how a report is printed, by the numbers of the options
+abbrev pub printing : Numbers → Printing
+printing n = record { certs = n.certs == 1; json = n.json == 1; san = n.san == 1; fens = n.fens == 1 }
+
 -- the order of a command, by the numbers of its options and what its further words say
 abbrev pub made : Command → Numbers → Said → Option Order
-made Adjudicate n Nothing = Some (AdjudicateGames (bounds n) (n.certs == 1))
-made Position n Nothing = Some (JudgePositions (bounds n) (n.certs == 1))
+made Adjudicate n Nothing = Some (AdjudicateGames (bounds n) (printing n))
+made Position n Nothing = Some (JudgePositions (bounds n) (printing n))
 made Check n Nothing = Some CheckCert
 made Gen n (Games seed count) = Some (GenGames (bounds n) seed count)
-made Mates n (Sided side) = Some (ListMates side n.workers n.depth)
+made Mates n (Sided side) = Some (ListMates side n.workers n.depth (printing n))
 made _ n said = None
 
 -- the same where one of them may be refused
@@ -202,7 +227,7 @@ made_of command _ _ = None
 -- the numbers of all options, by the parts of the words
 abbrev pub numbers : Command → List Part → Option Numbers
 numbers command cut = let number_of : Setting → Option ℕ = λ setting. chosen (range command setting) (filter_map (value_for setting) cut) in
-    all_of (number_of Budget) (number_of Workers) (number_of Depth) (number_of Entries) (number_of Certs)
+    all_of (number_of Budget) (number_of Workers) (number_of Depth) (number_of Entries) (number_of Certs) (number_of Json) (number_of San) (number_of Fens)
 
 -- what a command orders with the words behind it
 unfoldable pub order_by : Command → List (List ℕ) → Option Order
@@ -224,8 +249,8 @@ order words = order_of (map string_bytes words)
 
 -- what an order lets a search of verdicts spend; a check and the shortest mates have none
 abbrev pub limits_in : Order → Option Bounds
-limits_in (AdjudicateGames spend certs) = Some spend
-limits_in (JudgePositions spend certs) = Some spend
+limits_in (AdjudicateGames spend printing) = Some spend
+limits_in (JudgePositions spend printing) = Some spend
 limits_in CheckCert = None
 limits_in (GenGames spend seed count) = Some spend
-limits_in (ListMates side workers depth) = None
+limits_in (ListMates side workers depth printing) = None

@@ -37,6 +37,12 @@ pub struct Given {
     pub entries: Option<u64>,
     /// Of `--certs`.
     pub certs: Option<u64>,
+    /// Of `--json`.
+    pub json: Option<u64>,
+    /// Of `--san`.
+    pub san: Option<u64>,
+    /// Of `--fens`.
+    pub fens: Option<u64>,
     /// What words said that are no options.
     pub said: Said,
 }
@@ -60,6 +66,9 @@ pub fn value(given: Given, setting: Setting) -> Option<u64>
         Setting::Depth => given.depth,
         Setting::Entries => given.entries,
         Setting::Certs => given.certs,
+        Setting::Json => given.json,
+        Setting::San => given.san,
+        Setting::Fens => given.fens,
     }
 }
 
@@ -84,6 +93,9 @@ fn with(given: Given, setting: Setting, value: u64) -> Given
         Setting::Depth => next.depth = Some(value),
         Setting::Entries => next.entries = Some(value),
         Setting::Certs => next.certs = Some(value),
+        Setting::Json => next.json = Some(value),
+        Setting::San => next.san = Some(value),
+        Setting::Fens => next.fens = Some(value),
     }
     next
 }

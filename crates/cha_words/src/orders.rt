@@ -2,17 +2,31 @@
 
 ghost use Rattle.std.specs.Prelude.{◌≡◌, ◌≤◌, ℕ, List, Some, [], map, string_bytes, IfOk, IfErr, IfSome, IsNone, IsSome, ◌↔◌};
 ghost use Rattle.cha_limits.specs.Bounds.{Bounds};
-ghost use Rattle.cha_words.specs.Language.{limits_in, bounds, order, order_by, order_of, range};
+ghost use Rattle.cha_words.specs.Language.{limits_in, bounds, printing as printing_by, order, order_by, order_of, range};
 ghost use Rattle.cha_words.specs.Faults.{IsFault, IsFaultOf};
 ghost use Rattle.cha_words.specs.Reading.{Fits, IsIn, IsSearch, Stands, chosen_from, numbers_from, order_from, order_with, value_in};
 ghost use Rattle.cha_words.specs.declared.orders.Order.TheVariants.{GenGames, ListMates};
 ghost use Rattle.cha_board.specs.declared.men.Color.{Color as Side};
+ghost use Rattle.cha_words.specs.declared.orders.Printing.{Printing as Printed};
 
 use crate::faults::{Expected, UsageFault};
 use crate::given::{Given, Progress, Said, value, with_word};
 use crate::table::{Command, Setting, command_of, range_of};
 use cha_board::Color;
 use cha_limits::Limits;
+
+/// How a report is printed.
+#[derive(Clone, Copy, Debug, PartialEq, Eq)]
+pub struct Printing {
+    /// Whether the certificates of sides that cannot mate are printed.
+    pub certs: bool,
+    /// Whether it is printed in JSON, and not in blocks.
+    pub json: bool,
+    /// Whether blocks have moves as words (PGN standard, 8.2.3). JSON has both notations.
+    pub san: bool,
+    /// Whether JSON has the position after each move of a line that mates. Blocks have none.
+    pub fens: bool,
+}
 
 /// What the words order.
 #[derive(Clone, Copy, Debug, PartialEq, Eq)]
@@ -21,15 +35,15 @@ pub enum Order {
     AdjudicateGames {
         /// What a search may spend on a side.
         limits: Limits,
-        /// Whether the certificates of sides that cannot mate are printed.
-        certs: bool,
+        /// How the report is printed.
+        printing: Printing,
     },
     /// `position`: judge each line of the input as a position in FEN.
     JudgePositions {
         /// What a search may spend on a side.
         limits: Limits,
-        /// Whether the certificates of sides that cannot mate are printed.
-        certs: bool,
+        /// How the report is printed.
+        printing: Printing,
     },
     /// `check`: check the certificate whose text the input is.
     CheckCert,
@@ -50,6 +64,8 @@ pub enum Order {
         workers: u32,
         /// Within how many plies mates are looked for, from 1 to 6.
         depth: u8,
+        /// How the report is printed.
+        printing: Printing,
     },
 }
 
@@ -71,12 +87,13 @@ impl Order {
 ///
 /// | Command | Options, each at most once and in any order | Further words |
 /// |---|---|---|
-/// | `adjudicate`, `position` | `--budget`, `--workers`, `--depth`, `--entries`, `--certs` | none |
+/// | `adjudicate`, `position` | `--budget`, `--workers`, `--depth`, `--entries`, `--certs`, `--json`, `--san`, `--fens` | none |
 /// | `gen` | `--budget`, `--workers`, `--depth`, `--entries` | the seed, and then the number of games |
 /// | `check` | none | none |
-/// | `mates` | `--workers`, `--depth` | the side, `w` or `b` |
+/// | `mates` | `--workers`, `--depth`, `--json`, `--san` | the side, `w` or `b` |
 ///
-/// An option with a number is `--name N` in two words or `--name=N` in one, and `--certs` takes no value. A number is 1 to 20
+/// An option with a number is `--name N` in two words or `--name=N` in one, and `--certs`, `--json`,
+/// `--san` and `--fens` take no value. A number is 1 to 20
 /// ASCII digits, leading zeros among them.
 ///
 /// | Number | From | To | Where it does not stand |
@@ -115,7 +132,7 @@ pub fn games_are_some()
 
 /// The law: where the shortest mates are ordered, there are 1 to 16 workers, and 1 to 6 plies.
 pub fn mates_are_bounded()
-    ensures { (words : List (List ℕ)) (side : Side) (workers depth : ℕ) → order_of words ≡ Some (ListMates side workers depth) → ((1 ≤ workers) × (workers ≤ 16)) × ((1 ≤ depth) × (depth ≤ 6)) }
+    ensures { (words : List (List ℕ)) (side : Side) (workers depth : ℕ) (printing : Printed) → order_of words ≡ Some (ListMates side workers depth printing) → ((1 ≤ workers) × (workers ≤ 16)) × ((1 ≤ depth) × (depth ≤ 6)) }
 {}
 
 /// What the words order, or where they leave the language.
@@ -156,6 +173,9 @@ fn read_behind(command: Command, words: &[String]) -> Result<Order, UsageFault>
             depth: None,
             entries: None,
             certs: None,
+            json: None,
+            san: None,
+            fens: None,
             said: Said::Nothing,
         },
         awaited: None,
@@ -201,11 +221,11 @@ fn made(command: Command, given: Given) -> Option<Order>
     match (command, given.said) {
         (Command::Adjudicate, Said::Nothing) => Some(Order::AdjudicateGames {
             limits: limits(command, given),
-            certs: chosen(command, given, Setting::Certs) == 1,
+            printing: printed(command, given),
         }),
         (Command::Position, Said::Nothing) => Some(Order::JudgePositions {
             limits: limits(command, given),
-            certs: chosen(command, given, Setting::Certs) == 1,
+            printing: printed(command, given),
         }),
         (Command::Check, Said::Nothing) => Some(Order::CheckCert),
         (Command::Gen, Said::Games(seed, count)) => Some(Order::GenGames {
@@ -217,8 +237,22 @@ fn made(command: Command, given: Given) -> Option<Order>
             side,
             workers: chosen(command, given, Setting::Workers) as u32,
             depth: chosen(command, given, Setting::Depth) as u8,
+            printing: printed(command, given),
         }),
         _ => None,
+    }
+}
+
+/// How the report is printed.
+fn printed(command: Command, given: Given) -> Printing
+    requires { Fits command given }
+    ensures { IfSome (numbers_from command given []) (λ n. result ≡ printing_by n) }
+{
+    Printing {
+        certs: chosen(command, given, Setting::Certs) == 1,
+        json: chosen(command, given, Setting::Json) == 1,
+        san: chosen(command, given, Setting::San) == 1,
+        fens: chosen(command, given, Setting::Fens) == 1,
     }
 }
 

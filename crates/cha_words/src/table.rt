@@ -45,15 +45,24 @@ pub enum Setting {
     Entries,
     /// `--certs`, a flag: whether certificates are printed.
     Certs,
+    /// `--json`, a flag: whether the report is printed in JSON.
+    Json,
+    /// `--san`, a flag: whether moves are printed as words.
+    San,
+    /// `--fens`, a flag: whether the position after each move of a line is printed, in JSON.
+    Fens,
 }
 
 /// Each option.
-pub const SETTINGS: [Setting; 5] = [
+pub const SETTINGS: [Setting; 8] = [
     Setting::Budget,
     Setting::Workers,
     Setting::Depth,
     Setting::Entries,
     Setting::Certs,
+    Setting::Json,
+    Setting::San,
+    Setting::Fens,
 ];
 
 /// The numbers that an option takes behind a command.
@@ -127,6 +136,12 @@ pub fn setting_of(word: &str) -> Option<Setting>
         Some(Setting::Entries)
     } else if word == "--certs" {
         Some(Setting::Certs)
+    } else if word == "--json" {
+        Some(Setting::Json)
+    } else if word == "--san" {
+        Some(Setting::San)
+    } else if word == "--fens" {
+        Some(Setting::Fens)
     } else {
         None
     }
@@ -143,6 +158,9 @@ pub fn setting_name(setting: Setting) -> &'static str
         Setting::Depth => "--depth",
         Setting::Entries => "--entries",
         Setting::Certs => "--certs",
+        Setting::Json => "--json",
+        Setting::San => "--san",
+        Setting::Fens => "--fens",
     }
 }
 
@@ -151,7 +169,7 @@ pub fn is_flag(setting: Setting) -> bool
     ensures { result ≡ stands_alone setting }
 {
     match setting {
-        Setting::Certs => true,
+        Setting::Certs | Setting::Json | Setting::San | Setting::Fens => true,
         Setting::Budget | Setting::Workers | Setting::Depth | Setting::Entries => false,
     }
 }
@@ -172,7 +190,7 @@ fn for_search(workers: u64, setting: Setting) -> Range
         Setting::Workers => from_to(1, 16, workers),
         Setting::Depth => from_to(2, 8, 4),
         Setting::Entries => from_to(1, 65_536, 4_096),
-        Setting::Certs => from_to(0, 1, 0),
+        Setting::Certs | Setting::Json | Setting::San | Setting::Fens => from_to(0, 1, 0),
     }
 }
 
@@ -184,13 +202,14 @@ pub fn range_of(command: Command, setting: Setting) -> Option<Range>
         Command::Adjudicate | Command::Position => Some(for_search(2, setting)),
         Command::Check => None,
         Command::Gen => match setting {
-            Setting::Certs => None,
+            Setting::Certs | Setting::Json | Setting::San | Setting::Fens => None,
             _ => Some(for_search(1, setting)),
         },
         Command::Mates => match setting {
             Setting::Workers => Some(from_to(1, 16, 2)),
             Setting::Depth => Some(from_to(1, 6, 4)),
-            Setting::Budget | Setting::Entries | Setting::Certs => None,
+            Setting::Json | Setting::San => Some(from_to(0, 1, 0)),
+            Setting::Budget | Setting::Entries | Setting::Certs | Setting::Fens => None,
         },
     }
 }

@@ -1,9 +1,11 @@
 -- The block of an outcome (this project).
-use Rattle.std.specs.Prelude.{ℕ, Bool, List, ◌++◌, codes}
+use Rattle.std.specs.Prelude.{ℕ, List, ◌++◌, codes}
 use Rattle.cha_outcome.specs.declared.outcomes.Outcome.{Outcome}
 use Rattle.cha_outcome.specs.declared.outcomes.Outcome.TheVariants.{JudgedPosition, JudgedGame, ListedMates, RefusedLine, UnreadableGame}
-use Rattle.flag_report.specs.Reasons.{fen_fault_text, reason_text}
-use Rattle.flag_report.specs.Findings.{line, count_text, fen_line, findings_text}
+use Rattle.report_words.specs.Reasons.{fen_fault_text, reason_text}
+use Rattle.report_words.specs.Counts.{count_text}
+use Rattle.flag_report.specs.declared.forms.BlockForm.{BlockForm}
+use Rattle.flag_report.specs.Findings.{line, fen_line, findings_text}
 use Rattle.flag_report.specs.Scans.{scan_part}
 use Rattle.flag_report.specs.Games.{result_line}
 use Rattle.flag_report.specs.Mates.{mates_text}
@@ -16,14 +18,14 @@ label (ListedMates number q depth found) = codes "position "
 label (RefusedLine number fault) = codes "position "
 label (UnreadableGame span why) = codes "game "
 
--- the lines behind the first, with or without certificates
-unfoldable pub body : Bool → Outcome → List ℕ
-body certs (JudgedPosition number q d status) = findings_text q d status certs
-body certs (JudgedGame game d scan status judgment) = findings_text game.last d status certs ++ scan_part scan certs ++ result_line game.recorded judgment
-body certs (ListedMates number q depth found) = fen_line q ++ mates_text depth found
-body certs (RefusedLine number fault) = line (codes "refused: " ++ fen_fault_text fault)
-body certs (UnreadableGame span why) = line (codes "unreadable: " ++ reason_text why)
+-- the lines behind the first
+unfoldable pub body : BlockForm → Outcome → List ℕ
+body form (JudgedPosition number q d status) = findings_text form q d status
+body form (JudgedGame game d scan status judgment) = findings_text form game.last d status ++ scan_part scan form.certs ++ result_line game.recorded judgment
+body form (ListedMates number q depth found) = fen_line q ++ mates_text form.notation q depth found
+body form (RefusedLine number fault) = line (codes "refused: " ++ fen_fault_text fault)
+body form (UnreadableGame span why) = line (codes "unreadable: " ++ reason_text why)
 
 -- the block of an outcome under a number
-abbrev pub block_text : Bool → ℕ → Outcome → List ℕ
-block_text certs number o = line (count_text (label o) number) ++ body certs o
+abbrev pub block_text : BlockForm → ℕ → Outcome → List ℕ
+block_text form number o = line (count_text (label o) number) ++ body form o

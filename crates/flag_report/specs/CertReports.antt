@@ -5,7 +5,8 @@ use Rattle.cha_board.specs.declared.men.Color.TheVariants.{White, Black}
 use Rattle.cert_text.specs.declared.faults.CertFault.{CertFault}
 use Rattle.cert_text.specs.declared.faults.CertKind.{CertKind}
 use Rattle.cert_text.specs.declared.faults.CertKind.TheVariants.{Header, Winner, Count, Node, Loose, Reach, End, NoMemory, Sets}
-use Rattle.flag_report.specs.Findings.{line, count_text}
+use Rattle.report_words.specs.Counts.{count_text}
+use Rattle.flag_report.specs.Findings.{line}
 
 -- the certificate is valid: this side cannot mate
 unfoldable pub accepted_text : Color → List ℕ

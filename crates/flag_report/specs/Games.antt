@@ -1,18 +1,11 @@
 -- The texts of the result of a game (this project).
 use Rattle.std.specs.Prelude.{ℕ, List, ◌++◌, codes}
 use Rattle.pgn_games.specs.declared.marks.ResultMark.{ResultMark}
-use Rattle.pgn_games.specs.declared.marks.ResultMark.TheVariants.{WhiteWins, BlackWins, Draw, Unknown}
 use Rattle.cha_outcome.specs.declared.rulings.Cause.{Cause}
 use Rattle.cha_outcome.specs.declared.rulings.Cause.TheVariants.{Mate511, Stalemate521, Dead522, Flag69, Recorded, RecordedUndecided}
 use Rattle.cha_outcome.specs.declared.rulings.Judgment.{Judgment}
+use Rattle.report_words.specs.Words.{mark_text}
 use Rattle.flag_report.specs.Findings.{line}
-
--- a result (PGN standard, 8.2.6)
-unfoldable pub mark_text : ResultMark → List ℕ
-mark_text WhiteWins = codes "1-0"
-mark_text BlackWins = codes "0-1"
-mark_text Draw = codes "1/2-1/2"
-mark_text Unknown = codes "*"
 
 -- why a game has its result: an article of the Laws of Chess, or that it was recorded so
 unfoldable pub cause_text : Cause → List ℕ

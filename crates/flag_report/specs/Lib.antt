@@ -1,4 +1,3 @@
-pub mod Reasons
 pub mod Findings
 pub mod Scans
 pub mod Games

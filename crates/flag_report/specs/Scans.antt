@@ -6,7 +6,8 @@ use Rattle.cha_verdict.specs.declared.scans.Edge.{Edge}
 use Rattle.cha_verdict.specs.declared.scans.Edge.TheVariants.{Start, Live, Unclear}
 use Rattle.cha_verdict.specs.declared.scans.EarlierCerts.{EarlierCerts}
 use Rattle.cha_verdict.specs.declared.scans.Scan.{Scan}
-use Rattle.flag_report.specs.Findings.{line, count_text, cert_part}
+use Rattle.report_words.specs.Counts.{count_text}
+use Rattle.flag_report.specs.Findings.{line, cert_part}
 
 -- where nothing was shown about the ply before, that it may have been earlier
 unfoldable pub edge_text : Edge → ℕ → List ℕ

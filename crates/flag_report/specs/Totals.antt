@@ -3,7 +3,8 @@ use Rattle.std.specs.Prelude.{ℕ, List, ◌++◌, codes}
 use Rattle.cha_outcome.specs.declared.totals.Totals.{Totals}
 use Rattle.flag_report.specs.declared.styles.Subject.{Subject}
 use Rattle.flag_report.specs.declared.styles.Subject.TheVariants.{Games, Positions, Mates}
-use Rattle.flag_report.specs.Findings.{line, count_text}
+use Rattle.report_words.specs.Counts.{count_text}
+use Rattle.flag_report.specs.Findings.{line}
 
 -- the last line for games
 unfoldable pub game_summary_text : Totals → List ℕ

@@ -4,16 +4,18 @@ ghost use Rattle.std.specs.Prelude.{◌≡◌, ◌++◌, OnOk, codes};
 ghost use Rattle.cha_outcome.specs.Outcomes.{IsPrintableOutcome};
 ghost use Rattle.flag_report.specs.Blocks.{label as label_of, body, block_text};
 ghost use Rattle.flag_report.specs.Findings.{line};
-ghost use Rattle.flag_report.specs.Reasons.{fen_fault_text, reason_text};
+ghost use Rattle.report_words.specs.LegalLines.{HasLegalLines};
+ghost use Rattle.report_words.specs.Reasons.{fen_fault_text, reason_text};
 
 use crate::findings::{put_count_line, put_fen, put_findings};
+use crate::forms::BlockForm;
 use crate::mates::put_mates;
-use crate::reasons::{put_fen_fault, put_reason};
 use crate::results::put_result;
 use crate::scans::put_scan_part;
 use cha_fen::FenFault;
 use cha_list::{NoMemory, Text};
 use cha_outcome::{Outcome, Unreadable};
+use report_words::{put_fen_fault, put_reason};
 use std::alloc::Global;
 
 /// The word in front of the number.
@@ -52,28 +54,35 @@ fn label(outcome: &Outcome) -> &'static [u8]
 /// ```
 ///
 /// A game that ends in a dead position has a line more before the result, as `dead from: ply 1`. A line that is no position has
-/// `refused: shape`, and a game that cannot be read `unreadable: move 3 Ke3: no such move` alone. Where `certs` says so, the
-/// certificate of a side that cannot mate follows its line, and the certificates of an earlier dead position the line that names
+/// `refused: shape`, and a game that cannot be read `unreadable: move 3 Ke3: no such move` alone. Where `form` says so, moves
+/// are words, and the certificate of a side that cannot mate follows its line, and the certificates of an earlier dead position the line that names
 /// its ply.
 pub fn put_block(
     alloc: Global,
-    certs: bool,
+    form: BlockForm,
     number: u64,
     outcome: &Outcome,
     text: &mut Text,
 ) -> Result<(), NoMemory>
-    requires { IsPrintableOutcome outcome.now }
-    ensures { OnOk result (text.new ≡ text.old ++ block_text certs number outcome.now) }
+    requires printable { IsPrintableOutcome outcome.now }
+    requires legal { HasLegalLines outcome.now }
+    ensures { OnOk result (text.new ≡ text.old ++ block_text form number outcome.now) }
 {
     put_count_line(alloc, label(outcome), number, text)?;
-    put_body(alloc, certs, outcome, text)
+    put_body(alloc, form, outcome, text)
 }
 
 /// Appends the lines of a block behind the first.
 #[tactic(auto, unfolding(crate::specs::Blocks::body))]
-fn put_body(alloc: Global, certs: bool, outcome: &Outcome, text: &mut Text) -> Result<(), NoMemory>
-    requires { IsPrintableOutcome outcome.now }
-    ensures { OnOk result (text.new ≡ text.old ++ body certs outcome.now) }
+fn put_body(
+    alloc: Global,
+    form: BlockForm,
+    outcome: &Outcome,
+    text: &mut Text,
+) -> Result<(), NoMemory>
+    requires printable { IsPrintableOutcome outcome.now }
+    requires legal { HasLegalLines outcome.now }
+    ensures { OnOk result (text.new ≡ text.old ++ body form outcome.now) }
 {
     match outcome {
         Outcome::JudgedPosition {
@@ -81,7 +90,7 @@ fn put_body(alloc: Global, certs: bool, outcome: &Outcome, text: &mut Text) -> R
             decision,
             status,
             ..
-        } => put_findings(alloc, position, decision, *status, certs, text),
+        } => put_findings(alloc, form, position, decision, *status, text),
         Outcome::JudgedGame {
             game,
             decision,
@@ -89,8 +98,8 @@ fn put_body(alloc: Global, certs: bool, outcome: &Outcome, text: &mut Text) -> R
             status,
             judgment,
         } => {
-            put_findings(alloc, &game.last, decision, *status, certs, text)?;
-            put_scan_part(alloc, scan, certs, text)?;
+            put_findings(alloc, form, &game.last, decision, *status, text)?;
+            put_scan_part(alloc, scan, form.certs, text)?;
             put_result(game.recorded, *judgment, text)
         }
         Outcome::ListedMates {
@@ -100,7 +109,7 @@ fn put_body(alloc: Global, certs: bool, outcome: &Outcome, text: &mut Text) -> R
             ..
         } => {
             put_fen(alloc, position, text)?;
-            put_mates(alloc, *depth, shortest, text)
+            put_mates(alloc, form.notation, position, *depth, shortest, text)
         }
         Outcome::RefusedLine { fault, .. } => put_refused(*fault, text),
         Outcome::UnreadableGame { why, .. } => put_unreadable(alloc, why, text),

@@ -4,10 +4,11 @@ ghost use Rattle.std.specs.Prelude.{◌≡◌, ◌≢◌, ◌++◌, OnOk, IfOk};
 ghost use Rattle.cert_text.specs.declared.faults.CertKind.TheVariants as kinds;
 ghost use Rattle.flag_report.specs.CertReports.{accepted_text, kind_text, misfit_text, failing_text};
 
-use crate::findings::{put_count, put_count_line};
+use crate::findings::put_count_line;
 use cert_text::{CertFault, CertKind};
 use cha_board::Color;
 use cha_list::{NoMemory, Text};
+use report_words::put_count;
 use std::alloc::Global;
 
 /// The line on a valid certificate, `accepted w` where it shows that White cannot mate, or `accepted b`.

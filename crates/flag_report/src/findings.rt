@@ -1,29 +1,25 @@
 //! What is found about a position.
 
 ghost use Rattle.std.specs.Prelude.{◌≡◌, ◌++◌, OnOk};
-ghost use Rattle.flag_report.specs.Findings.{line, count_text, moves_text, winnable_text, undecided_text, verdict_text, cert_part, side_text, status_text, fen_line, findings_text};
+ghost use Rattle.report_words.specs.Counts.{count_text};
+ghost use Rattle.report_words.specs.LegalLines.{AreLegal, AreOfLegalMoves, IsOfLegalMoves};
+ghost use Rattle.flag_report.specs.Findings.{line, moves_text, words_text, notated, winnable_text, undecided_text, verdict_text, cert_part, side_text, fen_line, findings_text};
 ghost use Rattle.cha_outcome.specs.Outcomes.{ArePrintable};
 ghost use Rattle.cha_verdict.specs.Verdicts.{IsPrintable};
 ghost use Rattle.cha_verdict.specs.declared.verdicts.Verdict.TheVariants.{Unwinnable};
 
+use crate::forms::{BlockForm, Notation};
 use cert_text::write2;
 use cha_board::{Color, Position};
 use cha_cert::{Cert, share};
 use cha_fen::write;
 use cha_list::{NoMemory, Text};
-use cha_moves::{Move, move_text};
+use cha_moves::{Move, after, move_text};
 use cha_outcome::PositionStatus;
+use cha_san::san;
 use cha_verdict::{Decision, Verdict};
+use report_words::{put_count, put_status};
 use std::alloc::Global;
-
-/// Appends a count behind its label.
-pub fn put_count(alloc: Global, label: &[u8], count: u64, text: &mut Text) -> Result<(), NoMemory>
-    ensures { OnOk result (text.new ≡ text.old ++ count_text label.now count) }
-{
-    text.append(label)?;
-    text.append_decimal(alloc, count)?;
-    Ok(())
-}
 
 /// Appends a line with a count behind its label.
 pub fn put_count_line(
@@ -51,10 +47,55 @@ pub fn put_moves(moves: &[Move], text: &mut Text) -> Result<(), NoMemory>
     Ok(())
 }
 
+/// Appends the words of moves that are made one after the other, each behind a space.
+#[tactic(auto, unfolding(crate::specs::Findings::words_text))]
+fn put_words(
+    alloc: Global,
+    position: &Position,
+    moves: &[Move],
+    text: &mut Text,
+) -> Result<(), NoMemory>
+    requires { AreLegal position.now moves.now }
+    ensures { OnOk result (text.new ≡ text.old ++ words_text position.now moves.now) }
+{
+    let mut now = *position;
+    for m in moves {
+        let word = san(alloc, &now, *m)?;
+        text.append(b" ")?;
+        text.append(word.items())?;
+        now = after(&now, *m);
+    }
+    Ok(())
+}
+
+/// Appends a line of moves in a notation.
+pub fn put_notated(
+    alloc: Global,
+    notation: Notation,
+    position: &Position,
+    moves: &[Move],
+    text: &mut Text,
+) -> Result<(), NoMemory>
+    requires { AreLegal position.now moves.now }
+    ensures { OnOk result (text.new ≡ text.old ++ notated notation position.now moves.now) }
+{
+    match notation {
+        Notation::Coordinates => put_moves(moves, text),
+        Notation::San => put_words(alloc, position, moves, text),
+    }
+}
+
 /// Appends the text of moves that mate.
 #[tactic(auto, unfolding(crate::specs::Findings::winnable_text))]
-fn put_winnable(alloc: Global, moves: &[Move], text: &mut Text) -> Result<(), NoMemory>
-    ensures { OnOk result (text.new ≡ text.old ++ winnable_text moves.now) }
+fn put_winnable(
+    alloc: Global,
+    notation: Notation,
+    position: &Position,
+    moves: &[Move],
+    text: &mut Text,
+) -> Result<(), NoMemory>
+    requires { AreLegal position.now moves.now }
+    ensures { OnOk result (text.new ≡ text.old ++ winnable_text notation position.now moves.now) }
 {
     if moves.is_empty() {
         return text.append(b"winnable in 0");
@@ -62,7 +103,7 @@ fn put_winnable(alloc: Global, moves: &[Move], text: &mut Text) -> Result<(), No
     text.append(b"winnable in ")?;
     text.append_decimal(alloc, moves.len() as u64)?;
     text.append(b":")?;
-    put_moves(moves, text)
+    put_notated(alloc, notation, position, moves, text)
 }
 
 /// Appends the text of a search that spent its budget and found nothing.
@@ -75,13 +116,20 @@ fn put_undecided(alloc: Global, units: u32, depth: u8, text: &mut Text) -> Resul
     Ok(())
 }
 
-/// Appends the text of a verdict.
+/// Appends the text of a verdict on a side in a position.
 #[tactic(auto, unfolding(crate::specs::Findings::verdict_text))]
-fn put_verdict(alloc: Global, verdict: &Verdict, text: &mut Text) -> Result<(), NoMemory>
-    ensures { OnOk result (text.new ≡ text.old ++ verdict_text verdict.now) }
+fn put_verdict(
+    alloc: Global,
+    notation: Notation,
+    position: &Position,
+    verdict: &Verdict,
+    text: &mut Text,
+) -> Result<(), NoMemory>
+    requires { IsOfLegalMoves position.now verdict.now }
+    ensures { OnOk result (text.new ≡ text.old ++ verdict_text notation position.now verdict.now) }
 {
     match verdict {
-        Verdict::Winnable(moves) => put_winnable(alloc, moves.items(), text),
+        Verdict::Winnable(moves) => put_winnable(alloc, notation, position, moves.items(), text),
         Verdict::Unwinnable(_) => text.append(b"unwinnable"),
         Verdict::Undecided { units, depth } => put_undecided(alloc, *units, *depth, text),
         Verdict::Skipped => text.append(b"skipped"),
@@ -129,19 +177,21 @@ fn put_cert_of(
 /// Appends a line with the verdict on a side behind its label, and the certificate behind the line.
 fn put_side(
     alloc: Global,
+    form: BlockForm,
     label: &[u8],
+    position: &Position,
     winner: Color,
     verdict: &Verdict,
-    certs: bool,
     text: &mut Text,
 ) -> Result<(), NoMemory>
-    requires { IsPrintable verdict.now }
-    ensures { OnOk result (text.new ≡ text.old ++ side_text label.now winner verdict.now certs) }
+    requires printable { IsPrintable verdict.now }
+    requires legal { IsOfLegalMoves position.now verdict.now }
+    ensures { OnOk result (text.new ≡ text.old ++ side_text form label.now position.now winner verdict.now) }
 {
     text.append(label)?;
-    put_verdict(alloc, verdict, text)?;
+    put_verdict(alloc, form.notation, position, verdict, text)?;
     text.append(b"\n")?;
-    put_cert_of(alloc, winner, verdict, certs, text)
+    put_cert_of(alloc, winner, verdict, form.certs, text)
 }
 
 /// Appends the line with the FEN of a position.
@@ -155,49 +205,38 @@ pub fn put_fen(alloc: Global, position: &Position, text: &mut Text) -> Result<()
     Ok(())
 }
 
-/// Appends the word for a status.
-#[tactic(auto, unfolding(crate::specs::Findings::status_text))]
-fn put_status(status: PositionStatus, text: &mut Text) -> Result<(), NoMemory>
-    ensures { OnOk result (text.new ≡ text.old ++ status_text status) }
-{
-    match status {
-        PositionStatus::Checkmate => text.append(b"checkmate"),
-        PositionStatus::Stalemate => text.append(b"stalemate"),
-        PositionStatus::Dead => text.append(b"dead"),
-        PositionStatus::Live => text.append(b"live"),
-        PositionStatus::Unclear => text.append(b"unclear"),
-    }
-}
-
 /// Appends the four lines on a position that the blocks of positions and of games share, with the certificates between
 /// them.
 #[tactic(auto, unfolding(crate::specs::Findings::findings_text))]
 pub fn put_findings(
     alloc: Global,
+    form: BlockForm,
     position: &Position,
     decision: &Decision,
     status: PositionStatus,
-    certs: bool,
     text: &mut Text,
 ) -> Result<(), NoMemory>
-    requires { ArePrintable decision.now }
-    ensures { OnOk result (text.new ≡ text.old ++ findings_text position.now decision.now status certs) }
+    requires printable { ArePrintable decision.now }
+    requires legal { AreOfLegalMoves position.now decision.now }
+    ensures { OnOk result (text.new ≡ text.old ++ findings_text form position.now decision.now status) }
 {
     put_fen(alloc, position, text)?;
     put_side(
         alloc,
+        form,
         b"white: ",
+        position,
         Color::White,
         &decision.white,
-        certs,
         text,
     )?;
     put_side(
         alloc,
+        form,
         b"black: ",
+        position,
         Color::Black,
         &decision.black,
-        certs,
         text,
     )?;
     text.append(b"status: ")?;

@@ -1,24 +1,12 @@
 //! The result of a game.
 
 ghost use Rattle.std.specs.Prelude.{◌≡◌, ◌++◌, OnOk};
-ghost use Rattle.flag_report.specs.Games.{mark_text, cause_text, result_line};
+ghost use Rattle.flag_report.specs.Games.{cause_text, result_line};
 
 use cha_list::{NoMemory, Text};
 use cha_outcome::{Cause, Judgment};
+use report_words::put_mark;
 use pgn_games::ResultMark;
-
-/// Appends a result.
-#[tactic(auto, unfolding(crate::specs::Games::mark_text))]
-fn put_mark(mark: ResultMark, text: &mut Text) -> Result<(), NoMemory>
-    ensures { OnOk result (text.new ≡ text.old ++ mark_text mark) }
-{
-    match mark {
-        ResultMark::WhiteWins => text.append(b"1-0"),
-        ResultMark::BlackWins => text.append(b"0-1"),
-        ResultMark::Draw => text.append(b"1/2-1/2"),
-        ResultMark::Unknown => text.append(b"*"),
-    }
-}
 
 /// Appends why a game has its result.
 #[tactic(auto, unfolding(crate::specs::Games::cause_text))]

@@ -5,10 +5,11 @@ ghost use Rattle.cha_verdict.specs.Scans.{IsPrintableScan};
 ghost use Rattle.cha_outcome.specs.Outcomes.{IsPrintableIfScanned};
 ghost use Rattle.flag_report.specs.Scans.{edge_text, earlier_part, scan_text, scan_part};
 
-use crate::findings::{put_cert, put_count};
+use crate::findings::put_cert;
 use cha_board::Color;
 use cha_list::{NoMemory, Text};
 use cha_verdict::{EarlierCerts, Edge, Scan};
+use report_words::put_count;
 use std::alloc::Global;
 
 /// Appends that a game may have been dead earlier, where nothing was shown about the ply before.

@@ -3,10 +3,10 @@
 ghost use Rattle.std.specs.Prelude.{◌≡◌, ◌++◌, OnOk, IfOk};
 ghost use Rattle.flag_report.specs.Totals.{game_summary_text, position_summary_text, mates_summary_text, summary_text};
 
-use crate::findings::put_count;
 use crate::styles::Subject;
 use cha_list::{NoMemory, Text};
 use cha_outcome::Totals;
+use report_words::put_count;
 use std::alloc::Global;
 
 /// Appends the last line of a report.

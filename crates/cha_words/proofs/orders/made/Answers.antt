@@ -5,12 +5,12 @@ use Rattle.cha_words.proofs.orders.made.Goals as goal
 pub returns-in-Adjudicate-Nothing : goal.returns-in-Adjudicate-Nothing
 returns-in-Adjudicate-Nothing c =
     let n = whole c.args.command c.args.given in
-    games_made c.args.command c.args.given n.0 n.1 c.limits.result c.chosen.result c.in-Adjudicate-Nothing.is-0 c.in-Adjudicate-Nothing.is-1 c.limits.ensures c.chosen.ensures.value
+    games_made c.args.command c.args.given n.0 n.1 c.limits.result c.printed.result c.in-Adjudicate-Nothing.is-0 c.in-Adjudicate-Nothing.is-1 c.limits.ensures c.printed.ensures
 
 pub returns-in-Position-Nothing : goal.returns-in-Position-Nothing
 returns-in-Position-Nothing c =
     let n = whole c.args.command c.args.given in
-    positions_made c.args.command c.args.given n.0 n.1 c.limits-in-Position-Nothing.result c.chosen-in-Position-Nothing.result c.in-Position-Nothing.is-0 c.in-Position-Nothing.is-1 c.limits-in-Position-Nothing.ensures c.chosen-in-Position-Nothing.ensures.value
+    positions_made c.args.command c.args.given n.0 n.1 c.limits-in-Position-Nothing.result c.printed-in-Position-Nothing.result c.in-Position-Nothing.is-0 c.in-Position-Nothing.is-1 c.limits-in-Position-Nothing.ensures c.printed-in-Position-Nothing.ensures
 
 pub returns-in-Check-Nothing : goal.returns-in-Check-Nothing
 returns-in-Check-Nothing c =
@@ -25,7 +25,7 @@ returns-in-Gen-Games c =
 pub returns-in-Mates-Sided : goal.returns-in-Mates-Sided
 returns-in-Mates-Sided c =
     let n = whole c.args.command c.args.given in
-    mates_made c.args.command c.args.given n.0 n.1 c.in-Mates-Sided.side c.chosen-in-Mates-Sided.result c.chosen-in-Mates-Sided-2.result c.in-Mates-Sided.is-0 c.in-Mates-Sided.is-1 c.chosen-in-Mates-Sided.ensures.value c.chosen-in-Mates-Sided-2.ensures.value
+    mates_made c.args.command c.args.given n.0 n.1 c.in-Mates-Sided.side c.chosen-in-Mates-Sided.result c.chosen-in-Mates-Sided-2.result c.printed-in-Mates-Sided.result c.in-Mates-Sided.is-0 c.in-Mates-Sided.is-1 c.chosen-in-Mates-Sided.ensures.value c.chosen-in-Mates-Sided-2.ensures.value c.printed-in-Mates-Sided.ensures
 
 pub returns-in_default : goal.returns-in_default
 returns-in_default c =

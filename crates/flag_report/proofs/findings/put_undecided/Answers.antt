@@ -1,5 +1,6 @@
 use Rattle.std.proofs.Common.{◌++◌, List, ℕ, codes, ap, ◌∙◌, append_assoc}
-use Rattle.flag_report.specs.Findings.{undecided_text, count_text}
+use Rattle.report_words.specs.Counts.{count_text}
+use Rattle.flag_report.specs.Findings.{undecided_text}
 use Rattle.flag_report.proofs.findings.put_undecided.Goals as goal
 
 pub returns : goal.returns

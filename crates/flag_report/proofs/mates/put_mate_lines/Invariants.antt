@@ -4,4 +4,4 @@ use Rattle.flag_report.proofs.mates.put_mate_lines.Given as goal
 
 -- what is written, and what is left to write, are the texts of all lines
 abbrev pub invariant-loop-moves : goal.invariant-loop-moves
-invariant-loop-moves l = l.text ++ mate_lines_text (drop l.moves-index l.lines) ≡ l.initial.text ++ mate_lines_text l.lines
+invariant-loop-moves l = l.text ++ mate_lines_text l.notation l.position (drop l.moves-index l.lines) ≡ l.initial.text ++ mate_lines_text l.notation l.position l.lines

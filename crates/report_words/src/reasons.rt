@@ -1,9 +1,9 @@
 //! Why a line is no position, or a game cannot be read, in words.
 
 ghost use Rattle.std.specs.Prelude.{◌≡◌, ◌++◌, OnOk, codes, decimal};
-ghost use Rattle.flag_report.specs.Reasons.{fen_fault_text, game_fault_text, word_fault_text, reason_text};
+ghost use Rattle.report_words.specs.Reasons.{fen_fault_text, game_fault_text, word_fault_text, reason_text};
 
-use crate::findings::put_count;
+use crate::counts::put_count;
 use cha_fen::FenFault;
 use cha_list::{NoMemory, Text};
 use cha_outcome::Unreadable;

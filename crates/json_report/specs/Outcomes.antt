@@ -1,0 +1,94 @@
+-- The value that a line on an outcome is (this project).
+use Rattle.std.specs.Prelude.{ℕ, ◌-◌, Bool, List, [], ◌∷◌, ◌++◌, Option, Some, None, codes}
+use Rattle.cha_board.specs.declared.men.Color.TheVariants.{White, Black}
+use Rattle.cha_board.specs.Board.{Board}
+use Rattle.cha_fen.specs.Written.{fen_text}
+use Rattle.cha_moves.specs.Step.{Move}
+use Rattle.cha_outcome.specs.declared.items.PlayedGame.{PlayedGame}
+use Rattle.cha_outcome.specs.declared.outcomes.Outcome.{Outcome}
+use Rattle.cha_outcome.specs.declared.outcomes.Outcome.TheVariants.{JudgedPosition, JudgedGame, ListedMates, RefusedLine, UnreadableGame}
+use Rattle.cha_outcome.specs.declared.rulings.Cause.{Cause}
+use Rattle.cha_outcome.specs.declared.rulings.Cause.TheVariants.{Mate511, Stalemate521, Dead522, Flag69, Recorded, RecordedUndecided}
+use Rattle.cha_outcome.specs.declared.rulings.Judgment.{Judgment}
+use Rattle.cha_outcome.specs.declared.status.PositionStatus.{PositionStatus}
+use Rattle.cha_outcome.specs.Rulings.{is_changed}
+use Rattle.cha_verdict.specs.declared.decisions.Decision.{Decision}
+use Rattle.cha_verdict.specs.declared.scans.Edge.{Edge}
+use Rattle.cha_verdict.specs.declared.scans.Edge.TheVariants.{Start, Live, Unclear}
+use Rattle.cha_verdict.specs.declared.scans.Scan.{Scan}
+use Rattle.helpmate_list.specs.declared.answers.Shortest.{Shortest}
+use Rattle.helpmate_list.specs.declared.answers.Shortest.TheVariants.{NoneWithin, Found}
+use Rattle.pgn_games.specs.declared.played.Span.{Span}
+use Rattle.report_words.specs.Reasons.{fen_fault_text, reason_text}
+use Rattle.report_words.specs.Words.{mark_text, status_text}
+use Rattle.json.specs.Json.{Json, null, boolean, string, array, object, Items, no_items, item, Members, no_members, member}
+use Rattle.json_text.specs.Texts.{json_text}
+use Rattle.json_report.specs.declared.extras.Extras.{Extras}
+use Rattle.json_report.specs.Lines.{count, line_members}
+use Rattle.json_report.specs.Verdicts.{verdict_json}
+
+-- the earliest ply that is shown dead, and the ply before it where nothing was shown about that one
+abbrev pub edge_members : Edge → ℕ → Members
+edge_members Start ply = no_members
+edge_members Live ply = no_members
+edge_members Unclear ply = member (codes "undecided") (count (ply - 1)) no_members
+
+unfoldable pub scan_json : Option Scan → Json
+scan_json None = null
+scan_json (Some scan) = object (member (codes "ply") (count scan.ply) (edge_members scan.edge scan.ply))
+
+-- the article of the Laws of Chess by which a game has its result
+unfoldable pub article_json : Cause → Json
+article_json Mate511 = string (codes "5.1.1")
+article_json Stalemate521 = string (codes "5.2.1")
+article_json Dead522 = string (codes "5.2.2")
+article_json Flag69 = string (codes "6.9")
+article_json Recorded = null
+article_json RecordedUndecided = null
+
+-- the members that say where a game stands in its text, before others
+abbrev pub span_members : Span → Members → Members
+span_members span more = member (codes "bytes") (array (item (count span.start) (item (count span.end) no_items))) (member (codes "line") (count span.line) more)
+
+-- the members that say what is found about a position, before others
+abbrev pub finding_members : Extras → Board → Decision → PositionStatus → Members → Members
+finding_members extras q d status more =
+    member (codes "fen") (string (fen_text q)) (member (codes "white") (verdict_json extras q White d.white)
+    (member (codes "black") (verdict_json extras q Black d.black) (member (codes "status") (string (status_text status)) more)))
+
+-- the members that say which result a game has
+abbrev pub result_members : PlayedGame → Option Scan → Judgment → Members
+result_members game scan judgment =
+    member (codes "dead_from") (scan_json scan) (member (codes "recorded") (string (mark_text game.recorded)) (member (codes "result") (string (mark_text judgment.mark))
+    (member (codes "changed") (boolean (is_changed game.recorded judgment.mark)) (member (codes "article") (article_json judgment.cause) (member (codes "flagged") (boolean game.forfeit) no_members)))))
+
+-- a line of moves, and lines of moves
+abbrev pub line_json : Board → List Move → Json
+line_json q ms = object (line_members q ms no_members)
+
+abbrev pub line_items : Board → List (List Move) → Items
+line_items q [] = no_items
+line_items q (ms ∷ lines) = item (line_json q ms) (line_items q lines)
+
+-- the shortest mates in a position within so many plies
+unfoldable pub mates_members : Board → ℕ → Shortest → Members
+mates_members q depth NoneWithin = member (codes "plies") null (member (codes "depth") (count depth) no_members)
+mates_members q depth (Found plies lines more) =
+    member (codes "plies") (count plies) (member (codes "lines") (array (line_items q lines)) (member (codes "more") (boolean more) no_members))
+
+-- an outcome under a number
+unfoldable pub outcome_json : Extras → ℕ → Outcome → Json
+outcome_json extras number (JudgedPosition line q d status) =
+    object (member (codes "position") (count number) (member (codes "line") (count line) (finding_members extras q d status no_members)))
+outcome_json extras number (JudgedGame game d scan status judgment) =
+    object (member (codes "game") (count number) (span_members game.span (finding_members extras game.last d status (result_members game scan judgment))))
+outcome_json extras number (ListedMates line q depth found) =
+    object (member (codes "position") (count number) (member (codes "line") (count line) (member (codes "fen") (string (fen_text q)) (mates_members q depth found))))
+outcome_json extras number (RefusedLine line fault) =
+    object (member (codes "position") (count number) (member (codes "line") (count line) (member (codes "refused") (string (fen_fault_text fault)) no_members)))
+outcome_json extras number (UnreadableGame span why) =
+    object (member (codes "game") (count number) (span_members span (member (codes "unreadable") (string (reason_text why)) no_members)))
+
+-- the line on an outcome
+abbrev pub outcome_line : Extras → ℕ → Outcome → List ℕ
+outcome_line extras number o = json_text (outcome_json extras number o) ++ 10 ∷ []

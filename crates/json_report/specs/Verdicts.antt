@@ -1,0 +1,55 @@
+-- The verdict on a side as a value (this project).
+use Rattle.std.specs.Prelude.{ℕ, Bool, if◌then◌else◌, List, [], ◌∷◌, length, codes}
+use Rattle.cha_board.specs.declared.men.Color.{Color}
+use Rattle.cha_board.specs.Board.{Board}
+use Rattle.cha_cert.specs.declared.nodes.Node.{Node}
+use Rattle.cha_cert.specs.declared.nodes.Part.{Part}
+use Rattle.cha_cert.specs.declared.nodes.Part.TheVariants.{Inner, Leaf, Small, Lone}
+use Rattle.cha_cert.specs.Shared.{shared_of}
+use Rattle.cert_text.specs.SharedSpelled.{shared_text}
+use Rattle.cha_moves.specs.Step.{Move}
+use Rattle.cha_verdict.specs.declared.verdicts.Verdict.{Verdict}
+use Rattle.cha_verdict.specs.declared.verdicts.Verdict.TheVariants.{Winnable, Unwinnable, Undecided, Skipped}
+use Rattle.json.specs.Json.{Json, number, string, array, object, Members, no_members, member}
+use Rattle.json_report.specs.declared.extras.Extras.{Extras}
+use Rattle.json_report.specs.declared.grounds.Ground.{Ground}
+use Rattle.json_report.specs.declared.grounds.Ground.TheVariants.{Sets, Material, LonePieces, Graph}
+use Rattle.json_report.specs.Lines.{count, texts, fens_of, line_members}
+
+-- what a certificate of one node rests on, by its part
+abbrev pub ground_by : Part → Ground
+ground_by Inner = Graph
+ground_by (Leaf sets) = Sets
+ground_by Small = Material
+ground_by Lone = LonePieces
+
+-- what a certificate rests on: of one node that is a leaf, on that leaf; of all else on the graph of its nodes
+abbrev pub ground_of : List Node → Ground
+ground_of [] = Graph
+ground_of (node ∷ []) = ground_by node.part
+ground_of (node ∷ next ∷ nodes) = Graph
+
+-- its name, before further members, and of a graph also how many nodes it has
+unfoldable pub ground_members : Ground → ℕ → Members → Members
+ground_members Sets nodes more = member (codes "by") (string (codes "sets")) more
+ground_members Material nodes more = member (codes "by") (string (codes "material")) more
+ground_members LonePieces nodes more = member (codes "by") (string (codes "lone pieces")) more
+ground_members Graph nodes more = member (codes "by") (string (codes "graph")) (member (codes "nodes") (count nodes) more)
+
+-- the certificate of a side that cannot mate, its equal sets written once, where certificates are printed
+abbrev pub cert_members : Bool → Color → List Node → Members
+cert_members certs winner cert = if certs then member (codes "certificate") (string (shared_text winner (shared_of cert))) no_members else no_members
+
+-- the position after each move of a line, where these are printed
+abbrev pub fen_members : Bool → Board → List Move → Members
+fen_members fens q ms = if fens then member (codes "fens") (array (texts (fens_of q ms))) no_members else no_members
+
+-- the verdict on a side in a position
+unfoldable pub verdict_json : Extras → Board → Color → Verdict → Json
+verdict_json extras q winner (Winnable moves) =
+    object (member (codes "verdict") (string (codes "winnable")) (member (codes "plies") (count (length moves)) (line_members q moves (fen_members extras.fens q moves))))
+verdict_json extras q winner (Unwinnable cert) =
+    object (member (codes "verdict") (string (codes "unwinnable")) (ground_members (ground_of cert) (length cert) (cert_members extras.certs winner cert)))
+verdict_json extras q winner (Undecided units depth) =
+    object (member (codes "verdict") (string (codes "undecided")) (member (codes "positions") (count units) (member (codes "depth") (count depth) no_members)))
+verdict_json extras q winner Skipped = object (member (codes "verdict") (string (codes "skipped")) no_members)

@@ -1,0 +1,10 @@
+//! What lines may have beside what each has.
+
+/// What the verdicts in a report have beside what each has.
+#[derive(Clone, Copy, Debug, PartialEq, Eq)]
+pub struct Extras {
+    /// Whether the certificate of a side that cannot mate is printed.
+    pub certs: bool,
+    /// Whether the position after each move of a line that mates is printed.
+    pub fens: bool,
+}

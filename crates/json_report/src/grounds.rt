@@ -1,0 +1,68 @@
+//! What a certificate rests on.
+
+ghost use Rattle.std.specs.Prelude.{◌≡◌, OnOk, length};
+ghost use Rattle.json.specs.Json.{Members};
+ghost use Rattle.json_report.specs.Spelled.{closed_by};
+ghost use Rattle.json_report.specs.Verdicts.{ground_by, ground_of as ground_from, ground_members};
+
+use crate::members::{put_count, put_text};
+use cha_cert::{Node, Part};
+use cha_list::NoMemory;
+use json_text::JsonText;
+use std::alloc::Global;
+
+/// What a certificate rests on.
+#[derive(Clone, Copy, Debug, PartialEq, Eq)]
+pub enum Ground {
+    /// Closed mobility sets of the position itself.
+    Sets,
+    /// Small material.
+    Material,
+    /// Lone minor men.
+    LonePieces,
+    /// Several positions that lead to each other.
+    Graph,
+}
+
+/// What a certificate of one node rests on.
+fn ground_alone(part: &Part) -> Ground
+    ensures { result ≡ ground_by part.now }
+{
+    match part {
+        Part::Inner => Ground::Graph,
+        Part::Leaf(_) => Ground::Sets,
+        Part::Small => Ground::Material,
+        Part::Lone => Ground::LonePieces,
+    }
+}
+
+/// What a certificate rests on: of one node that is a leaf, on that leaf; of all else on the graph of its nodes.
+pub fn ground_of(nodes: &[Node]) -> Ground
+    ensures { result ≡ ground_from nodes.now }
+{
+    match nodes {
+        [node] => ground_alone(&node.part),
+        _ => Ground::Graph,
+    }
+}
+
+/// Writes the members with the name of what a certificate rests on, and of a graph how many nodes it has.
+#[tactic(auto, unfolding(crate::specs::Verdicts::ground_members))]
+pub fn put_ground(
+    alloc: Global,
+    ground: Ground,
+    nodes: usize,
+    json: &mut JsonText,
+) -> Result<(), NoMemory>
+    ensures { OnOk result ((more : Members) → closed_by json.old (ground_members ground nodes more) ≡ closed_by json.new more) }
+{
+    match ground {
+        Ground::Sets => put_text(b"by", b"sets", json),
+        Ground::Material => put_text(b"by", b"material", json),
+        Ground::LonePieces => put_text(b"by", b"lone pieces", json),
+        Ground::Graph => {
+            put_text(b"by", b"graph", json)?;
+            put_count(alloc, b"nodes", nodes as u64, json)
+        }
+    }
+}

@@ -1,0 +1,193 @@
+//! The line on an outcome.
+
+ghost use Rattle.std.specs.Prelude.{◌≡◌, ◌++◌, OnOk, codes};
+ghost use Rattle.cha_fen.specs.Written.{fen_text};
+ghost use Rattle.cha_outcome.specs.Outcomes.{ArePrintable, IsPrintableOutcome};
+ghost use Rattle.json.specs.Json.{Members, no_members, member, string};
+ghost use Rattle.report_words.specs.Reasons.{fen_fault_text, reason_text};
+ghost use Rattle.report_words.specs.Words.{status_text};
+ghost use Rattle.json_report.specs.Lines.{count};
+ghost use Rattle.json_report.specs.Outcomes.{span_members, finding_members, outcome_json, outcome_line};
+ghost use Rattle.json_report.specs.Spelled.{IsMember, IsValue, closed_by};
+ghost use Rattle.report_words.specs.LegalLines.{AreOfLegalMoves, HasLegalLines};
+
+use crate::extras::Extras;
+use crate::mates::put_mates;
+use crate::members::{put_count, put_text};
+use crate::results::put_results;
+use crate::verdicts::put_verdict;
+use cha_board::{Color, Position};
+use cha_fen::{FenFault, write};
+use cha_list::{NoMemory, Text};
+use cha_outcome::{Outcome, PositionStatus, Unreadable};
+use cha_verdict::Decision;
+use json_text::JsonText;
+use pgn_games::Span;
+use report_words::{put_fen_fault, put_reason, put_status};
+use std::alloc::Global;
+
+/// Writes the member with the FEN of a position.
+fn put_fen(alloc: Global, position: &Position, json: &mut JsonText) -> Result<(), NoMemory>
+    ensures { OnOk result (IsMember json.old (codes "fen") (string (fen_text position.now)) json.new) }
+{
+    let fen = write(alloc, position)?;
+    put_text(b"fen", fen.items(), json)
+}
+
+/// Writes the member with the status of a position.
+fn put_state(alloc: Global, status: PositionStatus, json: &mut JsonText) -> Result<(), NoMemory>
+    ensures { OnOk result (IsMember json.old (codes "status") (string (status_text status)) json.new) }
+{
+    let mut text = Text::new(alloc);
+    put_status(status, &mut text)?;
+    put_text(b"status", text.items(), json)
+}
+
+/// Writes the members that say what is found about a position.
+fn put_findings(
+    alloc: Global,
+    extras: Extras,
+    position: &Position,
+    decision: &Decision,
+    status: PositionStatus,
+    json: &mut JsonText,
+) -> Result<(), NoMemory>
+    requires printable { ArePrintable decision.now }
+    requires legal { AreOfLegalMoves position.now decision.now }
+    ensures { OnOk result ((more : Members) → closed_by json.old (finding_members extras position.now decision.now status more) ≡ closed_by json.new more) }
+{
+    put_fen(alloc, position, json)?;
+    put_verdict(alloc, extras, b"white", position, Color::White, &decision.white, json)?;
+    put_verdict(alloc, extras, b"black", position, Color::Black, &decision.black, json)?;
+    put_state(alloc, status, json)
+}
+
+/// Writes the members that say where a game stands in its text.
+fn put_span(alloc: Global, span: Span, json: &mut JsonText) -> Result<(), NoMemory>
+    ensures { OnOk result ((more : Members) → closed_by json.old (span_members span more) ≡ closed_by json.new more) }
+{
+    json.key(b"bytes")?;
+    json.begin_array()?;
+    json.number(alloc, span.start)?;
+    json.number(alloc, span.end)?;
+    json.end_array()?;
+    put_count(alloc, b"line", span.line, json)
+}
+
+/// Writes the member that says why a line is no position.
+fn put_refused(alloc: Global, fault: FenFault, json: &mut JsonText) -> Result<(), NoMemory>
+    ensures { OnOk result (IsMember json.old (codes "refused") (string (fen_fault_text fault)) json.new) }
+{
+    let mut text = Text::new(alloc);
+    put_fen_fault(fault, &mut text)?;
+    put_text(b"refused", text.items(), json)
+}
+
+/// Writes the member that says why a game cannot be read.
+fn put_unreadable(alloc: Global, why: &Unreadable, json: &mut JsonText) -> Result<(), NoMemory>
+    ensures { OnOk result (IsMember json.old (codes "unreadable") (string (reason_text why.now)) json.new) }
+{
+    let mut text = Text::new(alloc);
+    put_reason(alloc, why, &mut text)?;
+    put_text(b"unreadable", text.items(), json)
+}
+
+/// Writes the members that say which line of the input a position is, by its number in the report.
+fn put_place(alloc: Global, number: u64, line: u64, json: &mut JsonText) -> Result<(), NoMemory>
+    ensures { OnOk result ((more : Members) → closed_by json.old (member (codes "position") (count number) (member (codes "line") (count line) more)) ≡ closed_by json.new more) }
+{
+    put_count(alloc, b"position", number, json)?;
+    put_count(alloc, b"line", line, json)
+}
+
+/// Writes the members that say which game it is, by its number in the report.
+fn put_game(alloc: Global, number: u64, span: Span, json: &mut JsonText) -> Result<(), NoMemory>
+    ensures { OnOk result ((more : Members) → closed_by json.old (member (codes "game") (count number) (span_members span more)) ≡ closed_by json.new more) }
+{
+    put_count(alloc, b"game", number, json)?;
+    put_span(alloc, span, json)
+}
+
+/// Writes the object on an outcome under its number.
+#[tactic(auto, unfolding(crate::specs::Outcomes::outcome_json))]
+fn put_outcome(
+    alloc: Global,
+    extras: Extras,
+    number: u64,
+    outcome: &Outcome,
+    json: &mut JsonText,
+) -> Result<(), NoMemory>
+    requires printable { IsPrintableOutcome outcome.now }
+    requires legal { HasLegalLines outcome.now }
+    ensures { OnOk result (IsValue json.old (outcome_json extras number outcome.now) json.new) }
+{
+    json.begin_object()?;
+    match outcome {
+        Outcome::JudgedPosition {
+            line,
+            position,
+            decision,
+            status,
+        } => {
+            put_place(alloc, number, *line, json)?;
+            put_findings(alloc, extras, position, decision, *status, json)?;
+        }
+        Outcome::JudgedGame {
+            game,
+            decision,
+            scan,
+            status,
+            judgment,
+        } => {
+            put_game(alloc, number, game.span, json)?;
+            put_findings(alloc, extras, &game.last, decision, *status, json)?;
+            put_results(alloc, game, scan, *judgment, json)?;
+        }
+        Outcome::ListedMates {
+            line,
+            position,
+            depth,
+            shortest,
+        } => {
+            put_place(alloc, number, *line, json)?;
+            put_fen(alloc, position, json)?;
+            put_mates(alloc, position, *depth, shortest, json)?;
+        }
+        Outcome::RefusedLine { line, fault } => {
+            put_place(alloc, number, *line, json)?;
+            put_refused(alloc, *fault, json)?;
+        }
+        Outcome::UnreadableGame { span, why } => {
+            put_game(alloc, number, *span, json)?;
+            put_unreadable(alloc, why, json)?;
+        }
+    }
+    json.end_object()
+}
+
+/// Appends the line on an outcome under its number: one object of JSON (RFC 8259) without blanks, and a line feed.
+///
+/// ```text
+/// {"position":2,"line":4,"refused":"kings"}
+/// {"game":2,"bytes":[98,140],"line":7,"unreadable":"move 3 Nf6: no such move"}
+/// ```
+///
+/// The verdict on a side is an object with the key `verdict`, and behind it what was found: `winnable` with `plies`, `moves`, `san`
+/// and, by `extras`, `fens`; `unwinnable` with `by` (`sets`, `material`, `lone pieces` or `graph`), for a graph `nodes` and, by
+/// `extras`, `certificate`; `undecided` with `positions` and `depth`; or `skipped`. The only error is want of memory.
+pub fn put_outcome_line(
+    alloc: Global,
+    extras: Extras,
+    number: u64,
+    outcome: &Outcome,
+    text: &mut Text,
+) -> Result<(), NoMemory>
+    requires printable { IsPrintableOutcome outcome.now }
+    requires legal { HasLegalLines outcome.now }
+    ensures { OnOk result (text.new ≡ text.old ++ outcome_line extras number outcome.now) }
+{
+    let mut json = JsonText::new(alloc);
+    put_outcome(alloc, extras, number, outcome, &mut json)?;
+    text.append(json.text.items())?;
+    text.append(b"\n")
+}

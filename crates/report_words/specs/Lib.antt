@@ -1,0 +1,4 @@
+pub mod Counts
+pub mod Reasons
+pub mod Words
+pub mod LegalLines

@@ -4,6 +4,7 @@ use Rattle.std.proofs.lemmas.List.{take-map}
 use Rattle.text_lines.specs.declared.lines.TextLine.{TextLine}
 use Rattle.text_lines.specs.Lines.{lines, onto_first, begins_with_line_feed, counts, line_if, numbered, text_lines}
 use Rattle.cha_outcome.specs.declared.items.Item.{Item}
+use Rattle.cha_outcome.specs.declared.questions.FlaggedDraws.{FlaggedDraws}
 use Rattle.cha_outcome.specs.declared.questions.Question.{Question}
 use Rattle.cha_outcome.specs.declared.questions.Question.TheVariants.{Verdicts, Mates}
 use Rattle.cha_outcome.specs.Items.{line_item}
@@ -13,11 +14,11 @@ use Rattle.cha_outside.specs.declared.gathering.ReadEnd.{ReadEnd}
 use Rattle.adjudicate.specs.Readers.{IsAskedOf}
 
 -- games are asked for verdicts alone
-asked_of_games : (item : Item) → ((limits : Bounds) → CanBeAsked (Verdicts limits) item) → (question : Question) → IsAskedOf true question → CanBeAsked question item
-asked_of_games item h (Verdicts limits) asked = h limits
+asked_of_games : (item : Item) → ((limits : Bounds) (draws : FlaggedDraws) → CanBeAsked (Verdicts limits draws) item) → (question : Question) → IsAskedOf true question → CanBeAsked question item
+asked_of_games item h (Verdicts limits draws) asked = h limits draws
 asked_of_games item h (Mates side depth) asked = absurd asked
 
-pub games_asked : (r : Result (Option Item) ReadEnd) → IfOk r (λ found. IfSome found (λ item. (limits : Bounds) → CanBeAsked (Verdicts limits) item))
+pub games_asked : (r : Result (Option Item) ReadEnd) → IfOk r (λ found. IfSome found (λ item. (limits : Bounds) (draws : FlaggedDraws) → CanBeAsked (Verdicts limits draws) item))
     → IfOk r (λ found. IfSome found (λ item. (question : Question) → IsAskedOf true question → CanBeAsked question item))
 games_asked (Ok (Some item)) h = asked_of_games item h
 games_asked (Ok None) h = tt

@@ -6,6 +6,8 @@ use Rattle.pgn_games.specs.Settling.{settled_games}
 use Rattle.random_games.specs.Made.{made}
 use Rattle.cha_outcome.specs.declared.items.Item.{Item}
 use Rattle.cha_outcome.specs.declared.outcomes.Outcome.{Outcome}
+use Rattle.cha_outcome.specs.declared.questions.FlaggedDraws.{FlaggedDraws}
+use Rattle.cha_outcome.specs.declared.questions.FlaggedDraws.TheVariants.{Stand, Examined}
 use Rattle.cha_outcome.specs.declared.questions.Question.{Question}
 use Rattle.cha_outcome.specs.declared.questions.Question.TheVariants as questions
 use Rattle.cha_outcome.specs.Items.{line_item, game_item}
@@ -56,12 +58,16 @@ style_of printing =
     if printing.json then Json (record { certs = printing.certs; fens = printing.fens })
     else Blocks (record { certs = printing.certs; notation = if printing.san then San else Coordinates })
 
+-- what becomes of drawn games whose flag fell
+abbrev pub draws_by : Bool → FlaggedDraws
+draws_by flagged = if flagged then Examined else Stand
+
 -- the job that an order is; the check of a certificate is none
 abbrev pub job : Order → Option Job
-job (AdjudicateGames limits printing) = Some (on_games (questions.Verdicts limits) (style_of printing))
-job (JudgePositions limits printing) = Some (on_lines (questions.Verdicts limits) (style_of printing) Positions)
+job (AdjudicateGames limits flagged printing) = Some (on_games (questions.Verdicts limits (draws_by flagged)) (style_of printing))
+job (JudgePositions limits printing) = Some (on_lines (questions.Verdicts limits Stand) (style_of printing) Positions)
 job CheckCert = None
-job (GenGames limits seed count) = Some (on_made (questions.Verdicts limits) seed count)
+job (GenGames limits seed count) = Some (on_made (questions.Verdicts limits Stand) seed count)
 job (ListMates side workers depth printing) = Some (on_lines (questions.Mates side depth) (style_of printing) Mates)
 
 -- what is printed at the end of a job on an input with these outcomes

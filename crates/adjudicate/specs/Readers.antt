@@ -53,7 +53,7 @@ closed_by false = λ _. true
 
 -- a question is asked about such items
 abbrev pub IsAskedOf : Bool → Question → Type 0
-IsAskedOf true (Verdicts limits) = ⊤
+IsAskedOf true (Verdicts limits draws) = ⊤
 IsAskedOf true (Mates side depth) = ⊥
 IsAskedOf false question = ⊤
 

@@ -6,7 +6,7 @@ ghost use Rattle.cha_words.specs.declared.orders.Order.TheVariants.{GenGames, Li
 ghost use Rattle.cha_board.specs.declared.men.Color.{Color as Side};
 ghost use Rattle.cha_words.specs.Language.{limits_in};
 ghost use Rattle.cha_words.specs.declared.orders.Printing.{Printing as Printed};
-ghost use Rattle.adjudicate.specs.Jobs.{style_of as style_by};
+ghost use Rattle.adjudicate.specs.Jobs.{draws_by, style_of as style_by};
 ghost use Rattle.adjudicate.specs.Runs.{IsRun, outside};
 
 use crate::checking::check_cert;
@@ -15,6 +15,7 @@ use crate::jobs::{report_games, report_lines, report_made};
 use crate::reports::Form;
 use cert_par::Checker;
 use cha_judge::{MatesJudge, VerdictsJudge};
+use cha_outcome::FlaggedDraws;
 use cha_outside::{Sink, Source};
 use cha_words::{Order, Printing};
 use flag_report::{BlockForm, Notation, Style, Subject};
@@ -22,6 +23,17 @@ use helpmate_list::Spread;
 use json_report::Extras;
 use root_workers::Crew;
 use std::alloc::Global;
+
+/// What becomes of drawn games whose flag fell.
+fn draws_of(flagged: bool) -> FlaggedDraws
+    ensures { result ≡ draws_by flagged }
+{
+    if flagged {
+        FlaggedDraws::Examined
+    } else {
+        FlaggedDraws::Stand
+    }
+}
 
 /// The style in which a report is printed.
 fn style_of(printing: Printing) -> Style
@@ -58,9 +70,14 @@ pub fn carry_out<C: Crew + Drop, S: Source, K: Sink>(
     ensures { IsRun order.now result (outside (S.left source.old) (S.faults source.old) (K.written sink.old) (K.faults sink.old)) (outside (S.left source.new) (S.faults source.new) (K.written sink.new) (K.faults sink.new)) }
 {
     match order {
-        Order::AdjudicateGames { limits, printing } => {
+        Order::AdjudicateGames {
+            limits,
+            flagged_draws,
+            printing,
+        } => {
             let mut judge = VerdictsJudge {
                 limits: *limits,
+                draws: draws_of(*flagged_draws),
                 crew,
             };
             report_games(alloc, style_of(*printing), &mut judge, source, sink)
@@ -68,6 +85,7 @@ pub fn carry_out<C: Crew + Drop, S: Source, K: Sink>(
         Order::JudgePositions { limits, printing } => {
             let mut judge = VerdictsJudge {
                 limits: *limits,
+                draws: FlaggedDraws::Stand,
                 crew,
             };
             let form = Form {
@@ -83,6 +101,7 @@ pub fn carry_out<C: Crew + Drop, S: Source, K: Sink>(
         } => {
             let mut judge = VerdictsJudge {
                 limits: *limits,
+                draws: FlaggedDraws::Stand,
                 crew,
             };
             report_made(alloc, *seed, *count, &mut judge, sink)

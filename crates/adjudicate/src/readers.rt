@@ -5,6 +5,7 @@ ghost use Rattle.std.specs.Io.KnownBytes.{IsAtEnd};
 ghost use Rattle.cha_outside.specs.Faults.{Rose};
 ghost use Rattle.cha_outside.specs.Gathering.{Gathers};
 ghost use Rattle.cha_limits.specs.Bounds.{Bounds};
+ghost use Rattle.cha_outcome.specs.declared.questions.FlaggedDraws.{FlaggedDraws as DrawRule};
 ghost use Rattle.cha_outcome.specs.declared.questions.Question.{Question};
 ghost use Rattle.cha_outcome.specs.declared.questions.Question.TheVariants.{Verdicts};
 ghost use Rattle.pgn_games.specs.Settling.{settled_games};
@@ -78,7 +79,7 @@ fn next_game<S: Source>(
     requires { reader.old.failed ≡ false }
     ensures bytes { Gathers (S.left source.old) (S.left source.new) reader.old.taken reader.new.taken }
     ensures item { IfOk result (λ found. IfSome found (λ item. slice_get (game_items reader.new.taken) reader.old.given ≡ Some item)) }
-    ensures asked { IfOk result (λ found. IfSome found (λ item. (limits : Bounds) → CanBeAsked (Verdicts limits) item)) }
+    ensures asked { IfOk result (λ found. IfSome found (λ item. (limits : Bounds) (draws : DrawRule) → CanBeAsked (Verdicts limits draws) item)) }
     ensures given { IfOk result (λ found. IfSome found (λ item. (reader.new.given ≡ reader.old.given + 1) × (reader.old.given < 2 ^ 62))) }
     ensures none { result ≡ Ok None → (reader.new.ended ≡ true) × (length (game_items reader.new.taken) ≤ reader.old.given) }
     ensures first { take reader.old.given (game_items reader.new.taken) ≡ take reader.old.given (game_items reader.old.taken) }

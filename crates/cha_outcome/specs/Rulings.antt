@@ -76,6 +76,23 @@ abbrev pub claim_of : FlaggedDraws → PlayedGame → Claim
 claim_of draws game =
     record { recorded = game.recorded; forfeit = game.forfeit; claimant = claimant_by draws game.flag_fell game.recorded game.last.side }
 
+-- Whose flag fell, as far as the result of a game rests on it or could have: of a game that was lost on time the loser's, and of a drawn
+-- one that was examined the flag of the player to move.
+abbrev pub flag_of_draw : Cause → Color → Option Color
+flag_of_draw Flag69 mover = Some mover
+flag_of_draw FlagOfMover69 mover = Some mover
+flag_of_draw RecordedUndecided mover = Some mover
+flag_of_draw _ mover = None
+
+abbrev pub flag_by : ResultMark → Bool → Cause → Color → Option Color
+flag_by WhiteWins forfeit cause mover = if forfeit then Some Black else None
+flag_by BlackWins forfeit cause mover = if forfeit then Some White else None
+flag_by Draw forfeit cause mover = flag_of_draw cause mover
+flag_by Unknown forfeit cause mover = None
+
+unfoldable pub fallen_flag : PlayedGame → Cause → Option Color
+fallen_flag game cause = flag_by game.recorded game.forfeit cause game.last.side
+
 -- the side that is examined first: the recorded winner, or the one who wins by the flag, and White where there is none (this project)
 abbrev pub first_from : ResultMark → Option Color → Color
 first_from WhiteWins claimant = White

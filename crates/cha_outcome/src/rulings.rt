@@ -4,7 +4,7 @@ ghost use Rattle.std.specs.Prelude.{◌≡◌};
 ghost use Rattle.cha_moves.specs.Standings.{standing_of};
 ghost use Rattle.pgn_games.specs.Wins.{win_of};
 ghost use Rattle.cha_outcome.specs.declared.questions.FlaggedDraws.{FlaggedDraws as DrawRule};
-ghost use Rattle.cha_outcome.specs.Rulings.{winner_ruling_of, flag_ruling_of, drawn_ruling_of, running_ruling_of, ruling_of, claimant_by, claim_of as claim_by, first_by, is_changed, was_dead as was_dead_before, judgment_of as judgment_from};
+ghost use Rattle.cha_outcome.specs.Rulings.{winner_ruling_of, flag_ruling_of, drawn_ruling_of, running_ruling_of, ruling_of, claimant_by, claim_of as claim_by, fallen_flag as flag_of, first_by, is_changed, was_dead as was_dead_before, judgment_of as judgment_from};
 
 use crate::items::PlayedGame;
 use crate::questions::FlaggedDraws;
@@ -212,6 +212,22 @@ pub fn claim_of(draws: FlaggedDraws, game: &PlayedGame) -> Claim
         recorded: game.recorded,
         forfeit: game.forfeit,
         claimant: claimant(draws, game.flag_fell, game.recorded, game.last.side()),
+    }
+}
+
+/// Whose flag fell, as far as the result of a game rests on it or could have: of a game that was lost on time the loser's, and of a drawn
+/// one that was examined the flag of the player to move.
+#[tactic(auto, unfolding(crate::specs::Rulings::fallen_flag))]
+pub fn fallen_flag(game: &PlayedGame, cause: Cause) -> Option<Color>
+    ensures { result ≡ flag_of game.now cause }
+{
+    match (game.recorded, cause) {
+        (ResultMark::WhiteWins, _) if game.forfeit => Some(Color::Black),
+        (ResultMark::BlackWins, _) if game.forfeit => Some(Color::White),
+        (ResultMark::Draw, Cause::Flag69 | Cause::FlagOfMover69 | Cause::RecordedUndecided) => {
+            Some(game.last.side())
+        }
+        _ => None,
     }
 }
 

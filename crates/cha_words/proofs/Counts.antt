@@ -14,7 +14,7 @@ use Rattle.cha_words.specs.Language.{Part, Numbers, next_argument, say, say_all,
 use Rattle.cha_words.specs.Reading.{IsSaid}
 use Rattle.cha_words.proofs.Digits.{number_in_range}
 use Rattle.cha_words.proofs.Choosing.{can_be_said}
-use Rattle.cha_words.proofs.Ending.{eight, of_some}
+use Rattle.cha_words.proofs.Ending.{nine, of_some}
 
 said_all : (c : Command) (words : List (List ℕ)) (o : Option Said) (t : Said) → ((s : Said) → o ≡ Some s → IsSaid c s) → say_all c o words ≡ Some t → IsSaid c t
 said_all c [] None t h e = cc
@@ -90,7 +90,7 @@ chosen_in r (value ∷ more ∷ values) n low high e = cc
 
 mates_in : (n : Numbers) (cut : List Part) (w d : ℕ) → numbers Mates cut ≡ Some n → n.workers ≡ w → n.depth ≡ d → ((1 ≤ w) × (w ≤ 16)) × ((1 ≤ d) × (d ≤ 6))
 mates_in n cut w d e hw hd =
-    let each = eight _ _ _ _ _ _ _ _ n e in
+    let each = nine _ _ _ _ _ _ _ _ _ n e in
     let workers = chosen_in (record { least = 1; most = 16; usual = 2 }) (filter_map (value_for Workers) cut) n.workers (omega arith) (omega arith) each.workers in
     let depth = chosen_in (record { least = 1; most = 6; usual = 4 }) (filter_map (value_for Depth) cut) n.depth (omega arith) (omega arith) each.depth in
     let w_in : (1 ≤ w) × (w ≤ 16) = subst (λ k. (1 ≤ k) × (k ≤ 16)) hw workers in

@@ -1,5 +1,5 @@
 -- What is ordered once all the words are read.
-use Rattle.std.proofs.Common.{◌≡◌, ℕ, ◌==◌, [], ◌∷◌, Option, Some, None, IsSome, IfSome, refl, sym, ap, ◌∙◌, arith}
+use Rattle.std.proofs.Common.{◌≡◌, ℕ, Bool, ◌==◌, [], ◌∷◌, Option, Some, None, IsSome, IfSome, refl, sym, ap, ◌∙◌, arith}
 use Rattle.cha_limits.specs.Bounds.{Bounds}
 use Rattle.cha_board.specs.declared.men.Color.{Color}
 use Rattle.cha_words.specs.declared.orders.Order.{Order}
@@ -8,13 +8,13 @@ use Rattle.cha_words.specs.declared.orders.Order.TheVariants.{AdjudicateGames, J
 use Rattle.cha_words.specs.declared.table.Command.{Command}
 use Rattle.cha_words.specs.declared.table.Command.TheVariants.{Adjudicate, Position, Check, Gen, Mates}
 use Rattle.cha_words.specs.declared.table.Setting.{Setting}
-use Rattle.cha_words.specs.declared.table.Setting.TheVariants.{Budget, Workers, Depth, Entries, Certs, Json, San, Fens}
+use Rattle.cha_words.specs.declared.table.Setting.TheVariants.{Budget, Workers, Depth, Entries, Certs, Json, San, Fens, FlaggedDraws}
 use Rattle.cha_words.specs.declared.table.Range.{Range}
 use Rattle.cha_words.specs.declared.given.Given.{Given}
 use Rattle.cha_words.specs.declared.given.Said.{Said}
 use Rattle.cha_words.specs.declared.given.Said.TheVariants.{Nothing, Games, Sided}
 use Rattle.cha_words.specs.declared.given.Progress.{Progress}
-use Rattle.cha_words.specs.Language.{Numbers, range, all_of, bounds, printing, made, made_of}
+use Rattle.cha_words.specs.Language.{Numbers, range, all_of, bounds, examines, printing, made, made_of}
 use Rattle.cha_words.specs.Language.Part.{Value}
 use Rattle.cha_words.specs.Reading.{open_in, chosen_from, numbers_from, order_from, order_with}
 use Rattle.cha_words.proofs.Digits.{no_number}
@@ -27,14 +27,14 @@ ends None None = (0, refl)
 ends (Some r) None = (r.usual, refl)
 ends r (Some n) = (n, refl)
 
-all_eight : (b w d e c j s f : Option ℕ) → ((n : ℕ) × (b ≡ Some n)) → ((n : ℕ) × (w ≡ Some n)) → ((n : ℕ) × (d ≡ Some n)) → ((n : ℕ) × (e ≡ Some n)) → ((n : ℕ) × (c ≡ Some n)) → ((n : ℕ) × (j ≡ Some n)) → ((n : ℕ) × (s ≡ Some n)) → ((n : ℕ) × (f ≡ Some n)) → (n : Numbers) × (all_of b w d e c j s f ≡ Some n)
-all_eight b w d e c j s f hb hw hd he hc hj hs hf = (record { budget = hb.0; workers = hw.0; depth = hd.0; entries = he.0; certs = hc.0; json = hj.0; san = hs.0; fens = hf.0 }, rw (hb.1, hw.1, hd.1, he.1, hc.1, hj.1, hs.1, hf.1) refl)
+all_nine : (b w d e c j s f x : Option ℕ) → ((n : ℕ) × (b ≡ Some n)) → ((n : ℕ) × (w ≡ Some n)) → ((n : ℕ) × (d ≡ Some n)) → ((n : ℕ) × (e ≡ Some n)) → ((n : ℕ) × (c ≡ Some n)) → ((n : ℕ) × (j ≡ Some n)) → ((n : ℕ) × (s ≡ Some n)) → ((n : ℕ) × (f ≡ Some n)) → ((n : ℕ) × (x ≡ Some n)) → (n : Numbers) × (all_of b w d e c j s f x ≡ Some n)
+all_nine b w d e c j s f x hb hw hd he hc hj hs hf hx = (record { budget = hb.0; workers = hw.0; depth = hd.0; entries = he.0; certs = hc.0; json = hj.0; san = hs.0; fens = hf.0; flagged_draws = hx.0 }, rw (hb.1, hw.1, hd.1, he.1, hc.1, hj.1, hs.1, hf.1, hx.1) refl)
 
 pub whole : (c : Command) (g : Given) → (n : Numbers) × (numbers_from c g [] ≡ Some n)
-whole c g = all_eight _ _ _ _ _ _ _ _ (ends (range c Budget) g.budget) (ends (range c Workers) g.workers) (ends (range c Depth) g.depth) (ends (range c Entries) g.entries) (ends (range c Certs) g.certs) (ends (range c Json) g.json) (ends (range c San) g.san) (ends (range c Fens) g.fens)
+whole c g = all_nine _ _ _ _ _ _ _ _ _ (ends (range c Budget) g.budget) (ends (range c Workers) g.workers) (ends (range c Depth) g.depth) (ends (range c Entries) g.entries) (ends (range c Certs) g.certs) (ends (range c Json) g.json) (ends (range c San) g.san) (ends (range c Fens) g.fens) (ends (range c FlaggedDraws) g.flagged_draws)
 
--- each of eight numbers
-pub record Eight (b w d e c j s f : Option ℕ) (n : Numbers) : Type 0 where
+-- each of nine numbers
+pub record Nine (b w d e c j s f x : Option ℕ) (n : Numbers) : Type 0 where
   pub budget : b ≡ Some n.budget
   pub workers : w ≡ Some n.workers
   pub depth : d ≡ Some n.depth
@@ -43,10 +43,11 @@ pub record Eight (b w d e c j s f : Option ℕ) (n : Numbers) : Type 0 where
   pub json : j ≡ Some n.json
   pub san : s ≡ Some n.san
   pub fens : f ≡ Some n.fens
+  pub flagged_draws : x ≡ Some n.flagged_draws
 
-pub eight : (b w d e c j s f : Option ℕ) (n : Numbers) → all_of b w d e c j s f ≡ Some n → Eight b w d e c j s f n
-eight (Some b) (Some w) (Some d) (Some e) (Some c) (Some j) (Some s) (Some f) n h =
-    let same : record { budget = b; workers = w; depth = d; entries = e; certs = c; json = j; san = s; fens = f } ≡ n = cc in record {
+pub nine : (b w d e c j s f x : Option ℕ) (n : Numbers) → all_of b w d e c j s f x ≡ Some n → Nine b w d e c j s f x n
+nine (Some b) (Some w) (Some d) (Some e) (Some c) (Some j) (Some s) (Some f) (Some x) n h =
+    let same : record { budget = b; workers = w; depth = d; entries = e; certs = c; json = j; san = s; fens = f; flagged_draws = x } ≡ n = cc in record {
       budget = ap (λ (m : Numbers). Some m.budget) same;
       workers = ap (λ (m : Numbers). Some m.workers) same;
       depth = ap (λ (m : Numbers). Some m.depth) same;
@@ -55,15 +56,17 @@ eight (Some b) (Some w) (Some d) (Some e) (Some c) (Some j) (Some s) (Some f) n 
       json = ap (λ (m : Numbers). Some m.json) same;
       san = ap (λ (m : Numbers). Some m.san) same;
       fens = ap (λ (m : Numbers). Some m.fens) same;
+      flagged_draws = ap (λ (m : Numbers). Some m.flagged_draws) same;
     }
-eight None w d e c j s f n h = cc
-eight (Some b) None d e c j s f n h = cc
-eight (Some b) (Some w) None e c j s f n h = cc
-eight (Some b) (Some w) (Some d) None c j s f n h = cc
-eight (Some b) (Some w) (Some d) (Some e) None j s f n h = cc
-eight (Some b) (Some w) (Some d) (Some e) (Some c) None s f n h = cc
-eight (Some b) (Some w) (Some d) (Some e) (Some c) (Some j) None f n h = cc
-eight (Some b) (Some w) (Some d) (Some e) (Some c) (Some j) (Some s) None n h = cc
+nine None w d e c j s f x n h = cc
+nine (Some b) None d e c j s f x n h = cc
+nine (Some b) (Some w) None e c j s f x n h = cc
+nine (Some b) (Some w) (Some d) None c j s f x n h = cc
+nine (Some b) (Some w) (Some d) (Some e) None j s f x n h = cc
+nine (Some b) (Some w) (Some d) (Some e) (Some c) None s f x n h = cc
+nine (Some b) (Some w) (Some d) (Some e) (Some c) (Some j) None f x n h = cc
+nine (Some b) (Some w) (Some d) (Some e) (Some c) (Some j) (Some s) None x n h = cc
+nine (Some b) (Some w) (Some d) (Some e) (Some c) (Some j) (Some s) (Some f) None n h = cc
 
 pub of_some : {A : Type 0} (x y : A) → Some x ≡ Some y → x ≡ y
 of_some x y e = cc
@@ -82,8 +85,8 @@ unmade Mates (Sided side) n ha hp hc hg hm = absurd (hm side refl refl)
 unmade c said n ha hp hc hg hm = refl
 
 module _ (c : Command) (g : Given) (n : Numbers) (is : numbers_from c g [] ≡ Some n) where
-  each : Eight (chosen_from (range c Budget) g.budget []) (chosen_from (range c Workers) g.workers []) (chosen_from (range c Depth) g.depth []) (chosen_from (range c Entries) g.entries []) (chosen_from (range c Certs) g.certs []) (chosen_from (range c Json) g.json []) (chosen_from (range c San) g.san []) (chosen_from (range c Fens) g.fens []) n
-  each = eight _ _ _ _ _ _ _ _ n is
+  each : Nine (chosen_from (range c Budget) g.budget []) (chosen_from (range c Workers) g.workers []) (chosen_from (range c Depth) g.depth []) (chosen_from (range c Entries) g.entries []) (chosen_from (range c Certs) g.certs []) (chosen_from (range c Json) g.json []) (chosen_from (range c San) g.san []) (chosen_from (range c Fens) g.fens []) (chosen_from (range c FlaggedDraws) g.flagged_draws []) n
+  each = nine _ _ _ _ _ _ _ _ _ n is
 
   limited : (l : Bounds) → IfSome (numbers_from c g []) (λ n. l ≡ bounds n) → l ≡ bounds n
   limited l h = let k = rw is at h in k
@@ -91,8 +94,15 @@ module _ (c : Command) (g : Given) (n : Numbers) (is : numbers_from c g [] ≡ S
   printed : (p : Printing) → IfSome (numbers_from c g []) (λ n. p ≡ printing n) → p ≡ printing n
   printed p h = let k = rw is at h in k
 
-  pub games_made : (l : Bounds) (p : Printing) → c ≡ Adjudicate → g.said ≡ Nothing → IfSome (numbers_from c g []) (λ n. l ≡ bounds n) → IfSome (numbers_from c g []) (λ n. p ≡ printing n) → Some (AdjudicateGames l p) ≡ order_from c g []
-  games_made l p e s h hp = rw (at_end c g n is, e, s, limited l h, printed p hp) refl
+  examined : (x : Bool) → IfSome (numbers_from c g []) (λ n. x ≡ examines n) → x ≡ examines n
+  examined x h = let k = rw is at h in k
+
+  -- drawn games are examined, by what is chosen
+  pub draws_chosen : (k : ℕ) → chosen_from (range c FlaggedDraws) g.flagged_draws [] ≡ Some k → IfSome (numbers_from c g []) (λ n. (k == 1) ≡ examines n)
+  draws_chosen k h = let same : k ≡ n.flagged_draws = of_some k n.flagged_draws (sym h ∙ each.flagged_draws) in rw (is, same) refl
+
+  pub games_made : (l : Bounds) (x : Bool) (p : Printing) → c ≡ Adjudicate → g.said ≡ Nothing → IfSome (numbers_from c g []) (λ n. l ≡ bounds n) → IfSome (numbers_from c g []) (λ n. x ≡ examines n) → IfSome (numbers_from c g []) (λ n. p ≡ printing n) → Some (AdjudicateGames l x p) ≡ order_from c g []
+  games_made l x p e s h hx hp = rw (at_end c g n is, e, s, limited l h, examined x hx, printed p hp) refl
 
   pub positions_made : (l : Bounds) (p : Printing) → c ≡ Position → g.said ≡ Nothing → IfSome (numbers_from c g []) (λ n. l ≡ bounds n) → IfSome (numbers_from c g []) (λ n. p ≡ printing n) → Some (JudgePositions l p) ≡ order_from c g []
   positions_made l p e s h hp = rw (at_end c g n is, e, s, limited l h, printed p hp) refl

@@ -14,7 +14,7 @@ use Rattle.cha_words.specs.declared.orders.Order.TheVariants.{AdjudicateGames, J
 use Rattle.cha_words.specs.declared.table.Command.{Command}
 use Rattle.cha_words.specs.declared.table.Command.TheVariants.{Adjudicate, Position, Check, Gen, Mates}
 use Rattle.cha_words.specs.declared.table.Setting.{Setting}
-use Rattle.cha_words.specs.declared.table.Setting.TheVariants.{Budget, Workers, Depth, Entries, Certs, Json, San, Fens}
+use Rattle.cha_words.specs.declared.table.Setting.TheVariants.{Budget, Workers, Depth, Entries, Certs, Json, San, Fens, FlaggedDraws}
 use Rattle.cha_words.specs.declared.table.Range.{Range}
 use Rattle.cha_words.specs.declared.table.Argument.{Argument}
 use Rattle.cha_words.specs.declared.table.Argument.TheVariants.{Seed, Count, Side}
@@ -50,7 +50,8 @@ setting_named word =
     else (if bytes_eq word (codes "--certs") then Some Certs
     else (if bytes_eq word (codes "--json") then Some Json
     else (if bytes_eq word (codes "--san") then Some San
-    else (if bytes_eq word (codes "--fens") then Some Fens else None)))))))
+    else (if bytes_eq word (codes "--fens") then Some Fens
+    else (if bytes_eq word (codes "--flagged-draws") then Some FlaggedDraws else None))))))))
 
 -- a flag stands alone, which counts as the number 1; any other option stands with a number
 abbrev pub is_flag : Setting → Bool
@@ -58,6 +59,7 @@ is_flag Certs = true
 is_flag Json = true
 is_flag San = true
 is_flag Fens = true
+is_flag FlaggedDraws = true
 is_flag _ = false
 
 -- numbers from least to most, and the one that counts where the option does not stand
@@ -74,16 +76,19 @@ for_search workers Certs = from_to 0 1 0
 for_search workers Json = from_to 0 1 0
 for_search workers San = from_to 0 1 0
 for_search workers Fens = from_to 0 1 0
+for_search workers FlaggedDraws = from_to 0 1 0
 
 -- the table of options: the numbers that an option takes behind a command, or None where it does not stand there
 abbrev pub range : Command → Setting → Option Range
 range Adjudicate setting = Some (for_search 2 setting)
+range Position FlaggedDraws = None
 range Position setting = Some (for_search 2 setting)
 range Check setting = None
 range Gen Certs = None
 range Gen Json = None
 range Gen San = None
 range Gen Fens = None
+range Gen FlaggedDraws = None
 range Gen setting = Some (for_search 1 setting)
 range Mates Workers = Some (from_to 1 16 2)
 range Mates Depth = Some (from_to 1 6 4)
@@ -156,6 +161,7 @@ value_for Certs (Value Certs word) = Some word
 value_for Json (Value Json word) = Some word
 value_for San (Value San word) = Some word
 value_for Fens (Value Fens word) = Some word
+value_for FlaggedDraws (Value FlaggedDraws word) = Some word
 value_for _ _ = None
 
 -- the word that a part is
@@ -182,12 +188,13 @@ pub record Numbers : Type 0 where
   pub json : ℕ
   pub san : ℕ
   pub fens : ℕ
+  pub flagged_draws : ℕ
 
 -- all of them, where each is one
-abbrev pub all_of : Option ℕ → Option ℕ → Option ℕ → Option ℕ → Option ℕ → Option ℕ → Option ℕ → Option ℕ → Option Numbers
-all_of (Some budget) (Some workers) (Some depth) (Some entries) (Some certs) (Some json) (Some san) (Some fens) =
-    Some (record { budget = budget; workers = workers; depth = depth; entries = entries; certs = certs; json = json; san = san; fens = fens })
-all_of _ _ _ _ _ _ _ _ = None
+abbrev pub all_of : Option ℕ → Option ℕ → Option ℕ → Option ℕ → Option ℕ → Option ℕ → Option ℕ → Option ℕ → Option ℕ → Option Numbers
+all_of (Some budget) (Some workers) (Some depth) (Some entries) (Some certs) (Some json) (Some san) (Some fens) (Some draws) =
+    Some (record { budget = budget; workers = workers; depth = depth; entries = entries; certs = certs; json = json; san = san; fens = fens; flagged_draws = draws })
+all_of _ _ _ _ _ _ _ _ _ = None
 
 -- what a word says that is no option, behind those that said the second argument
 abbrev pub say : Option Argument → Said → List ℕ → Option Said
@@ -206,13 +213,17 @@ say_all command (Some said) (word ∷ words) = say_all command (say (next_argume
 abbrev pub bounds : Numbers → Bounds
 bounds n = record { budget = n.budget; depth = n.depth; workers = n.workers; entries = n.entries }
 
+-- drawn games whose flag fell are examined, by the numbers of the options
+abbrev pub examines : Numbers → Bool
+examines n = n.flagged_draws == 1
+
 -- how a report is printed, by the numbers of the options
 abbrev pub printing : Numbers → Printing
 printing n = record { certs = n.certs == 1; json = n.json == 1; san = n.san == 1; fens = n.fens == 1 }
 
 -- the order of a command, by the numbers of its options and what its further words say
 abbrev pub made : Command → Numbers → Said → Option Order
-made Adjudicate n Nothing = Some (AdjudicateGames (bounds n) (printing n))
+made Adjudicate n Nothing = Some (AdjudicateGames (bounds n) (examines n) (printing n))
 made Position n Nothing = Some (JudgePositions (bounds n) (printing n))
 made Check n Nothing = Some CheckCert
 made Gen n (Games seed count) = Some (GenGames (bounds n) seed count)
@@ -227,7 +238,7 @@ made_of command _ _ = None
 -- the numbers of all options, by the parts of the words
 abbrev pub numbers : Command → List Part → Option Numbers
 numbers command cut = let number_of : Setting → Option ℕ = λ setting. chosen (range command setting) (filter_map (value_for setting) cut) in
-    all_of (number_of Budget) (number_of Workers) (number_of Depth) (number_of Entries) (number_of Certs) (number_of Json) (number_of San) (number_of Fens)
+    all_of (number_of Budget) (number_of Workers) (number_of Depth) (number_of Entries) (number_of Certs) (number_of Json) (number_of San) (number_of Fens) (number_of FlaggedDraws)
 
 -- what a command orders with the words behind it
 unfoldable pub order_by : Command → List (List ℕ) → Option Order
@@ -249,7 +260,7 @@ order words = order_of (map string_bytes words)
 
 -- what an order lets a search of verdicts spend; a check and the shortest mates have none
 abbrev pub limits_in : Order → Option Bounds
-limits_in (AdjudicateGames spend printing) = Some spend
+limits_in (AdjudicateGames spend draws printing) = Some spend
 limits_in (JudgePositions spend printing) = Some spend
 limits_in CheckCert = None
 limits_in (GenGames spend seed count) = Some spend

@@ -43,6 +43,8 @@ pub struct Given {
     pub san: Option<u64>,
     /// Of `--fens`.
     pub fens: Option<u64>,
+    /// Of `--flagged-draws`.
+    pub flagged_draws: Option<u64>,
     /// What words said that are no options.
     pub said: Said,
 }
@@ -69,6 +71,7 @@ pub fn value(given: Given, setting: Setting) -> Option<u64>
         Setting::Json => given.json,
         Setting::San => given.san,
         Setting::Fens => given.fens,
+        Setting::FlaggedDraws => given.flagged_draws,
     }
 }
 
@@ -96,6 +99,7 @@ fn with(given: Given, setting: Setting, value: u64) -> Given
         Setting::Json => next.json = Some(value),
         Setting::San => next.san = Some(value),
         Setting::Fens => next.fens = Some(value),
+        Setting::FlaggedDraws => next.flagged_draws = Some(value),
     }
     next
 }

@@ -2,7 +2,7 @@
 
 ghost use Rattle.std.specs.Prelude.{◌≡◌, ◌≤◌, ℕ, List, Some, [], map, string_bytes, IfOk, IfErr, IfSome, IsNone, IsSome, ◌↔◌};
 ghost use Rattle.cha_limits.specs.Bounds.{Bounds};
-ghost use Rattle.cha_words.specs.Language.{limits_in, bounds, printing as printing_by, order, order_by, order_of, range};
+ghost use Rattle.cha_words.specs.Language.{limits_in, bounds, examines, printing as printing_by, order, order_by, order_of, range};
 ghost use Rattle.cha_words.specs.Faults.{IsFault, IsFaultOf};
 ghost use Rattle.cha_words.specs.Reading.{Fits, IsIn, IsSearch, Stands, chosen_from, numbers_from, order_from, order_with, value_in};
 ghost use Rattle.cha_words.specs.declared.orders.Order.TheVariants.{GenGames, ListMates};
@@ -35,6 +35,8 @@ pub enum Order {
     AdjudicateGames {
         /// What a search may spend on a side.
         limits: Limits,
+        /// Whether drawn games whose flag fell are examined.
+        flagged_draws: bool,
         /// How the report is printed.
         printing: Printing,
     },
@@ -87,14 +89,14 @@ impl Order {
 ///
 /// | Command | Options, each at most once and in any order | Further words |
 /// |---|---|---|
-/// | `adjudicate`, `position` | `--budget`, `--workers`, `--depth`, `--entries`, `--certs`, `--json`, `--san`, `--fens` | none |
+/// | `adjudicate` | `--budget`, `--workers`, `--depth`, `--entries`, `--certs`, `--json`, `--san`, `--fens`, `--flagged-draws` | none |
+/// | `position` | `--budget`, `--workers`, `--depth`, `--entries`, `--certs`, `--json`, `--san`, `--fens` | none |
 /// | `gen` | `--budget`, `--workers`, `--depth`, `--entries` | the seed, and then the number of games |
 /// | `check` | none | none |
 /// | `mates` | `--workers`, `--depth`, `--json`, `--san` | the side, `w` or `b` |
 ///
-/// An option with a number is `--name N` in two words or `--name=N` in one, and `--certs`, `--json`,
-/// `--san` and `--fens` take no value. A number is 1 to 20
-/// ASCII digits, leading zeros among them.
+/// An option with a number is `--name N` in two words or `--name=N` in one, and `--certs`, `--json`, `--san`, `--fens` and
+/// `--flagged-draws` take no value. A number is 1 to 20 ASCII digits, leading zeros among them.
 ///
 /// | Number | From | To | Where it does not stand |
 /// |---|---|---|---|
@@ -176,6 +178,7 @@ fn read_behind(command: Command, words: &[String]) -> Result<Order, UsageFault>
             json: None,
             san: None,
             fens: None,
+            flagged_draws: None,
             said: Said::Nothing,
         },
         awaited: None,
@@ -221,6 +224,7 @@ fn made(command: Command, given: Given) -> Option<Order>
     match (command, given.said) {
         (Command::Adjudicate, Said::Nothing) => Some(Order::AdjudicateGames {
             limits: limits(command, given),
+            flagged_draws: draws(command, given),
             printing: printed(command, given),
         }),
         (Command::Position, Said::Nothing) => Some(Order::JudgePositions {
@@ -254,6 +258,14 @@ fn printed(command: Command, given: Given) -> Printing
         san: chosen(command, given, Setting::San) == 1,
         fens: chosen(command, given, Setting::Fens) == 1,
     }
+}
+
+/// Whether drawn games whose flag fell are examined.
+fn draws(command: Command, given: Given) -> bool
+    requires { Fits command given }
+    ensures { IfSome (numbers_from command given []) (λ n. result ≡ examines n) }
+{
+    chosen(command, given, Setting::FlaggedDraws) == 1
 }
 
 /// What a search of verdicts may spend.

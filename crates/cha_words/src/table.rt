@@ -51,10 +51,12 @@ pub enum Setting {
     San,
     /// `--fens`, a flag: whether the position after each move of a line is printed, in JSON.
     Fens,
+    /// `--flagged-draws`, a flag: whether drawn games whose flag fell are examined.
+    FlaggedDraws,
 }
 
 /// Each option.
-pub const SETTINGS: [Setting; 8] = [
+pub const SETTINGS: [Setting; 9] = [
     Setting::Budget,
     Setting::Workers,
     Setting::Depth,
@@ -63,6 +65,7 @@ pub const SETTINGS: [Setting; 8] = [
     Setting::Json,
     Setting::San,
     Setting::Fens,
+    Setting::FlaggedDraws,
 ];
 
 /// The numbers that an option takes behind a command.
@@ -142,6 +145,8 @@ pub fn setting_of(word: &str) -> Option<Setting>
         Some(Setting::San)
     } else if word == "--fens" {
         Some(Setting::Fens)
+    } else if word == "--flagged-draws" {
+        Some(Setting::FlaggedDraws)
     } else {
         None
     }
@@ -161,6 +166,7 @@ pub fn setting_name(setting: Setting) -> &'static str
         Setting::Json => "--json",
         Setting::San => "--san",
         Setting::Fens => "--fens",
+        Setting::FlaggedDraws => "--flagged-draws",
     }
 }
 
@@ -169,7 +175,11 @@ pub fn is_flag(setting: Setting) -> bool
     ensures { result ≡ stands_alone setting }
 {
     match setting {
-        Setting::Certs | Setting::Json | Setting::San | Setting::Fens => true,
+        Setting::Certs
+        | Setting::Json
+        | Setting::San
+        | Setting::Fens
+        | Setting::FlaggedDraws => true,
         Setting::Budget | Setting::Workers | Setting::Depth | Setting::Entries => false,
     }
 }
@@ -190,7 +200,11 @@ fn for_search(workers: u64, setting: Setting) -> Range
         Setting::Workers => from_to(1, 16, workers),
         Setting::Depth => from_to(2, 8, 4),
         Setting::Entries => from_to(1, 65_536, 4_096),
-        Setting::Certs | Setting::Json | Setting::San | Setting::Fens => from_to(0, 1, 0),
+        Setting::Certs
+        | Setting::Json
+        | Setting::San
+        | Setting::Fens
+        | Setting::FlaggedDraws => from_to(0, 1, 0),
     }
 }
 
@@ -199,17 +213,29 @@ pub fn range_of(command: Command, setting: Setting) -> Option<Range>
     ensures { result ≡ range command setting }
 {
     match command {
-        Command::Adjudicate | Command::Position => Some(for_search(2, setting)),
+        Command::Adjudicate => Some(for_search(2, setting)),
+        Command::Position => match setting {
+            Setting::FlaggedDraws => None,
+            _ => Some(for_search(2, setting)),
+        },
         Command::Check => None,
         Command::Gen => match setting {
-            Setting::Certs | Setting::Json | Setting::San | Setting::Fens => None,
+            Setting::Certs
+            | Setting::Json
+            | Setting::San
+            | Setting::Fens
+            | Setting::FlaggedDraws => None,
             _ => Some(for_search(1, setting)),
         },
         Command::Mates => match setting {
             Setting::Workers => Some(from_to(1, 16, 2)),
             Setting::Depth => Some(from_to(1, 6, 4)),
             Setting::Json | Setting::San => Some(from_to(0, 1, 0)),
-            Setting::Budget | Setting::Entries | Setting::Certs | Setting::Fens => None,
+            Setting::Budget
+            | Setting::Entries
+            | Setting::Certs
+            | Setting::Fens
+            | Setting::FlaggedDraws => None,
         },
     }
 }

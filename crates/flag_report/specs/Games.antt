@@ -2,7 +2,7 @@
 use Rattle.std.specs.Prelude.{ℕ, List, ◌++◌, codes}
 use Rattle.pgn_games.specs.declared.marks.ResultMark.{ResultMark}
 use Rattle.cha_outcome.specs.declared.rulings.Cause.{Cause}
-use Rattle.cha_outcome.specs.declared.rulings.Cause.TheVariants.{Mate511, Stalemate521, Dead522, Flag69, Recorded, RecordedUndecided}
+use Rattle.cha_outcome.specs.declared.rulings.Cause.TheVariants.{Mate511, Stalemate521, Dead522, Flag69, FlagOfMover69, Recorded, RecordedUndecided}
 use Rattle.cha_outcome.specs.declared.rulings.Judgment.{Judgment}
 use Rattle.report_words.specs.Words.{mark_text}
 use Rattle.flag_report.specs.Findings.{line}
@@ -13,6 +13,7 @@ cause_text Mate511 = codes "by 5.1.1"
 cause_text Stalemate521 = codes "by 5.2.1"
 cause_text Dead522 = codes "by 5.2.2"
 cause_text Flag69 = codes "by 6.9"
+cause_text FlagOfMover69 = codes "by 6.9, flag of the player to move"
 cause_text Recorded = codes "as recorded"
 cause_text RecordedUndecided = codes "as recorded, winner undecided"
 

@@ -18,6 +18,7 @@ fn put_cause(cause: Cause, text: &mut Text) -> Result<(), NoMemory>
         Cause::Stalemate521 => text.append(b"by 5.2.1"),
         Cause::Dead522 => text.append(b"by 5.2.2"),
         Cause::Flag69 => text.append(b"by 6.9"),
+        Cause::FlagOfMover69 => text.append(b"by 6.9, flag of the player to move"),
         Cause::Recorded => text.append(b"as recorded"),
         Cause::RecordedUndecided => text.append(b"as recorded, winner undecided"),
     }

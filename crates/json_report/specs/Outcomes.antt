@@ -1,5 +1,6 @@
 -- The value that a line on an outcome is (this project).
 use Rattle.std.specs.Prelude.{ℕ, ◌-◌, Bool, List, [], ◌∷◌, ◌++◌, Option, Some, None, codes}
+use Rattle.cha_board.specs.declared.men.Color.{Color}
 use Rattle.cha_board.specs.declared.men.Color.TheVariants.{White, Black}
 use Rattle.cha_board.specs.Board.{Board}
 use Rattle.cha_fen.specs.Written.{fen_text}
@@ -8,10 +9,10 @@ use Rattle.cha_outcome.specs.declared.items.PlayedGame.{PlayedGame}
 use Rattle.cha_outcome.specs.declared.outcomes.Outcome.{Outcome}
 use Rattle.cha_outcome.specs.declared.outcomes.Outcome.TheVariants.{JudgedPosition, JudgedGame, ListedMates, RefusedLine, UnreadableGame}
 use Rattle.cha_outcome.specs.declared.rulings.Cause.{Cause}
-use Rattle.cha_outcome.specs.declared.rulings.Cause.TheVariants.{Mate511, Stalemate521, Dead522, Flag69, Recorded, RecordedUndecided}
+use Rattle.cha_outcome.specs.declared.rulings.Cause.TheVariants.{Mate511, Stalemate521, Dead522, Flag69, FlagOfMover69, Recorded, RecordedUndecided}
 use Rattle.cha_outcome.specs.declared.rulings.Judgment.{Judgment}
 use Rattle.cha_outcome.specs.declared.status.PositionStatus.{PositionStatus}
-use Rattle.cha_outcome.specs.Rulings.{is_changed}
+use Rattle.cha_outcome.specs.Rulings.{fallen_flag, is_changed}
 use Rattle.cha_verdict.specs.declared.decisions.Decision.{Decision}
 use Rattle.cha_verdict.specs.declared.scans.Edge.{Edge}
 use Rattle.cha_verdict.specs.declared.scans.Edge.TheVariants.{Start, Live, Unclear}
@@ -43,8 +44,15 @@ article_json Mate511 = string (codes "5.1.1")
 article_json Stalemate521 = string (codes "5.2.1")
 article_json Dead522 = string (codes "5.2.2")
 article_json Flag69 = string (codes "6.9")
+article_json FlagOfMover69 = string (codes "6.9")
 article_json Recorded = null
 article_json RecordedUndecided = null
+
+-- whose flag fell
+unfoldable pub flag_json : Option Color → Json
+flag_json None = null
+flag_json (Some White) = string (codes "white")
+flag_json (Some Black) = string (codes "black")
 
 -- the members that say where a game stands in its text, before others
 abbrev pub span_members : Span → Members → Members
@@ -60,7 +68,7 @@ finding_members extras q d status more =
 abbrev pub result_members : PlayedGame → Option Scan → Judgment → Members
 result_members game scan judgment =
     member (codes "dead_from") (scan_json scan) (member (codes "recorded") (string (mark_text game.recorded)) (member (codes "result") (string (mark_text judgment.mark))
-    (member (codes "changed") (boolean (is_changed game.recorded judgment.mark)) (member (codes "article") (article_json judgment.cause) (member (codes "flagged") (boolean game.forfeit) no_members)))))
+    (member (codes "changed") (boolean (is_changed game.recorded judgment.mark)) (member (codes "article") (article_json judgment.cause) (member (codes "flagged") (boolean game.forfeit) (member (codes "flag") (flag_json (fallen_flag game judgment.cause)) no_members))))))
 
 -- a line of moves, and lines of moves
 abbrev pub line_json : Board → List Move → Json

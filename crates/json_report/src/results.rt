@@ -3,12 +3,13 @@
 ghost use Rattle.std.specs.Prelude.{◌≡◌, OnOk, codes};
 ghost use Rattle.json.specs.Json.{Members, no_members, string};
 ghost use Rattle.report_words.specs.Words.{mark_text};
-ghost use Rattle.json_report.specs.Outcomes.{article_json, edge_members, result_members, scan_json};
+ghost use Rattle.json_report.specs.Outcomes.{article_json, edge_members, flag_json, result_members, scan_json};
 ghost use Rattle.json_report.specs.Spelled.{IsMember, closed_by};
 
 use crate::members::{put_count, put_null, put_text, put_truth};
 use cha_list::{NoMemory, Text};
-use cha_outcome::{Cause, Judgment, PlayedGame, changes_result};
+use cha_board::Color;
+use cha_outcome::{Cause, Judgment, PlayedGame, changes_result, fallen_flag};
 use cha_verdict::{Edge, Scan};
 use json_text::JsonText;
 use pgn_games::ResultMark;
@@ -68,8 +69,20 @@ fn put_article(cause: Cause, json: &mut JsonText) -> Result<(), NoMemory>
         Cause::Mate511 => put_text(b"article", b"5.1.1", json),
         Cause::Stalemate521 => put_text(b"article", b"5.2.1", json),
         Cause::Dead522 => put_text(b"article", b"5.2.2", json),
-        Cause::Flag69 => put_text(b"article", b"6.9", json),
+        Cause::Flag69 | Cause::FlagOfMover69 => put_text(b"article", b"6.9", json),
         Cause::Recorded | Cause::RecordedUndecided => put_null(b"article", json),
+    }
+}
+
+/// Writes the member that says whose flag fell, if one did.
+#[tactic(auto, unfolding(crate::specs::Outcomes::flag_json))]
+fn put_flag(flag: Option<Color>, json: &mut JsonText) -> Result<(), NoMemory>
+    ensures { OnOk result (IsMember json.old (codes "flag") (flag_json flag) json.new) }
+{
+    match flag {
+        Some(Color::White) => put_text(b"flag", b"white", json),
+        Some(Color::Black) => put_text(b"flag", b"black", json),
+        None => put_null(b"flag", json),
     }
 }
 
@@ -88,5 +101,6 @@ pub fn put_results(
     put_result(alloc, b"result", judgment.mark, json)?;
     put_truth(b"changed", changes_result(game.recorded, judgment), json)?;
     put_article(judgment.cause, json)?;
-    put_truth(b"flagged", game.forfeit, json)
+    put_truth(b"flagged", game.forfeit, json)?;
+    put_flag(fallen_flag(game, judgment.cause), json)
 }

@@ -5,7 +5,7 @@ use Rattle.cha_words.proofs.orders.made.Goals as goal
 pub returns-in-Adjudicate-Nothing : goal.returns-in-Adjudicate-Nothing
 returns-in-Adjudicate-Nothing c =
     let n = whole c.args.command c.args.given in
-    games_made c.args.command c.args.given n.0 n.1 c.limits.result c.printed.result c.in-Adjudicate-Nothing.is-0 c.in-Adjudicate-Nothing.is-1 c.limits.ensures c.printed.ensures
+    games_made c.args.command c.args.given n.0 n.1 c.limits.result c.draws.result c.printed.result c.in-Adjudicate-Nothing.is-0 c.in-Adjudicate-Nothing.is-1 c.limits.ensures c.draws.ensures c.printed.ensures
 
 pub returns-in-Position-Nothing : goal.returns-in-Position-Nothing
 returns-in-Position-Nothing c =

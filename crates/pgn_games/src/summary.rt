@@ -80,16 +80,17 @@ fn keep_texts(
 fn longer(empty: bool, span: Span, placed: &Placed) -> Span
     ensures { result ≡ span_with empty span placed.now }
 {
+    let end = placed.end;
     if empty {
         return Span {
             start: placed.offset,
-            end: placed.end,
+            end,
             line: placed.line,
         };
     }
     Span {
         start: span.start,
-        end: placed.end,
+        end,
         line: span.line,
     }
 }

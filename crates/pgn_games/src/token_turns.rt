@@ -135,6 +135,7 @@ pub fn is_as_new(line: bool, place: Place) -> bool
 {
     match place {
         Place::Before => line,
-        _ => false,
+        Place::Tags => false,
+        Place::Moves(_) => false,
     }
 }

@@ -37,10 +37,11 @@ fn lengths_in(alloc: Global, text: Text) -> Result<Vec<(usize, bool)>, Fail> {
         if reader.failed() {
             return Ok(found);
         }
-        let Some(game) = reader.next(&mut source)? else {
+        let Some(placed) = reader.next(&mut source)? else {
             return Ok(found);
         };
-        found.push((position_count(alloc, &game)?, game.forfeit))?;
+        let game = &placed.game;
+        found.push((position_count(alloc, game)?, game.forfeit))?;
     }
     Ok(found)
 }

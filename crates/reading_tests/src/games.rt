@@ -1,6 +1,7 @@
 //! Games of texts, shown as texts.
 
 mod long_texts;
+mod places;
 mod real_files;
 mod small_texts;
 
@@ -9,6 +10,7 @@ use cha_fen::{FenFault, write};
 use cha_outside::Pieces;
 use long_texts::{LONG, Long};
 use pgn_games::{Game, GameFault, ReadEnd, Reader, ResultMark};
+use places::PLACES;
 use real_files::FILES;
 use small_texts::{BAD_TOKENS, ENDS, STARTS, TAGS, TWO_FAULTS, VARIATIONS};
 use std::alloc::Global;
@@ -28,10 +30,10 @@ fn shown(alloc: Global, bytes: &[u8], size: u32) -> Result<Vec<u8>, Fail> {
         if reader.failed() {
             return Ok(text);
         }
-        let Some(game) = reader.next(&mut source)? else {
+        let Some(found) = reader.next(&mut source)? else {
             return Ok(text);
         };
-        show(alloc, &game, &mut text)?;
+        show(alloc, &found.game, &mut text)?;
     }
     Ok(text)
 }
@@ -111,6 +113,42 @@ fn texts_have_their_games(rt: HostRuntime) -> Result<(), Fail> {
     }
     for (text, want) in BAD_TOKENS {
         has_games(&rt, rt.alloc(), text, want.as_bytes())?;
+    }
+    Ok(())
+}
+
+/// Where the games of a text stand that comes in pieces of a size, and whether it is closed, as `0-7:1 closed`.
+fn stands(alloc: Global, bytes: &[u8], size: u32) -> Result<Vec<u8>, Fail> {
+    let sizes = [size].to_vec(alloc)?;
+    let mut source = Pieces::new(bytes.to_vec(alloc)?, sizes, Vec::new(alloc));
+    let mut reader = Reader::new(alloc)?;
+    let mut text = Vec::new(alloc);
+    for _call in 0..100 {
+        if reader.failed() {
+            return Ok(text);
+        }
+        let Some(found) = reader.next(&mut source)? else {
+            text.extend_from_slice(if reader.is_closed() {
+                b"closed"
+            } else {
+                b"open"
+            })?;
+            return Ok(text);
+        };
+        let span = found.span;
+        let place = format!(in alloc; "{}-{}:{} ", span.start, span.end, span.line)?;
+        text.extend_from_slice(place.as_bytes())?;
+    }
+    Ok(text)
+}
+
+#[test]
+fn games_stand_in_their_places(rt: HostRuntime) -> Result<(), Fail> {
+    for (text, want) in PLACES {
+        for size in [1, 2, 7, 4096] {
+            let found = stands(rt.alloc(), text, size)?;
+            assert_eq!(rt; found.as_slice(), want.as_bytes(), "{text:?}");
+        }
     }
     Ok(())
 }

@@ -8,5 +8,6 @@ pub mod KeptWords
 pub mod Moved
 pub mod MovedFields
 pub mod Settled
+pub mod Speaking
 pub mod Summed
 pub mod Told

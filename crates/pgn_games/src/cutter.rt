@@ -10,7 +10,7 @@ ghost use Rattle.pgn_games.specs.Settling.{settled_games};
 ghost use Rattle.pgn_games.specs.Reading.{Takes};
 
 use crate::filling::{Filled, fill};
-use crate::gathering::{Standing, gather};
+use crate::gathering::{Standing, gather, gather_any};
 use crate::played::PlacedGame;
 use crate::summary::Summary;
 use crate::token_turns::{Place, is_as_new, led_to};
@@ -90,7 +90,7 @@ impl Cutter {
         ensures used_up { result ≡ Ok Standing.Open → IsScannedAt self.new × (self.new.behind.items ≡ []) × (self.new.used ≡ length self.new.piece.items) }
     {
         loop {
-            match gather(&mut self.game, &mut self.behind, &mut self.place)? {
+            match gather_any(&mut self.game, &mut self.behind, &mut self.place)? {
                 Standing::Whole => return Ok(Standing::Whole),
                 Standing::Open => {}
             }

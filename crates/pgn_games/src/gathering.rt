@@ -49,3 +49,22 @@ pub fn gather(
     }
     Ok(Standing::Open)
 }
+
+/// The same, where there may be no token: most bytes give none.
+#[inline(always)]
+pub fn gather_any(
+    game: &mut Summary,
+    behind: &mut Vec<Placed>,
+    place: &mut Place,
+) -> Result<Standing, NoMemory>
+    requires scanned { IsScanned game.old place.old }
+    requires few { length game.old + length behind.old.items < 2 ^ 64 - 1 }
+    ensures same { OnOk result (game.new ++ behind.new.items ≡ game.old ++ behind.old.items) }
+    ensures open { result ≡ Ok Standing.Open → IsScanned game.new place.new × (behind.new.items ≡ []) }
+    ensures whole { result ≡ Ok Standing.Whole → first_end Before (game.new ++ behind.new.items) ≡ Some (length game.new) }
+{
+    if behind.as_slice().is_empty() {
+        return Ok(Standing::Open);
+    }
+    gather(game, behind, place)
+}

@@ -25,7 +25,7 @@ returns-in-Gen-Games c =
 pub returns-in-Mates-Sided : goal.returns-in-Mates-Sided
 returns-in-Mates-Sided c =
     let n = whole c.args.command c.args.given in
-    mates_made c.args.command c.args.given n.0 n.1 c.in-Mates-Sided.side c.chosen-in-Mates-Sided.result c.chosen-in-Mates-Sided-2.result c.printed-in-Mates-Sided.result c.in-Mates-Sided.is-0 c.in-Mates-Sided.is-1 c.chosen-in-Mates-Sided.ensures.value c.chosen-in-Mates-Sided-2.ensures.value c.printed-in-Mates-Sided.ensures
+    mates_made c.args.command c.args.given n.0 n.1 c.in-Mates-Sided.side c.chosen.result c.chosen-in-Mates-Sided.result c.printed-in-Mates-Sided.result c.in-Mates-Sided.is-0 c.in-Mates-Sided.is-1 c.chosen.ensures.value c.chosen-in-Mates-Sided.ensures.value c.printed-in-Mates-Sided.ensures
 
 pub returns-in_default : goal.returns-in_default
 returns-in_default c =

@@ -111,7 +111,8 @@ fn put_undecided(
 ) -> Result<(), NoMemory>
     ensures { OnOk result (closed_by json.old (verdict_members extras position.now winner (Undecided units depth)) ≡ closed_by json.new no_members) }
 {
-    let _unused = (extras, position, winner);
+    let _position = position;
+    let _asked = (extras, winner);
     put_text(b"verdict", b"undecided", json)?;
     put_count(alloc, b"positions", u64::from(units), json)?;
     put_count(alloc, b"depth", u64::from(depth), json)?;

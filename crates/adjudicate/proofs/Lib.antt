@@ -5,3 +5,4 @@ pub mod RunEndings
 pub mod Answering
 pub mod GivenGames
 pub mod ReportLoop
+pub mod LegalLines

@@ -4,7 +4,8 @@ use crate::random_rows::{MORE_RANDOM_ROWS, RANDOM_ROWS};
 use cha_board::Color;
 use cha_limits::Limits;
 use cha_words::{
-    Argument, Expected, Order, Printing, SETTINGS, argument_of, open_range, parse, setting_name, usage_fault,
+    Argument, Expected, Order, Printing, SETTINGS, argument_of, open_range, parse, setting_name,
+    usage_fault,
 };
 use std::alloc::Global;
 use std::test::Fail;
@@ -69,8 +70,14 @@ const ROWS: &[(&str, &str)] = &[
     ("mates --san w --json", "mates w 2 4 json san"),
     ("adjudicate --json", "games 20000 4 2 4096 false json"),
     ("position --san", "positions 20000 4 2 4096 false san"),
-    ("position --fens --json --certs", "positions 20000 4 2 4096 true json fens"),
-    ("adjudicate --json --san --fens", "games 20000 4 2 4096 false json san fens"),
+    (
+        "position --fens --json --certs",
+        "positions 20000 4 2 4096 true json fens",
+    ),
+    (
+        "adjudicate --json --san --fens",
+        "games 20000 4 2 4096 false json san fens",
+    ),
     ("adjudicate --json --json", NOTHING),
     ("adjudicate --json=1", NOTHING),
     ("mates w --fens", NOTHING),
@@ -205,11 +212,19 @@ fn said_of(alloc: Global, order: &Option<Order>) -> Result<String, Fail> {
         }
         Some(Order::AdjudicateGames { limits, printing }) => {
             let certs = printing.certs;
-            format!(in alloc; "games {} {certs}{}", spent(alloc, limits)?, style_of(printing))?
+            format!(in alloc;
+                "games {} {certs}{}",
+                spent(alloc, limits)?,
+                style_of(printing)
+            )?
         }
         Some(Order::JudgePositions { limits, printing }) => {
             let certs = printing.certs;
-            format!(in alloc; "positions {} {certs}{}", spent(alloc, limits)?, style_of(printing))?
+            format!(in alloc;
+                "positions {} {certs}{}",
+                spent(alloc, limits)?,
+                style_of(printing)
+            )?
         }
         Some(
             Order::GenGames {

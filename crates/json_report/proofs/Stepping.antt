@@ -87,6 +87,7 @@ keyed old between new name j put is = keyed_by old.after_value old between new n
 -- the text of a value, as tokens
 mutual
   unfolding text_from
+
   spelled_value : (a : Bool) (j : Json) (ts : List Token) → text_from a (json_tokens j ++ ts) ≡ comma a ++ (value_text j ++ text_from true ts)
   spelled_value true null ts = refl
   spelled_value false null ts = refl

@@ -57,8 +57,24 @@ fn put_findings(
     ensures { OnOk result ((more : Members) → closed_by json.old (finding_members extras position.now decision.now status more) ≡ closed_by json.new more) }
 {
     put_fen(alloc, position, json)?;
-    put_verdict(alloc, extras, b"white", position, Color::White, &decision.white, json)?;
-    put_verdict(alloc, extras, b"black", position, Color::Black, &decision.black, json)?;
+    put_verdict(
+        alloc,
+        extras,
+        b"white",
+        position,
+        Color::White,
+        &decision.white,
+        json,
+    )?;
+    put_verdict(
+        alloc,
+        extras,
+        b"black",
+        position,
+        Color::Black,
+        &decision.black,
+        json,
+    )?;
     put_state(alloc, status, json)?;
     Ok(())
 }

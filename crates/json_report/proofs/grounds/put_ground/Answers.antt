@@ -3,18 +3,18 @@ use Rattle.json_report.specs.Verdicts.{ground_members}
 use Rattle.json_report.proofs.Stepping.{next}
 use Rattle.json_report.proofs.grounds.put_ground.Goals as goal
 
-pub returns-in-Sets : goal.returns-in-Sets
+pub returns-in_ok-put_text-in-Sets : goal.returns-in_ok-put_text-in-Sets
 unfolding ground_members
-returns-in-Sets c = λ more. next _ _ _ _ _ c.in_ok-put_text.ensures
+returns-in_ok-put_text-in-Sets c = λ more. next _ _ _ _ _ c.in_ok-put_text-in-Sets.ensures
 
-pub returns-in-Material : goal.returns-in-Material
+pub returns-in_ok-put_text-in-Material : goal.returns-in_ok-put_text-in-Material
 unfolding ground_members
-returns-in-Material c = λ more. next _ _ _ _ _ c.in_ok-put_text-in-Material.ensures
+returns-in_ok-put_text-in-Material c = λ more. next _ _ _ _ _ c.in_ok-put_text-in-Material.ensures
 
-pub returns-in-LonePieces : goal.returns-in-LonePieces
+pub returns-in_ok-put_text-in-LonePieces : goal.returns-in_ok-put_text-in-LonePieces
 unfolding ground_members
-returns-in-LonePieces c = λ more. next _ _ _ _ _ c.in_ok-put_text-in-LonePieces.ensures
+returns-in_ok-put_text-in-LonePieces c = λ more. next _ _ _ _ _ c.in_ok-put_text-in-LonePieces.ensures
 
-pub returns-in-Graph : goal.returns-in-Graph
+pub returns-in_ok-put_count-in-Graph : goal.returns-in_ok-put_count-in-Graph
 unfolding ground_members
-returns-in-Graph c = λ more. next _ _ _ _ _ c.in_ok-put_text-in-Graph.ensures ∙ next _ _ _ _ _ c.in_ok-put_count.ensures
+returns-in_ok-put_count-in-Graph c = λ more. next _ _ _ _ _ c.in_ok-put_text-in-Graph.ensures ∙ next _ _ _ _ _ c.in_ok-put_count-in-Graph.ensures

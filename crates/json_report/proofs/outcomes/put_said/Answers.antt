@@ -3,22 +3,22 @@ use Rattle.json_report.specs.Outcomes.{outcome_members}
 use Rattle.json_report.proofs.Stepping.{next}
 use Rattle.json_report.proofs.outcomes.put_said.Goals as goal
 
-pub returns-in-JudgedPosition : goal.returns-in-JudgedPosition
+pub returns-in_ok-put_findings-in-JudgedPosition : goal.returns-in_ok-put_findings-in-JudgedPosition
 unfolding outcome_members
-returns-in-JudgedPosition c = c.in_ok-put_place.ensures _ ∙ c.in_ok-put_findings.ensures _
+returns-in_ok-put_findings-in-JudgedPosition c = c.in_ok-put_place-in-JudgedPosition.ensures _ ∙ c.in_ok-put_findings-in-JudgedPosition.ensures _
 
-pub returns-in-JudgedGame : goal.returns-in-JudgedGame
+pub returns-in_ok-put_results-in-JudgedGame : goal.returns-in_ok-put_results-in-JudgedGame
 unfolding outcome_members
-returns-in-JudgedGame c = c.in_ok-put_game.ensures _ ∙ c.in_ok-put_findings-in-JudgedGame.ensures _ ∙ c.in_ok-put_results.ensures
+returns-in_ok-put_results-in-JudgedGame c = c.in_ok-put_game-in-JudgedGame.ensures _ ∙ c.in_ok-put_findings-in-JudgedGame.ensures _ ∙ c.in_ok-put_results-in-JudgedGame.ensures
 
-pub returns-in-ListedMates : goal.returns-in-ListedMates
+pub returns-in_ok-put_mates-in-ListedMates : goal.returns-in_ok-put_mates-in-ListedMates
 unfolding outcome_members
-returns-in-ListedMates c = c.in_ok-put_place-in-ListedMates.ensures _ ∙ next _ _ _ _ _ c.in_ok-put_fen.ensures ∙ c.in_ok-put_mates.ensures
+returns-in_ok-put_mates-in-ListedMates c = c.in_ok-put_place-in-ListedMates.ensures _ ∙ next _ _ _ _ _ c.in_ok-put_fen-in-ListedMates.ensures ∙ c.in_ok-put_mates-in-ListedMates.ensures
 
-pub returns-in-RefusedLine : goal.returns-in-RefusedLine
+pub returns-in_ok-put_refused-in-RefusedLine : goal.returns-in_ok-put_refused-in-RefusedLine
 unfolding outcome_members
-returns-in-RefusedLine c = c.in_ok-put_place-in-RefusedLine.ensures _ ∙ next _ _ _ _ _ c.in_ok-put_refused.ensures
+returns-in_ok-put_refused-in-RefusedLine c = c.in_ok-put_place-in-RefusedLine.ensures _ ∙ next _ _ _ _ _ c.in_ok-put_refused-in-RefusedLine.ensures
 
-pub returns-in-UnreadableGame : goal.returns-in-UnreadableGame
+pub returns-in_ok-put_unreadable-in-UnreadableGame : goal.returns-in_ok-put_unreadable-in-UnreadableGame
 unfolding outcome_members
-returns-in-UnreadableGame c = c.in_ok-put_game-in-UnreadableGame.ensures _ ∙ next _ _ _ _ _ c.in_ok-put_unreadable.ensures
+returns-in_ok-put_unreadable-in-UnreadableGame c = c.in_ok-put_game-in-UnreadableGame.ensures _ ∙ next _ _ _ _ _ c.in_ok-put_unreadable-in-UnreadableGame.ensures

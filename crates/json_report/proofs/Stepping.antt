@@ -58,6 +58,14 @@ string_is old new bytes put = string_by old.after_value old new bytes refl put
     string_by true old new bytes e put = record { text = rw e (rw e at put.text); after = put.after }
     string_by false old new bytes e put = record { text = rw e (rw e at put.text); after = put.after }
 
+-- so is a number
+pub number_is : (old new : JsonText) (digits : List ℕ) → IsPut old (Token.number digits) new → IsValue old (number digits) new
+number_is old new digits put = number_by old.after_value old new digits refl put
+  where
+    number_by : (a : Bool) (old new : JsonText) (digits : List ℕ) → old.after_value ≡ a → IsPut old (Token.number digits) new → IsValue old (number digits) new
+    number_by true old new digits e put = record { text = rw e (rw e at put.text); after = put.after }
+    number_by false old new digits e put = record { text = rw e (rw e at put.text); after = put.after }
+
 -- the bracket that closes it
 pub array_closed : (old new : JsonText) → IsPut old Token.end_array new → ended_by old no_items ≡ new.text
 array_closed old new put = closed_after old.after_value old.text new.text put.text

@@ -4,3 +4,4 @@ pub mod RunEndings
 pub mod Answering
 pub mod GivenGames
 pub mod ReportLoop
+pub mod LegalLines

@@ -105,21 +105,21 @@ whole_blocks j bytes here old now s least w due =
     (blocks j.style 1 os, w.2.3, (os, here, w.1 ∙ ap (λ x. x ++ here) (sym w.2.1), w.2.2, refl, omega (arith, number, due)))
 
 -- no item is left: the outcomes of all items make the report
-all_outcomes : (j : Job) (bytes : List ℕ) (old now : Option (List ℕ)) (s : Totals) → (w : WroteUpTo j (j.items bytes) [] old now s) → HasReport j bytes (blocks j.style 1 w.2.0 ++ summary j.style j.subject s)
-all_outcomes j bytes old now s w = (w.2.0, w.2.1 ∙ sym (w.1 ∙ append-nil w.0), w.2.2, ap (λ t. blocks j.style 1 w.2.0 ++ summary j.style j.subject t) w.2.4)
+all_outcomes : (j : Job) (bytes : List ℕ) (old now : Option (List ℕ)) (s : Totals) → (w : WroteUpTo j (j.items bytes) [] old now s) → HasReport j bytes (blocks j.style 1 w.2.0 ++ summary j.style j.subject (j.closed bytes) s)
+all_outcomes j bytes old now s w = (w.2.0, w.2.1 ∙ sym (w.1 ∙ append-nil w.0), w.2.2, ap (λ t. blocks j.style 1 w.2.0 ++ summary j.style j.subject (j.closed bytes) t) w.2.4)
 
 -- and the summary is written whole
-pub finished : (j : Job) (bytes : List ℕ) (old now next : Option (List ℕ)) (s : Totals) → WroteUpTo j (j.items bytes) [] old now s → Appends now next (summary j.style j.subject s) → Grew old next (HasReport j bytes)
+pub finished : (j : Job) (bytes : List ℕ) (old now next : Option (List ℕ)) (s : Totals) → WroteUpTo j (j.items bytes) [] old now s → Appends now next (summary j.style j.subject (j.closed bytes) s) → Grew old next (HasReport j bytes)
 finished j bytes old now next s w added =
     let front = blocks j.style 1 w.2.0 in
-    (front ++ summary j.style j.subject s, Appends-trans old now next front (summary j.style j.subject s) w.2.3 added, all_outcomes j bytes old now s w)
+    (front ++ summary j.style j.subject (j.closed bytes) s, Appends-trans old now next front (summary j.style j.subject (j.closed bytes) s) w.2.3 added, all_outcomes j bytes old now s w)
 
 -- or in part
-pub cut_summary : (j : Job) (bytes : List ℕ) (old now next : Option (List ℕ)) (s : Totals) (n : ℕ) → WroteUpTo j (j.items bytes) [] old now s → Appends now next (take n (summary j.style j.subject s))
+pub cut_summary : (j : Job) (bytes : List ℕ) (old now next : Option (List ℕ)) (s : Totals) (n : ℕ) → WroteUpTo j (j.items bytes) [] old now s → Appends now next (take n (summary j.style j.subject (j.closed bytes) s))
     → Grew old next (λ out. (whole : List ℕ) × HasReport j bytes whole × IsFront out whole)
 cut_summary j bytes old now next s n w added =
     let front = blocks j.style 1 w.2.0 in
-    let end = summary j.style j.subject s in (
+    let end = summary j.style j.subject (j.closed bytes) s in (
       front ++ take n end,
       Appends-trans old now next front (take n end) w.2.3 added,
       (front ++ end, all_outcomes j bytes old now s w, (drop n end, ap (λ x. front ++ x) (sym (take-append-drop n end)) ∙ sym (append_assoc front (take n end) (drop n end)))),

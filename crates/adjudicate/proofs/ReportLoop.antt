@@ -23,7 +23,7 @@ use Rattle.adjudicate.specs.Statuses.{status_of_end}
 use Rattle.adjudicate.specs.Jobs.{Job}
 use Rattle.adjudicate.specs.Report.{Demand, demand_by, HasBlocks}
 use Rattle.adjudicate.specs.Runs.{Grew, outside, BeginsWhole, IsRunOf}
-use Rattle.adjudicate.specs.Readers.{items_by, settled_by, IsAskedOf, job_on}
+use Rattle.adjudicate.specs.Readers.{items_by, settled_by, closed_by, IsAskedOf, job_on}
 use Rattle.adjudicate.proofs.RunEndings.{short_run, long_run}
 use Rattle.adjudicate.proofs.Progress.{WroteUpTo, nothing_written, one_more, cut_block, whole_blocks, finished, cut_summary, room}
 
@@ -82,6 +82,9 @@ same_settled k k' x n e h = subst (λ b. settled_by b x ≤ n) e h
 
 pub same_count : (k k' : Bool) (x : List ℕ) (n : ℕ) → k' ≡ k → length (items_by k' x) ≤ n → length (items_by k x) ≤ n
 same_count k k' x n e h = subst (λ b. length (items_by b x) ≤ n) e h
+
+pub same_closed : (k k' : Bool) (x : List ℕ) (b : Bool) → k' ≡ k → b ≡ closed_by k' x → b ≡ closed_by k x
+same_closed k k' x b e h = subst (λ t. b ≡ closed_by t x) e h
 
 pub still_asked : (k k' : Bool) (question question' : Question) → k' ≡ k → question' ≡ question → IsAskedOf k question → IsAskedOf k' question'
 still_asked k k' question question' e same h = subst (λ b. IsAskedOf b question') (sym e) (subst (λ q. IsAskedOf k q) (sym same) h)
@@ -142,21 +145,21 @@ module _ (k : Bool) (question : Question) (form : Form) (old now : Option (List 
       (λ h. cc) (λ _. rose) (λ h. cc) (taken, consumed, few)
 
   -- all items were judged, and the summary was written or not
-  pub all_judged : (status : Status) (next : Option (List ℕ)) → g ≤ g' → length taken ≤ 268435456 → length (items_by k taken) ≤ given → IsAtEnd left'
-      → (status ≡ Done → Appends now next (summary form.style form.subject s)) → (status ≡ WriteFault → (n : ℕ) × Appends now next (take n (summary form.style form.subject s))) → (status ≡ NoMemory → next ≡ now)
+  pub all_judged : (status : Status) (next : Option (List ℕ)) (closed : Bool) → closed ≡ closed_by k taken → g ≤ g' → length taken ≤ 268435456 → length (items_by k taken) ≤ given → IsAtEnd left'
+      → (status ≡ Done → Appends now next (summary form.style form.subject closed s)) → (status ≡ WriteFault → (n : ℕ) × Appends now next (take n (summary form.style form.subject closed s))) → (status ≡ NoMemory → next ≡ now)
       → (status ≡ WriteFault → Rose g g') → (status ≡ Done) ⊎ ((status ≡ WriteFault) ⊎ (status ≡ NoMemory))
       → IsRunOf (of_job k question form) status (outside left f old g) (outside left' f' next g')
-  all_judged status next later few all end done cut refused cause either =
+  all_judged status next closed shut later few all end done cut refused cause either =
       let all_written = none_left all in
       elim either [
         | inl is ↦ (
             let run : IsRunOf (of_job k question form) Done (outside left f old g) (outside left' f' next g') =
-            short_run (of_job k question form) (outside left f old g) (outside left' f' next g') refl source_later later Done (taken, consumed, end, tt, finished (job_on k question form) taken old now next s all_written (done is))
+            short_run (of_job k question form) (outside left f old g) (outside left' f' next g') refl source_later later Done (taken, consumed, end, tt, finished (job_on k question form) taken old now next s all_written (subst (λ b. Appends now next (summary form.style form.subject b s)) shut (done is)))
             (λ h. cc) (λ h. cc) (λ h. cc) (taken, consumed, few) in
             subst (λ x. IsRunOf (of_job k question form) x (outside left f old g) (outside left' f' next g')) (sym is) run)
         | inr (inl is) ↦ (
             let part = cut is in
-            let out = cut_summary (job_on k question form) taken old now next s part.0 all_written part.1 in
+            let out = cut_summary (job_on k question form) taken old now next s part.0 all_written (subst (λ b. Appends now next (take part.0 (summary form.style form.subject b s))) shut part.1) in
             let run : IsRunOf (of_job k question form) WriteFault (outside left f old g) (outside left' f' next g') =
             short_run (of_job k question form) (outside left f old g) (outside left' f' next g') refl source_later later WriteFault (taken, consumed, (out.0, out.1, inr (end, out.2)))
             (λ h. cc) (λ _. cause is) (λ h. cc) (taken, consumed, few) in

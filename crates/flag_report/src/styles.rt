@@ -10,9 +10,7 @@ use crate::forms::BlockForm;
 use crate::totals::put_totals;
 use cha_list::{NoMemory, Text};
 use cha_outcome::{Outcome, Totals};
-use json_report::{
-    Extras, put_games_line, put_mates_line, put_outcome_line, put_positions_line,
-};
+use json_report::{Extras, put_games_line, put_mates_line, put_outcome_line, put_positions_line};
 use std::alloc::Global;
 
 /// How a report is printed.

@@ -4,7 +4,8 @@ use crate::random_rows::{MORE_RANDOM_ROWS, RANDOM_ROWS};
 use cha_board::Color;
 use cha_limits::Limits;
 use cha_words::{
-    Argument, Expected, Order, SETTINGS, argument_of, open_range, parse, setting_name, usage_fault,
+    Argument, Expected, Order, Printing, SETTINGS, argument_of, open_range, parse, setting_name,
+    usage_fault,
 };
 use std::alloc::Global;
 use std::test::Fail;
@@ -65,6 +66,24 @@ const ROWS: &[(&str, &str)] = &[
     ("mates b --depth 3", "mates b 2 3"),
     ("mates --depth=1 w", "mates w 2 1"),
     ("mates --depth 06 b --workers=1", "mates b 1 6"),
+    ("mates w --json", "mates w 2 4 json"),
+    ("mates --san w --json", "mates w 2 4 json san"),
+    ("adjudicate --json", "games 20000 4 2 4096 false json"),
+    ("position --san", "positions 20000 4 2 4096 false san"),
+    (
+        "position --fens --json --certs",
+        "positions 20000 4 2 4096 true json fens",
+    ),
+    (
+        "adjudicate --json --san --fens",
+        "games 20000 4 2 4096 false json san fens",
+    ),
+    ("adjudicate --json --json", NOTHING),
+    ("adjudicate --json=1", NOTHING),
+    ("mates w --fens", NOTHING),
+    ("check --json", NOTHING),
+    ("gen 1 2 --json", NOTHING),
+    ("gen 1 2 --san", NOTHING),
     ("mates", NOTHING),
     ("mates x", NOTHING),
     ("mates W", NOTHING),
@@ -158,6 +177,20 @@ fn spent(alloc: Global, limits: &Limits) -> Result<String, Fail> {
     Ok(text)
 }
 
+/// How a report is printed, but for certificates, as a text behind others.
+fn style_of(printing: &Printing) -> &'static str {
+    match (printing.json, printing.san, printing.fens) {
+        (false, false, false) => "",
+        (true, false, false) => " json",
+        (false, true, false) => " san",
+        (false, false, true) => " fens",
+        (true, true, false) => " json san",
+        (true, false, true) => " json fens",
+        (false, true, true) => " san fens",
+        (true, true, true) => " json san fens",
+    }
+}
+
 /// What is ordered, as a text.
 fn said_of(alloc: Global, order: &Option<Order>) -> Result<String, Fail> {
     let text = match order {
@@ -168,19 +201,30 @@ fn said_of(alloc: Global, order: &Option<Order>) -> Result<String, Fail> {
                 side,
                 workers,
                 depth,
+                printing,
             },
         ) => {
             let side = match side {
                 Color::White => "w",
                 Color::Black => "b",
             };
-            format!(in alloc; "mates {side} {workers} {depth}")?
+            format!(in alloc; "mates {side} {workers} {depth}{}", style_of(printing))?
         }
-        Some(Order::AdjudicateGames { limits, certs }) => {
-            format!(in alloc; "games {} {certs}", spent(alloc, limits)?)?
+        Some(Order::AdjudicateGames { limits, printing }) => {
+            let certs = printing.certs;
+            format!(in alloc;
+                "games {} {certs}{}",
+                spent(alloc, limits)?,
+                style_of(printing)
+            )?
         }
-        Some(Order::JudgePositions { limits, certs }) => {
-            format!(in alloc; "positions {} {certs}", spent(alloc, limits)?)?
+        Some(Order::JudgePositions { limits, printing }) => {
+            let certs = printing.certs;
+            format!(in alloc;
+                "positions {} {certs}{}",
+                spent(alloc, limits)?,
+                style_of(printing)
+            )?
         }
         Some(
             Order::GenGames {

@@ -84,18 +84,22 @@ mates_members q depth NoneWithin = member (codes "plies") null (member (codes "d
 mates_members q depth (Found plies lines more) =
     member (codes "plies") (count plies) (member (codes "lines") (array (line_items q lines)) (member (codes "more") (boolean more) no_members))
 
+-- what is said of an outcome under a number
+unfoldable pub outcome_members : Extras → ℕ → Outcome → Members
+outcome_members extras number (JudgedPosition line q d status) =
+    member (codes "position") (count number) (member (codes "line") (count line) (finding_members extras q d status no_members))
+outcome_members extras number (JudgedGame game d scan status judgment) =
+    member (codes "game") (count number) (span_members game.span (finding_members extras game.last d status (result_members game scan judgment)))
+outcome_members extras number (ListedMates line q depth found) =
+    member (codes "position") (count number) (member (codes "line") (count line) (member (codes "fen") (string (fen_text q)) (mates_members q depth found)))
+outcome_members extras number (RefusedLine line fault) =
+    member (codes "position") (count number) (member (codes "line") (count line) (member (codes "refused") (string (fen_fault_text fault)) no_members))
+outcome_members extras number (UnreadableGame span why) =
+    member (codes "game") (count number) (span_members span (member (codes "unreadable") (string (reason_text why)) no_members))
+
 -- an outcome under a number
-unfoldable pub outcome_json : Extras → ℕ → Outcome → Json
-outcome_json extras number (JudgedPosition line q d status) =
-    object (member (codes "position") (count number) (member (codes "line") (count line) (finding_members extras q d status no_members)))
-outcome_json extras number (JudgedGame game d scan status judgment) =
-    object (member (codes "game") (count number) (span_members game.span (finding_members extras game.last d status (result_members game scan judgment))))
-outcome_json extras number (ListedMates line q depth found) =
-    object (member (codes "position") (count number) (member (codes "line") (count line) (member (codes "fen") (string (fen_text q)) (mates_members q depth found))))
-outcome_json extras number (RefusedLine line fault) =
-    object (member (codes "position") (count number) (member (codes "line") (count line) (member (codes "refused") (string (fen_fault_text fault)) no_members)))
-outcome_json extras number (UnreadableGame span why) =
-    object (member (codes "game") (count number) (span_members span (member (codes "unreadable") (string (reason_text why)) no_members)))
+abbrev pub outcome_json : Extras → ℕ → Outcome → Json
+outcome_json extras number o = object (outcome_members extras number o)
 
 -- the line on an outcome
 abbrev pub outcome_line : Extras → ℕ → Outcome → List ℕ

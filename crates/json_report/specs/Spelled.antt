@@ -42,7 +42,7 @@ pub record IsMember (old : JsonText) (name : List ℕ) (j : Json) (new : JsonTex
   pub after : new.after_value ≡ true
 
 -- what stands once these members and the bracket behind them are written
-abbrev pub closed_by : JsonText → Members → List ℕ
+unfoldable pub closed_by : JsonText → Members → List ℕ
 closed_by now ms = now.text ++ members_text now.after_value ms
 
 -- what stands once these items and the bracket behind them are written

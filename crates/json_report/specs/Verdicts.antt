@@ -44,12 +44,16 @@ cert_members certs winner cert = if certs then member (codes "certificate") (str
 abbrev pub fen_members : Bool → Board → List Move → Members
 fen_members fens q ms = if fens then member (codes "fens") (array (texts (fens_of q ms))) no_members else no_members
 
+-- what is found about a side in a position
+unfoldable pub verdict_members : Extras → Board → Color → Verdict → Members
+verdict_members extras q winner (Winnable moves) =
+    member (codes "verdict") (string (codes "winnable")) (member (codes "plies") (count (length moves)) (line_members q moves (fen_members extras.fens q moves)))
+verdict_members extras q winner (Unwinnable cert) =
+    member (codes "verdict") (string (codes "unwinnable")) (ground_members (ground_of cert) (length cert) (cert_members extras.certs winner cert))
+verdict_members extras q winner (Undecided units depth) =
+    member (codes "verdict") (string (codes "undecided")) (member (codes "positions") (count units) (member (codes "depth") (count depth) no_members))
+verdict_members extras q winner Skipped = member (codes "verdict") (string (codes "skipped")) no_members
+
 -- the verdict on a side in a position
-unfoldable pub verdict_json : Extras → Board → Color → Verdict → Json
-verdict_json extras q winner (Winnable moves) =
-    object (member (codes "verdict") (string (codes "winnable")) (member (codes "plies") (count (length moves)) (line_members q moves (fen_members extras.fens q moves))))
-verdict_json extras q winner (Unwinnable cert) =
-    object (member (codes "verdict") (string (codes "unwinnable")) (ground_members (ground_of cert) (length cert) (cert_members extras.certs winner cert)))
-verdict_json extras q winner (Undecided units depth) =
-    object (member (codes "verdict") (string (codes "undecided")) (member (codes "positions") (count units) (member (codes "depth") (count depth) no_members)))
-verdict_json extras q winner Skipped = object (member (codes "verdict") (string (codes "skipped")) no_members)
+abbrev pub verdict_json : Extras → Board → Color → Verdict → Json
+verdict_json extras q winner verdict = object (verdict_members extras q winner verdict)

@@ -57,12 +57,22 @@ pub fn put_ground(
     ensures { OnOk result ((more : Members) → closed_by json.old (ground_members ground nodes more) ≡ closed_by json.new more) }
 {
     match ground {
-        Ground::Sets => put_text(b"by", b"sets", json),
-        Ground::Material => put_text(b"by", b"material", json),
-        Ground::LonePieces => put_text(b"by", b"lone pieces", json),
+        Ground::Sets => {
+            put_text(b"by", b"sets", json)?;
+            Ok(())
+        }
+        Ground::Material => {
+            put_text(b"by", b"material", json)?;
+            Ok(())
+        }
+        Ground::LonePieces => {
+            put_text(b"by", b"lone pieces", json)?;
+            Ok(())
+        }
         Ground::Graph => {
             put_text(b"by", b"graph", json)?;
-            put_count(alloc, b"nodes", nodes as u64, json)
+            put_count(alloc, b"nodes", nodes as u64, json)?;
+            Ok(())
         }
     }
 }

@@ -24,7 +24,8 @@ fn put_moves(moves: &[Move], json: &mut JsonText) -> Result<(), NoMemory>
     for m in moves {
         json.string(move_text(*m).as_bytes())?;
     }
-    json.end_array()
+    json.end_array()?;
+    Ok(())
 }
 
 /// Writes the member with the words of the moves of a line.
@@ -45,7 +46,8 @@ fn put_words(
         json.string(word.items())?;
         now = after(&now, *m);
     }
-    json.end_array()
+    json.end_array()?;
+    Ok(())
 }
 
 /// Writes the member with the position after each move of a line.
@@ -66,7 +68,8 @@ pub fn put_fens(
         let fen = write(alloc, &now)?;
         json.string(fen.items())?;
     }
-    json.end_array()
+    json.end_array()?;
+    Ok(())
 }
 
 /// Writes the members that say a line of moves.
@@ -80,5 +83,6 @@ pub fn put_line(
     ensures { OnOk result ((more : Members) → closed_by json.old (line_members position.now moves.now more) ≡ closed_by json.new more) }
 {
     put_moves(moves, json)?;
-    put_words(alloc, position, moves, json)
+    put_words(alloc, position, moves, json)?;
+    Ok(())
 }

@@ -27,7 +27,8 @@ fn put_one(
 {
     json.begin_object()?;
     put_line(alloc, position, moves, json)?;
-    json.end_object()
+    json.end_object()?;
+    Ok(())
 }
 
 /// Writes the member with all lines of moves.
@@ -45,7 +46,8 @@ fn put_lines(
     for moves in lines {
         put_one(alloc, position, moves.items(), json)?;
     }
-    json.end_array()
+    json.end_array()?;
+    Ok(())
 }
 
 /// Writes the members on the shortest mates in a position within so many plies.
@@ -63,12 +65,14 @@ pub fn put_mates(
     match shortest {
         Shortest::NoneWithin => {
             put_null(b"plies", json)?;
-            put_count(alloc, b"depth", u64::from(depth), json)
+            put_count(alloc, b"depth", u64::from(depth), json)?;
+            Ok(())
         }
         Shortest::Found { plies, lines, more } => {
             put_count(alloc, b"plies", u64::from(*plies), json)?;
             put_lines(alloc, position, lines.items(), json)?;
-            put_truth(b"more", *more, json)
+            put_truth(b"more", *more, json)?;
+            Ok(())
         }
     }
 }

@@ -7,7 +7,7 @@ ghost use Rattle.json.specs.Json.{Members, no_members, member, string};
 ghost use Rattle.report_words.specs.Reasons.{fen_fault_text, reason_text};
 ghost use Rattle.report_words.specs.Words.{status_text};
 ghost use Rattle.json_report.specs.Lines.{count};
-ghost use Rattle.json_report.specs.Outcomes.{span_members, finding_members, outcome_json, outcome_line};
+ghost use Rattle.json_report.specs.Outcomes.{span_members, finding_members, outcome_json, outcome_line, outcome_members};
 ghost use Rattle.json_report.specs.Spelled.{IsMember, IsValue, closed_by};
 ghost use Rattle.report_words.specs.LegalLines.{AreOfLegalMoves, HasLegalLines};
 
@@ -57,9 +57,26 @@ fn put_findings(
     ensures { OnOk result ((more : Members) → closed_by json.old (finding_members extras position.now decision.now status more) ≡ closed_by json.new more) }
 {
     put_fen(alloc, position, json)?;
-    put_verdict(alloc, extras, b"white", position, Color::White, &decision.white, json)?;
-    put_verdict(alloc, extras, b"black", position, Color::Black, &decision.black, json)?;
-    put_state(alloc, status, json)
+    put_verdict(
+        alloc,
+        extras,
+        b"white",
+        position,
+        Color::White,
+        &decision.white,
+        json,
+    )?;
+    put_verdict(
+        alloc,
+        extras,
+        b"black",
+        position,
+        Color::Black,
+        &decision.black,
+        json,
+    )?;
+    put_state(alloc, status, json)?;
+    Ok(())
 }
 
 /// Writes the members that say where a game stands in its text.
@@ -71,7 +88,8 @@ fn put_span(alloc: Global, span: Span, json: &mut JsonText) -> Result<(), NoMemo
     json.number(alloc, span.start)?;
     json.number(alloc, span.end)?;
     json.end_array()?;
-    put_count(alloc, b"line", span.line, json)
+    put_count(alloc, b"line", span.line, json)?;
+    Ok(())
 }
 
 /// Writes the member that says why a line is no position.
@@ -97,7 +115,8 @@ fn put_place(alloc: Global, number: u64, line: u64, json: &mut JsonText) -> Resu
     ensures { OnOk result ((more : Members) → closed_by json.old (member (codes "position") (count number) (member (codes "line") (count line) more)) ≡ closed_by json.new more) }
 {
     put_count(alloc, b"position", number, json)?;
-    put_count(alloc, b"line", line, json)
+    put_count(alloc, b"line", line, json)?;
+    Ok(())
 }
 
 /// Writes the members that say which game it is, by its number in the report.
@@ -105,11 +124,70 @@ fn put_game(alloc: Global, number: u64, span: Span, json: &mut JsonText) -> Resu
     ensures { OnOk result ((more : Members) → closed_by json.old (member (codes "game") (count number) (span_members span more)) ≡ closed_by json.new more) }
 {
     put_count(alloc, b"game", number, json)?;
-    put_span(alloc, span, json)
+    put_span(alloc, span, json)?;
+    Ok(())
+}
+
+/// Writes what is said of an outcome under its number.
+fn put_said(
+    alloc: Global,
+    extras: Extras,
+    number: u64,
+    outcome: &Outcome,
+    json: &mut JsonText,
+) -> Result<(), NoMemory>
+    requires printable { IsPrintableOutcome outcome.now }
+    requires legal { HasLegalLines outcome.now }
+    ensures { OnOk result (closed_by json.old (outcome_members extras number outcome.now) ≡ closed_by json.new no_members) }
+{
+    match outcome {
+        Outcome::JudgedPosition {
+            line,
+            position,
+            decision,
+            status,
+        } => {
+            put_place(alloc, number, *line, json)?;
+            put_findings(alloc, extras, position, decision, *status, json)?;
+            Ok(())
+        }
+        Outcome::JudgedGame {
+            game,
+            decision,
+            scan,
+            status,
+            judgment,
+        } => {
+            put_game(alloc, number, game.span, json)?;
+            put_findings(alloc, extras, &game.last, decision, *status, json)?;
+            put_results(alloc, game, scan, *judgment, json)?;
+            Ok(())
+        }
+        Outcome::ListedMates {
+            line,
+            position,
+            depth,
+            shortest,
+        } => {
+            put_place(alloc, number, *line, json)?;
+            put_fen(alloc, position, json)?;
+            put_mates(alloc, position, *depth, shortest, json)?;
+            Ok(())
+        }
+        Outcome::RefusedLine { line, fault } => {
+            put_place(alloc, number, *line, json)?;
+            put_refused(alloc, *fault, json)?;
+            Ok(())
+        }
+        Outcome::UnreadableGame { span, why } => {
+            put_game(alloc, number, *span, json)?;
+            put_unreadable(alloc, why, json)?;
+            Ok(())
+        }
+    }
 }
 
 /// Writes the object on an outcome under its number.
-#[tactic(auto, unfolding(crate::specs::Outcomes::outcome_json))]
 fn put_outcome(
     alloc: Global,
     extras: Extras,
@@ -122,47 +200,9 @@ fn put_outcome(
     ensures { OnOk result (IsValue json.old (outcome_json extras number outcome.now) json.new) }
 {
     json.begin_object()?;
-    match outcome {
-        Outcome::JudgedPosition {
-            line,
-            position,
-            decision,
-            status,
-        } => {
-            put_place(alloc, number, *line, json)?;
-            put_findings(alloc, extras, position, decision, *status, json)?;
-        }
-        Outcome::JudgedGame {
-            game,
-            decision,
-            scan,
-            status,
-            judgment,
-        } => {
-            put_game(alloc, number, game.span, json)?;
-            put_findings(alloc, extras, &game.last, decision, *status, json)?;
-            put_results(alloc, game, scan, *judgment, json)?;
-        }
-        Outcome::ListedMates {
-            line,
-            position,
-            depth,
-            shortest,
-        } => {
-            put_place(alloc, number, *line, json)?;
-            put_fen(alloc, position, json)?;
-            put_mates(alloc, position, *depth, shortest, json)?;
-        }
-        Outcome::RefusedLine { line, fault } => {
-            put_place(alloc, number, *line, json)?;
-            put_refused(alloc, *fault, json)?;
-        }
-        Outcome::UnreadableGame { span, why } => {
-            put_game(alloc, number, *span, json)?;
-            put_unreadable(alloc, why, json)?;
-        }
-    }
-    json.end_object()
+    put_said(alloc, extras, number, outcome, json)?;
+    json.end_object()?;
+    Ok(())
 }
 
 /// Appends the line on an outcome under its number: one object of JSON (RFC 8259) without blanks, and a line feed.
@@ -189,5 +229,6 @@ pub fn put_outcome_line(
     let mut json = JsonText::new(alloc);
     put_outcome(alloc, extras, number, outcome, &mut json)?;
     text.append(json.text.items())?;
-    text.append(b"\n")
+    text.append(b"\n")?;
+    Ok(())
 }

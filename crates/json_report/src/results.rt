@@ -24,7 +24,8 @@ fn put_edge(alloc: Global, edge: Edge, ply: u32, json: &mut JsonText) -> Result<
         Edge::Start => Ok(()),
         Edge::Live => Ok(()),
         Edge::Unclear => {
-            put_count(alloc, b"undecided", u64::from(ply.saturating_sub(1)), json)
+            put_count(alloc, b"undecided", u64::from(ply.saturating_sub(1)), json)?;
+            Ok(())
         }
     }
 }
@@ -41,7 +42,8 @@ fn put_scan(alloc: Global, scan: &Option<Scan>, json: &mut JsonText) -> Result<(
             json.begin_object()?;
             put_count(alloc, b"ply", u64::from(scan.ply), json)?;
             put_edge(alloc, scan.edge, scan.ply, json)?;
-            json.end_object()
+            json.end_object()?;
+            Ok(())
         }
     }
 }
@@ -102,5 +104,6 @@ pub fn put_results(
     put_truth(b"changed", changes_result(game.recorded, judgment), json)?;
     put_article(judgment.cause, json)?;
     put_truth(b"flagged", game.forfeit, json)?;
-    put_flag(fallen_flag(game, judgment.cause), json)
+    put_flag(fallen_flag(game, judgment.cause), json)?;
+    Ok(())
 }

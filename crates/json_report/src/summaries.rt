@@ -26,7 +26,8 @@ fn put_games(
     put_count(alloc, b"changed", totals.changed, json)?;
     put_count(alloc, b"undecided", totals.undecided, json)?;
     put_truth(b"closed", closed, json)?;
-    json.end_object()
+    json.end_object()?;
+    Ok(())
 }
 
 /// Writes what was counted over positions.
@@ -39,7 +40,8 @@ fn put_positions(alloc: Global, totals: &Totals, json: &mut JsonText) -> Result<
     put_count(alloc, b"refused", totals.refused, json)?;
     put_count(alloc, b"dead", totals.dead, json)?;
     put_count(alloc, b"undecided", totals.undecided, json)?;
-    json.end_object()
+    json.end_object()?;
+    Ok(())
 }
 
 /// Writes what was counted over positions whose shortest mates are listed.
@@ -51,7 +53,8 @@ fn put_mates(alloc: Global, totals: &Totals, json: &mut JsonText) -> Result<(), 
     put_count(alloc, b"positions", totals.items, json)?;
     put_count(alloc, b"refused", totals.refused, json)?;
     put_count(alloc, b"found", totals.found, json)?;
-    json.end_object()
+    json.end_object()?;
+    Ok(())
 }
 
 /// Appends the last line of a report on games, as `{"games":2,"unreadable":1,"changed":0,"undecided":0,"closed":true}`. A text is
@@ -67,7 +70,8 @@ pub fn put_games_line(
     let mut json = JsonText::new(alloc);
     put_games(alloc, totals, closed, &mut json)?;
     text.append(json.text.items())?;
-    text.append(b"\n")
+    text.append(b"\n")?;
+    Ok(())
 }
 
 /// Appends the last line of a report on positions, as `{"positions":2,"refused":1,"dead":1,"undecided":0}`.
@@ -77,7 +81,8 @@ pub fn put_positions_line(alloc: Global, totals: &Totals, text: &mut Text) -> Re
     let mut json = JsonText::new(alloc);
     put_positions(alloc, totals, &mut json)?;
     text.append(json.text.items())?;
-    text.append(b"\n")
+    text.append(b"\n")?;
+    Ok(())
 }
 
 /// Appends the last line of a report on shortest mates, as `{"positions":2,"refused":0,"found":1}`.
@@ -87,5 +92,6 @@ pub fn put_mates_line(alloc: Global, totals: &Totals, text: &mut Text) -> Result
     let mut json = JsonText::new(alloc);
     put_mates(alloc, totals, &mut json)?;
     text.append(json.text.items())?;
-    text.append(b"\n")
+    text.append(b"\n")?;
+    Ok(())
 }

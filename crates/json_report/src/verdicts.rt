@@ -1,11 +1,12 @@
 //! The verdict on a side.
 
-ghost use Rattle.std.specs.Prelude.{OnOk};
+ghost use Rattle.std.specs.Prelude.{◌≡◌, OnOk};
 ghost use Rattle.cha_verdict.specs.Verdicts.{IsPrintable};
 ghost use Rattle.cha_verdict.specs.declared.verdicts.Verdict.TheVariants.{Winnable, Unwinnable, Undecided};
+ghost use Rattle.json.specs.Json.{no_members};
 ghost use Rattle.report_words.specs.LegalLines.{AreLegal, IsOfLegalMoves};
-ghost use Rattle.json_report.specs.Spelled.{IsMember, IsValue};
-ghost use Rattle.json_report.specs.Verdicts.{verdict_json};
+ghost use Rattle.json_report.specs.Spelled.{IsMember, closed_by};
+ghost use Rattle.json_report.specs.Verdicts.{cert_members, fen_members, verdict_json, verdict_members};
 
 use crate::extras::Extras;
 use crate::grounds::{ground_of, put_ground};
@@ -20,8 +21,25 @@ use cha_verdict::Verdict;
 use json_text::JsonText;
 use std::alloc::Global;
 
+/// Writes the positions after the moves of a line, where these are printed.
+fn put_fens_if(
+    alloc: Global,
+    fens: bool,
+    position: &Position,
+    moves: &[Move],
+    json: &mut JsonText,
+) -> Result<(), NoMemory>
+    requires { AreLegal position.now moves.now }
+    ensures { OnOk result (closed_by json.old (fen_members fens position.now moves.now) ≡ closed_by json.new no_members) }
+{
+    if fens {
+        put_fens(alloc, position, moves, json)?;
+    }
+    Ok(())
+}
+
 /// Writes that a side can mate, and how.
-#[tactic(auto, unfolding(crate::specs::Verdicts::verdict_json))]
+#[tactic(auto, unfolding(crate::specs::Verdicts::verdict_members))]
 fn put_winnable(
     alloc: Global,
     extras: Extras,
@@ -31,21 +49,37 @@ fn put_winnable(
     json: &mut JsonText,
 ) -> Result<(), NoMemory>
     requires { AreLegal position.now moves.now }
-    ensures { OnOk result (IsValue json.old (verdict_json extras position.now winner (Winnable moves.now)) json.new) }
+    ensures { OnOk result (closed_by json.old (verdict_members extras position.now winner (Winnable moves.now)) ≡ closed_by json.new no_members) }
 {
     let _winner = winner;
-    json.begin_object()?;
     put_text(b"verdict", b"winnable", json)?;
     put_count(alloc, b"plies", moves.len() as u64, json)?;
     put_line(alloc, position, moves, json)?;
-    if extras.fens {
-        put_fens(alloc, position, moves, json)?;
+    put_fens_if(alloc, extras.fens, position, moves, json)?;
+    Ok(())
+}
+
+/// Writes a certificate, where certificates are printed.
+fn put_cert_if(
+    alloc: Global,
+    certs: bool,
+    winner: Color,
+    cert: &Cert,
+    json: &mut JsonText,
+) -> Result<(), NoMemory>
+    requires { IsPrintable (Unwinnable cert.now) }
+    ensures { OnOk result (closed_by json.old (cert_members certs winner cert.now) ≡ closed_by json.new no_members) }
+{
+    if certs {
+        let shared = share(alloc, cert)?;
+        let written = write2(alloc, winner, &shared)?;
+        put_text(b"certificate", written.items(), json)?;
     }
-    json.end_object()
+    Ok(())
 }
 
 /// Writes that a side cannot mate, and why.
-#[tactic(auto, unfolding(crate::specs::Verdicts::verdict_json))]
+#[tactic(auto, unfolding(crate::specs::Verdicts::verdict_members))]
 fn put_unwinnable(
     alloc: Global,
     extras: Extras,
@@ -55,23 +89,17 @@ fn put_unwinnable(
     json: &mut JsonText,
 ) -> Result<(), NoMemory>
     requires { IsPrintable (Unwinnable cert.now) }
-    ensures { OnOk result (IsValue json.old (verdict_json extras position.now winner (Unwinnable cert.now)) json.new) }
+    ensures { OnOk result (closed_by json.old (verdict_members extras position.now winner (Unwinnable cert.now)) ≡ closed_by json.new no_members) }
 {
     let _position = position;
-    json.begin_object()?;
     put_text(b"verdict", b"unwinnable", json)?;
     let nodes = cert.nodes();
     put_ground(alloc, ground_of(nodes), nodes.len(), json)?;
-    if extras.certs {
-        let shared = share(alloc, cert)?;
-        let written = write2(alloc, winner, &shared)?;
-        put_text(b"certificate", written.items(), json)?;
-    }
-    json.end_object()
+    put_cert_if(alloc, extras.certs, winner, cert, json)?;
+    Ok(())
 }
 
 /// Writes what a search spent that found nothing.
-#[tactic(auto, unfolding(crate::specs::Verdicts::verdict_json))]
 fn put_undecided(
     alloc: Global,
     extras: Extras,
@@ -81,19 +109,18 @@ fn put_undecided(
     depth: u8,
     json: &mut JsonText,
 ) -> Result<(), NoMemory>
-    ensures { OnOk result (IsValue json.old (verdict_json extras position.now winner (Undecided units depth)) json.new) }
+    ensures { OnOk result (closed_by json.old (verdict_members extras position.now winner (Undecided units depth)) ≡ closed_by json.new no_members) }
 {
-    let _unused = (extras, position, winner);
-    json.begin_object()?;
+    let _position = position;
+    let _asked = (extras, winner);
     put_text(b"verdict", b"undecided", json)?;
     put_count(alloc, b"positions", u64::from(units), json)?;
     put_count(alloc, b"depth", u64::from(depth), json)?;
-    json.end_object()
+    Ok(())
 }
 
-/// Writes the verdict on a side in a position.
-#[tactic(auto, unfolding(crate::specs::Verdicts::verdict_json))]
-fn put_value(
+/// Writes what is found about a side in a position.
+fn put_found(
     alloc: Global,
     extras: Extras,
     position: &Position,
@@ -103,7 +130,7 @@ fn put_value(
 ) -> Result<(), NoMemory>
     requires printable { IsPrintable verdict.now }
     requires legal { IsOfLegalMoves position.now verdict.now }
-    ensures { OnOk result (IsValue json.old (verdict_json extras position.now winner verdict.now) json.new) }
+    ensures { OnOk result (closed_by json.old (verdict_members extras position.now winner verdict.now) ≡ closed_by json.new no_members) }
 {
     match verdict {
         Verdict::Winnable(moves) => {
@@ -114,9 +141,8 @@ fn put_value(
             put_undecided(alloc, extras, position, winner, *units, *depth, json)
         }
         Verdict::Skipped => {
-            json.begin_object()?;
             put_text(b"verdict", b"skipped", json)?;
-            json.end_object()
+            Ok(())
         }
     }
 }
@@ -136,5 +162,8 @@ pub fn put_verdict(
     ensures { OnOk result (IsMember json.old name.now (verdict_json extras position.now winner verdict.now) json.new) }
 {
     json.key(name)?;
-    put_value(alloc, extras, position, winner, verdict, json)
+    json.begin_object()?;
+    put_found(alloc, extras, position, winner, verdict, json)?;
+    json.end_object()?;
+    Ok(())
 }

@@ -1,7 +1,7 @@
 use Rattle.std.proofs.Common.{refl, Err, Ok, ap, sym, ◌∙◌, arith}
 use Rattle.cha_outside.proofs.Gathered.{gathers_nothing}
 use Rattle.adjudicate.proofs.RunEndings.{rose_in}
-use Rattle.adjudicate.proofs.ReportLoop.{at_first, retook, gave, room_at, same_first, same_item, same_settled, same_count, still_asked, same_answers, not_more, all_taken, gathered, not_read, no_memory, cut_item, all_judged}
+use Rattle.adjudicate.proofs.ReportLoop.{at_first, retook, gave, room_at, same_first, same_item, same_settled, same_closed, same_count, still_asked, same_answers, not_more, all_taken, gathered, not_read, no_memory, cut_item, all_judged}
 use Rattle.adjudicate.proofs.reports.write_report.Goals as goal
 
 pub loop-found-init : goal.loop-found-init
@@ -38,7 +38,8 @@ returns-in_default g c = λ left faults consumed before. (
     let few = not_more _ 268435456 (λ long. let f = sym c.in-Ok.is ∙ e.too_long.1 long in cc) in
     let none = e.none (c.in-Ok.is ∙ ap Ok c.in_default.is) in
     let last = c.end_report.ensures in
-    all_judged _ _ _ _ _ _ _ _ _ _ at _ _ _ _ all (omega (arith, before, i.source_later, e.later)) _ _ (omega (arith, last.later, i.sink_later)) few (same_count _ _ _ _ i.kind none.1) (e.end i.end none.0)
+    let shut = same_closed _ _ _ _ (e.kind ∙ i.kind) (c.is_closed.ensures none.0) in
+    all_judged _ _ _ _ _ _ _ _ _ _ at _ _ _ _ all (omega (arith, before, i.source_later, e.later)) _ _ _ shut (omega (arith, last.later, i.sink_later)) few (same_count _ _ _ _ i.kind none.1) (e.end i.end none.0)
     last.whole last.cut last.no_memory (λ is. rose_in _ _ _ i.sink_later (last.cause is)) last.either)
 
 pub judge-requires-clause-asked : goal.judge-requires-clause-asked

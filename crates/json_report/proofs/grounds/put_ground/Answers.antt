@@ -1,0 +1,20 @@
+use Rattle.std.proofs.Common.{◌∙◌, ap, sym, ◌++◌}
+use Rattle.json_report.specs.Verdicts.{ground_members}
+use Rattle.json_report.proofs.Stepping.{next}
+use Rattle.json_report.proofs.grounds.put_ground.Goals as goal
+
+pub returns-in_ok-put_text-in-Sets : goal.returns-in_ok-put_text-in-Sets
+unfolding ground_members
+returns-in_ok-put_text-in-Sets c = λ more. next _ _ _ _ _ c.in_ok-put_text-in-Sets.ensures
+
+pub returns-in_ok-put_text-in-Material : goal.returns-in_ok-put_text-in-Material
+unfolding ground_members
+returns-in_ok-put_text-in-Material c = λ more. next _ _ _ _ _ c.in_ok-put_text-in-Material.ensures
+
+pub returns-in_ok-put_text-in-LonePieces : goal.returns-in_ok-put_text-in-LonePieces
+unfolding ground_members
+returns-in_ok-put_text-in-LonePieces c = λ more. next _ _ _ _ _ c.in_ok-put_text-in-LonePieces.ensures
+
+pub returns-in_ok-put_count-in-Graph : goal.returns-in_ok-put_count-in-Graph
+unfolding ground_members
+returns-in_ok-put_count-in-Graph c = λ more. next _ _ _ _ _ c.in_ok-put_text-in-Graph.ensures ∙ next _ _ _ _ _ c.in_ok-put_count-in-Graph.ensures

@@ -1,0 +1,6 @@
+use Rattle.std.proofs.Common.{◌∙◌, ap, sym, ◌++◌}
+use Rattle.json_report.proofs.Stepping.{whole}
+use Rattle.json_report.proofs.mates.put_one.Goals as goal
+
+pub returns : goal.returns
+returns c = whole _ _ _ _ _ c.in_ok-begin_object.ensures (c.in_ok-put_line.ensures _) c.in_ok-end_object.ensures

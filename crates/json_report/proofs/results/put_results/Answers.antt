@@ -1,0 +1,6 @@
+use Rattle.std.proofs.Common.{◌∙◌, ap, sym, ◌++◌}
+use Rattle.json_report.proofs.Stepping.{next}
+use Rattle.json_report.proofs.results.put_results.Goals as goal
+
+pub returns : goal.returns
+returns c = next _ _ _ _ _ c.in_ok-put_scan.ensures ∙ next _ _ _ _ _ c.in_ok-put_result.ensures ∙ next _ _ _ _ _ c.in_ok-put_result-2.ensures ∙ next _ _ _ _ _ c.in_ok-put_truth.ensures ∙ next _ _ _ _ _ c.in_ok-put_article.ensures ∙ next _ _ _ _ _ c.in_ok-put_truth-2.ensures

@@ -5,10 +5,13 @@ use Rattle.adjudicate.proofs.ReportLoop.{not_more}
 use Rattle.adjudicate.proofs.readers.next_line.Goals as goal
 
 pub returns-in-Ok-Some-clause-item : goal.returns-in-Ok-Some-clause-item
-returns-in-Ok-Some-clause-item g c = ?
+returns-in-Ok-Some-clause-item g c = line_at (text_lines c.next.new.self.taken) c.args.reader.now.given c.in-Ok-Some.line (rw c.in-Ok-Some.field-0-is at c.in-Ok-Some.ensures.line) ∙ ap Some (sym c.item_of_line.ensures.item)
 
 pub returns-in-Ok-Some-clause-given : goal.returns-in-Ok-Some-clause-given
-returns-in-Ok-Some-clause-given g c = ?
+returns-in-Ok-Some-clause-given g c =
+    let few : length c.next.new.self.taken ≤ 268435456 = not_more _ 268435456 (λ long. let e = sym c.in-Ok-Some.is ∙ c.next.ensures.too_long.1 long in cc) in
+    let there : c.args.reader.now.given < length c.next.new.self.taken = line_given_few c.next.new.self.taken c.args.reader.now.given c.in-Ok-Some.line (rw c.in-Ok-Some.field-0-is at c.in-Ok-Some.ensures.line) in
+    (rw c.in-Ok-Some.field-0-is at c.in-Ok-Some.ensures.given, omega (arith, there, few))
 
 pub returns-in-Ok-Some-clause-first : goal.returns-in-Ok-Some-clause-first
 returns-in-Ok-Some-clause-first g c = lines_first _ _ _ c.next.ensures.first

@@ -1,6 +1,7 @@
 use Rattle.std.proofs.Common.{refl, Err, Ok, ap, sym, ◌∙◌, arith}
 use Rattle.cha_outside.proofs.Gathered.{gathers_nothing}
 use Rattle.adjudicate.proofs.RunEndings.{rose_in}
+use Rattle.adjudicate.proofs.LegalLines.{sound_is_legal}
 use Rattle.adjudicate.proofs.ReportLoop.{at_first, retook, gave, room_at, same_first, same_item, same_settled, same_closed, same_count, still_asked, same_answers, not_more, all_taken, gathered, not_read, no_memory, cut_item, all_judged}
 use Rattle.adjudicate.proofs.reports.write_report.Goals as goal
 
@@ -65,6 +66,9 @@ returns-in_default-write_outcome g c = λ left faults consumed before. (
     let few = not_more _ 268435456 (λ long. let f = sym c.in-Ok.is ∙ e.too_long.1 long in cc) in
     let same = c.in_default-write_outcome.ensures.untouched in
     rw same (no_memory _ _ _ _ _ _ _ _ _ _ at _ _ _ _ all (omega (arith, before, i.source_later, e.later)) i.sink_later few))
+
+pub write_outcome-requires-clause-legal : goal.write_outcome-requires-clause-legal
+write_outcome-requires-clause-legal g c = sound_is_legal _ _ c.in-Ok-judge.ensures.answers.1
 
 pub write_outcome-requires-clause-room : goal.write_outcome-requires-clause-room
 write_outcome-requires-clause-room g c =

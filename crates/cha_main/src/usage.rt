@@ -37,6 +37,7 @@ fn about_setting(setting: Setting) -> &'static str {
         Setting::Json => "prints each block and the summary as a line of JSON",
         Setting::San => "prints moves as words, as Nf2#",
         Setting::Fens => "prints the position after each move, behind --json",
+        Setting::FlaggedDraws => "examines drawn games in which a flag fell",
     }
 }
 

@@ -1,9 +1,11 @@
 //! The verdict on a side.
 
-ghost use Rattle.std.specs.Prelude.{◌≡◌, OnOk};
+ghost use Rattle.std.specs.Prelude.{◌≡◌, OnOk, codes};
+ghost use Rattle.cert_text.specs.SharedSpelled.{shared_text};
+ghost use Rattle.cha_cert.specs.Shared.{shared_of};
 ghost use Rattle.cha_verdict.specs.Verdicts.{IsPrintable};
 ghost use Rattle.cha_verdict.specs.declared.verdicts.Verdict.TheVariants.{Winnable, Unwinnable, Undecided};
-ghost use Rattle.json.specs.Json.{no_members};
+ghost use Rattle.json.specs.Json.{no_members, string};
 ghost use Rattle.report_words.specs.LegalLines.{AreLegal, IsOfLegalMoves};
 ghost use Rattle.json_report.specs.Spelled.{IsMember, closed_by};
 ghost use Rattle.json_report.specs.Verdicts.{cert_members, fen_members, verdict_json, verdict_members};
@@ -59,6 +61,21 @@ fn put_winnable(
     Ok(())
 }
 
+/// Writes the member with a certificate, its equal sets written once.
+fn put_cert(
+    alloc: Global,
+    winner: Color,
+    cert: &Cert,
+    json: &mut JsonText,
+) -> Result<(), NoMemory>
+    requires { IsPrintable (Unwinnable cert.now) }
+    ensures { OnOk result (IsMember json.old (codes "certificate") (string (shared_text winner (shared_of cert.now))) json.new) }
+{
+    let shared = share(alloc, cert)?;
+    let written = write2(alloc, winner, &shared)?;
+    put_text(b"certificate", written.items(), json)
+}
+
 /// Writes a certificate, where certificates are printed.
 fn put_cert_if(
     alloc: Global,
@@ -71,9 +88,7 @@ fn put_cert_if(
     ensures { OnOk result (closed_by json.old (cert_members certs winner cert.now) ≡ closed_by json.new no_members) }
 {
     if certs {
-        let shared = share(alloc, cert)?;
-        let written = write2(alloc, winner, &shared)?;
-        put_text(b"certificate", written.items(), json)?;
+        put_cert(alloc, winner, cert, json)?;
     }
     Ok(())
 }

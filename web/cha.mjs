@@ -27,7 +27,7 @@ class Cha {
             const out = call.room(room);
             const answer = call.number(call.exports.cha_run(...order, ...text, ...out, used[0]));
             const length = call.wordAt(used[0]);
-            if (answer !== NO_ROOM) return { answer, output: call.copy(out[0], answer === Answer.usage ? 0 : length) };
+            if (answer !== NO_ROOM) return { answer, output: call.copy(out[0], length) };
             call.exports.give(out[0]);
             room = length;
         }

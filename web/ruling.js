@@ -81,7 +81,7 @@ function wordsOfSide(side, found) {
     switch (found.verdict) {
         case "winnable":
             if (found.plies === 0) return [say("has_mated", { side: name }), ""];
-            return [say("can_mate", { side: name }), say("can_mate_in", { plies: found.plies, line: found.san.join(" ") })];
+            return [say("can_mate", { side: name }), say("can_mate_by", { line: found.san.join(" ") })];
         case "unwinnable":
             return [say("cannot_mate", { side: name }), say(`why_${found.by}`, { side: name, nodes: counted(found.nodes ?? 0) })];
         case "undecided":

@@ -110,7 +110,7 @@ const TEXTS = {
         was_kept: "Recorded {recorded}, and so by the Laws.",
 
         can_mate: "{side} can checkmate",
-        can_mate_in: "For example in {plies} plies: {line}",
+        can_mate_by: "For example: {line}",
         has_mated: "{side} has checkmated",
         cannot_mate: "{side} can never checkmate",
         why_sets: "Whatever both sides play, no man ever leaves certain squares, and no mate for {side} fits into them. Choose a man, here or on the board, to see every square on which it may ever stand.",

@@ -67,9 +67,12 @@ def llvm_module(kit, room, crate):
     kit_that_keeps(kit, room)
     folder = f"{TOP}/crates/{crate}"
     archive = f"{folder}/out/lib{crate}.a"
-    if os.path.exists(archive):
-        os.remove(archive)
-    run([f"{room}/kit/bin/rt", "lib"], cwd=folder)
+    # Without its archive the library is compiled again. The archive that others were made of stays what it was.
+    os.replace(archive, f"{archive}.kept")
+    try:
+        run([f"{room}/kit/bin/rt", "lib"], cwd=folder)
+    finally:
+        os.replace(f"{archive}.kept", archive)
     clang = [f"{kit}/toolchain/bin/clang", "--target=x86_64-unknown-linux-gnu", "-x", "ir", f"{room}/module.bc"]
     run([*clang, "-S", "-emit-llvm", "-O0", "-Xclang", "-disable-llvm-passes", "-o", f"{room}/printed.ll"])
     with open(f"{room}/printed.ll", encoding="utf-8", errors="surrogateescape") as file:

@@ -29,11 +29,9 @@ STYLES = [["--certs"], ["--json"], ["--json", "--fens", "--certs"]]
 KNIGHT = "6k1/8/8/8/6n1/8/6PP/6RK b - -"
 WALL = "4k3/7B/8/p1p1p1p1/P1P1P1P1/8/8/4K3 w - -"
 MARKUP = '<img src=x onerror="document.title=1"> w - -'
-# The whole budget and the greatest depth are spent on it without an answer.
-LONG = {"fen": "@long@", "budget": "100000", "depth": "8"}
 TAB, ENTER, RIGHT, LEFT, END = "\ue004", "\ue007", "\ue014", "\ue012", "\ue010"
 CONTROL = "\ue009"
-IDLE = "return document.getElementById('working').hidden"
+IDLE = "return document.body.dataset.busy === 'no'"
 DROP = """
 const bytes = Uint8Array.from(atob(arguments[0]), (letter) => letter.charCodeAt(0));
 const data = new DataTransfer();
@@ -147,7 +145,7 @@ class OnPage:
         self.browser.type("#text", KNIGHT + CONTROL + "ax")
         self.assertEqual(self.browser.run("return document.getElementById('text').value"), "")
         self.browser.type("#text", CONTROL + "v")
-        self.browser.until("return !document.getElementById('ruling').hidden")
+        self.browser.until(IDLE)
         self.assertIn("can still checkmate", self.browser.text("#words"))
         self.browser.click("input[value=white]")
         self.browser.until("return document.getElementById('words').textContent.startsWith('White')")
@@ -212,7 +210,7 @@ class OnPage:
         self.open()
         self.browser.run(WATCH)
         self.drop(many, "games.pgn")
-        self.browser.until("return !document.getElementById('ruling').hidden")
+        self.browser.until(IDLE)
         self.assertGreaterEqual(wanted["games"], 2000)
         self.assertLess(self.browser.run("return window.longest"), 1000)
         words = self.browser.text("#words")
@@ -235,17 +233,23 @@ class OnPage:
         os.remove(path)
 
     def test_a_long_search_is_stopped(self):
-        self.browser.open(self.address + "#" + urlencode(LONG))
-        self.browser.until("return !document.getElementById('working').hidden", 5)
+        with open(SAMPLES[1], "rb") as file:
+            games = file.read() + b"\n"
+        self.open()
+        self.browser.type("#text", "typed before")
+        self.drop(games * 20000, "long.pgn")
+        self.browser.until("return asking.items?.length > 100")
         self.picture("working")
         self.browser.click("#stop")
         self.browser.until(IDLE, 5)
-        self.assertEqual(self.browser.run("return document.getElementById('text').value"), LONG["fen"])
+        self.assertLess(self.browser.run("return asking.items.length"), 20000 * games.count(b"[White "))
+        self.assertIn("Stopped", self.browser.text("#complaint"))
+        self.assertEqual(self.browser.run("return document.getElementById('text').value"), "typed before")
         self.ask(WALL)
         self.assertIn("Dead position", self.browser.text("#words"))
 
     def test_markup_is_text(self):
-        for text, why in ((MARKUP, "shape"), (WALL.replace(" w", "<b> w"), "shape"), (f'[FEN "{MARKUP.replace(chr(34), "")}"] *', "bad FEN: shape")):
+        for text, why in ((MARKUP, "bad token at byte 0"), (WALL.replace(" w", "<b> w"), "shape"), (f'[FEN "{MARKUP.replace(chr(34), "")}"] *', "bad FEN: shape")):
             self.open()
             self.ask(text)
             self.assertIn(why, self.browser.text("#complaint"))
@@ -280,7 +284,7 @@ class OnPage:
             if self.browser.run(focused) != wanted:
                 self.assertIn(self.browser.run("return document.activeElement.value"), wanted)
         self.browser.press(ENTER)
-        self.browser.until("return !document.getElementById('ruling').hidden")
+        self.browser.until(IDLE)
         for _ in range(40):
             self.browser.press(TAB)
             if self.browser.run("return document.activeElement.dataset.man") == "e1":
@@ -326,7 +330,7 @@ class Dark(unittest.TestCase):
         with Browser(dark=True) as browser:
             browser.resize(1200, 1000)
             browser.open(f"file://{MADE}/cha.html#" + urlencode({"fen": KNIGHT, "flag": "white"}))
-            browser.until("return !document.getElementById('ruling').hidden")
+            browser.until(IDLE)
             colour = browser.run("return getComputedStyle(document.body).backgroundColor")
             os.makedirs(PICTURES, exist_ok=True)
             browser.screenshot(f"{PICTURES}/dark.png")

@@ -15,7 +15,7 @@ const EXAMPLES = {
     },
 };
 const SHOWN_AS_TEXT = 200000;
-const TROUBLES = { 4: "too_long", 5: "no_memory" };
+const TROUBLES = { 1: "no_order", 4: "too_long", 5: "no_memory" };
 
 const at = Object.fromEntries([...document.querySelectorAll("[id]")].map((it) => [it.id.replace(/-(\w)/g, (_, letter) => letter.toUpperCase()), it]));
 const asking = { address: null, source: new Uint8Array(), run: 0 };
@@ -48,23 +48,29 @@ function judge() {
 
 /** Rules on a text. Where it was typed, the address says so. */
 async function judgeBytes(bytes, text = null) {
+    // What was under way is of no use any more.
+    if (document.body.dataset.busy === "yes") work.stop();
     const run = ++asking.run;
-    const ended = begin(bytes);
+    begin(bytes);
     const told = await work.ask("judge", { bytes, options: options(), flag: chosenFlag() }, (message) => hear(message, run));
     if (run !== asking.run) return;
     at.working.hidden = true;
-    if (text !== null) remember(text);
-    if (told.kind === "failed") return complain(TROUBLES[told.answer] ? say(TROUBLES[told.answer]) : said(told));
-    if (told.kind === "stopped") complain(say("stopped"));
-    await ended();
+    if (text !== null && told.kind !== "failed") remember(text);
+    await end(told);
+    if (run === asking.run) document.body.dataset.busy = "no";
 }
 
-function said({ answer, why }) {
-    return say("failed", { why: answer === 1 ? "--budget, --depth" : why });
+/** Shows how a run ended, and what it found. */
+function end(told) {
+    if (told.kind === "failed") return complain(TROUBLES[told.answer] ? say(TROUBLES[told.answer]) : say("failed", { why: told.why }));
+    if (told.kind !== "stopped") return showItems();
+    complain(say("stopped"));
+    return asking.items.length ? showItems() : undefined;
 }
 
-/** Clears what was shown; answers what is to be done at the end. */
+/** Clears what was shown. */
 function begin(bytes) {
+    document.body.dataset.busy = "yes";
     complain("");
     at.ruling.hidden = at.position.hidden = at.table.hidden = true;
     asking.source = bytes;
@@ -72,7 +78,6 @@ function begin(bytes) {
     at.progress.removeAttribute("value");
     at.told.textContent = say("busy");
     at.working.hidden = false;
-    return showItems;
 }
 
 function hear(message, run) {

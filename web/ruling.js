@@ -45,6 +45,7 @@ function wordsOfPosition(item) {
     const positions = undecided && counted(undecided.positions);
     if (can.length === 1) {
         const [side, other] = [sideName(can[0]), sideName(otherSide(can[0]))];
+        if (item[otherSide(can[0])].verdict === "skipped") return say("rule_live", { can: side });
         return undecided ? say("rule_some", { can: side, other, positions }) : say("rule_one", { can: side, cannot: other });
     }
     if (white.verdict === black.verdict) return say("rule_undecided", { positions });
@@ -76,7 +77,7 @@ function wordsOfDead(game, firstSide) {
 }
 
 /** A side's verdict in words: what it is, and what shows it. */
-function wordsOfSide(side, found) {
+function wordsOfSide(side, found, isPosition) {
     const name = sideName(side);
     switch (found.verdict) {
         case "winnable":
@@ -87,7 +88,7 @@ function wordsOfSide(side, found) {
         case "undecided":
             return [say("undecided", { side: name }), say("undecided_after", { positions: counted(found.positions), depth: found.depth })];
         default:
-            return [say("skipped", { side: name }), say("skipped_why")];
+            return [say("skipped", { side: name }), say(isPosition ? "skipped_position" : "skipped_why", { other: sideName(otherSide(side)) })];
     }
 }
 

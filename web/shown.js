@@ -54,7 +54,7 @@ class Shown {
     }
 
     drawnSide(side, found) {
-        const [head, why] = wordsOfSide(side, found);
+        const [head, why] = wordsOfSide(side, found, this.item.game === undefined);
         const card = made("div", { className: "side" }, made("h2", { textContent: head }), made("p", { textContent: why }));
         card.dataset.side = side;
         const buttons = made("div", { className: "buttons" });

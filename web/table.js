@@ -29,12 +29,17 @@ class Table {
 
     add(items) {
         this.items.push(...items);
-        if (this.elements.rows.childElementCount < this.limit) this.draw();
-        else this.count();
+        const room = this.limit - this.elements.rows.childElementCount;
+        this.elements.rows.append(...items.filter((it) => this.passes(it)).slice(0, room).map((item) => this.row(item)));
+        this.count();
+    }
+
+    passes(item) {
+        return item.changed || !this.elements.changed.checked;
     }
 
     wanted() {
-        return this.elements.changed.checked ? this.items.filter((it) => it.changed) : this.items;
+        return this.items.filter((it) => this.passes(it));
     }
 
     grow() {

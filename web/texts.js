@@ -31,6 +31,7 @@ const TEXTS = {
         look_further: "Look further: 100,000 positions",
         empty: "Nothing to judge: paste a position or a game.",
         failed: "The module gave up on this input: {why}",
+        no_order: "The limits are whole numbers: 1 to 100,000 positions, 2 to 8 plies.",
         too_long: "The input has more than 268,435,456 bytes.",
         no_memory: "There is not enough memory for this input.",
         refused: "No position: {why}",
@@ -100,6 +101,7 @@ const TEXTS = {
         rule_stands: "The recorded result stands: {result}.",
         rule_open: "The game goes on: nothing in the position ends it.",
         rule_both: "Play goes on: both sides can still checkmate.",
+        rule_live: "Play goes on: {can} can still checkmate.",
         rule_one: "Play goes on: {can} can still checkmate, {cannot} cannot.",
         rule_some: "Play goes on: {can} can still checkmate. Of {other} it is not decided within {positions} positions.",
         rule_undecided: "Not decided within {positions} positions.",
@@ -121,6 +123,7 @@ const TEXTS = {
         undecided_after: "{positions} positions were explored and no mate was met; no {depth} plies mate.",
         skipped: "{side} was not examined",
         skipped_why: "The result cannot depend on it.",
+        skipped_position: "The game goes on either way. To see it, say above that the flag of {other} fell.",
         squares_of: "{man} on {square}: {count} squares on which it may ever stand.",
         stands_fixed: "{man} on {square} can never move and never be captured.",
 

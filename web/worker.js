@@ -3,12 +3,14 @@
 const CHUNK = 65536;
 const SMALL = 65536;
 const LINE_FEED = 10;
+let opened = null;
 let cha = null;
 
 onmessage = async ({ data }) => {
     try {
-        if (data.job === "open") cha = await open(data.module);
-        else JOBS[data.job](data, (told) => postMessage({ id: data.id, ...told }));
+        if (data.job === "open") opened = open(data.module);
+        cha = await opened;
+        JOBS[data.job]?.(data, (told) => postMessage({ id: data.id, ...told }));
         postMessage({ id: data.id, kind: "end" });
     } catch (error) {
         postMessage({ id: data.id, kind: "failed", answer: error.answer, why: String(error.message ?? error) });

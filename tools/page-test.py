@@ -121,9 +121,9 @@ class OnPage:
         self.browser.type("#text", CONTROL + ENTER)
         self.browser.until(IDLE)
 
-    def picture(self, name):
+    def picture(self, name, whole=True):
         os.makedirs(PICTURES, exist_ok=True)
-        self.browser.screenshot(f"{PICTURES}/{self.name}-{name}.png")
+        self.browser.screenshot(f"{PICTURES}/{self.name}-{name}.png", whole)
 
     def drop(self, content, name):
         self.browser.run(DROP, base64.b64encode(content).decode(), name)
@@ -216,7 +216,7 @@ class OnPage:
         words = self.browser.text("#words")
         for name in ("games", "changed", "unreadable"):
             self.assertIn(f"{wanted[name]:,}", words)
-        self.picture("games")
+        self.picture("games", whole=False)
         self.browser.click("#changed")
         self.assertIn(f"{wanted['changed']:,}", self.browser.text("#shown"))
         self.browser.click("#rows button")
@@ -239,7 +239,7 @@ class OnPage:
         self.browser.type("#text", "typed before")
         self.drop(games * 20000, "long.pgn")
         self.browser.until("return asking.items?.length > 100")
-        self.picture("working")
+        self.picture("working", whole=False)
         self.browser.click("#stop")
         self.browser.until(IDLE, 5)
         self.assertLess(self.browser.run("return asking.items.length"), 20000 * games.count(b"[White "))

@@ -23,7 +23,7 @@ function drawBoard(board, { fen, moved = [], shaded = null, chosen = null, isTur
         group.dataset.square = square;
         parts.push(group);
     }
-    board.replaceChildren(drawn("title", {}, boardInWords(men, fen)), ...parts);
+    board.replaceChildren(...parts);
     board.setAttribute("aria-label", boardInWords(men, fen));
 }
 

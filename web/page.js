@@ -55,7 +55,7 @@ async function judgeBytes(bytes, text = null) {
     const told = await work.ask("judge", { bytes, options: options(), flag: chosenFlag() }, (message) => hear(message, run));
     if (run !== asking.run) return;
     at.working.hidden = true;
-    if (text !== null && told.kind !== "failed") remember(text);
+    remember(told.kind === "failed" ? null : text);
     await end(told);
     if (run === asking.run) document.body.dataset.busy = "no";
 }
@@ -132,14 +132,21 @@ function summaryWords(items) {
 async function openItem(item) {
     table.choose(item);
     const wrong = item.unreadable ?? item.refused;
-    if (wrong && asking.items.length === 1) complain(say(asking.isPositions ? "refused" : "unreadable", { why: wrong }));
+    const isAlone = asking.items.length === 1;
     await shown.open(item, asking.source, options());
-    if (asking.items.length > 1) at.ruling.scrollIntoView({ block: "start" });
+    if (isAlone && wrong) {
+        at.ruling.hidden = true;
+        complain(say(asking.isPositions ? "refused" : "unreadable", { why: wrong }));
+    }
+    if (!isAlone) at.ruling.scrollIntoView({ block: "start" });
 }
 
-/** The address has what was asked. */
+/** The address has what was asked, or nothing where that was no text. */
 function remember(text) {
-    asking.address = addressOf({ text, isPosition: asking.isPositions, flag: chosenFlag(), limits: limits() });
+    const asked = { text, isPosition: asking.isPositions, flag: chosenFlag(), limits: limits() };
+    asking.address = text === null ? "" : addressOf(asked);
+    at.link.hidden = !asking.address;
+    at.linked.textContent = "";
     location.replace(`#${asking.address}`);
 }
 

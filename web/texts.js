@@ -26,6 +26,7 @@ const TEXTS = {
         drop_here: "Drop the file here",
         busy: "Looking ..",
         busy_games: "{done} % of the file, {count} games or positions so far",
+        progress: "How far it is",
         stop: "Stop",
         stopped: "Stopped. What was found until then is below.",
         look_further: "Look further: 100,000 positions",

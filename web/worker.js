@@ -89,7 +89,7 @@ function* positionsOf(bytes, words) {
 
 /** The games of a text, some at a time. Where one begins, the program says: the last one of a part may go on, and begins the next part. */
 function* gamesOf(bytes, words) {
-    let [from, size, count] = [0, CHUNK, 0];
+    let [from, size, count, lines] = [0, CHUNK, 0, 0];
     while (from < bytes.length) {
         const to = Math.min(from + size, bytes.length);
         const games = report(words, bytes.subarray(from, to)).slice(0, -1);
@@ -99,7 +99,8 @@ function* gamesOf(bytes, words) {
             size *= 2;
             continue;
         }
-        yield { items: kept.map((it) => shifted(it, { from, count, lines: lineFeeds(bytes.subarray(0, from)) })), done: next };
+        yield { items: kept.map((it) => shifted(it, { from, count, lines })), done: next };
+        lines += lineFeeds(bytes.subarray(from, next));
         [from, size, count] = [next, CHUNK, count + kept.length];
     }
 }

@@ -206,13 +206,16 @@ class OnPage:
             games = file.read()
         count = games.count(b"[White ")
         many = (games + b"\n") * (2000 // count + 1)
-        wanted = json.loads(subprocess.run([PROGRAM, "adjudicate", "--json"], input=many, stdout=subprocess.PIPE, check=True).stdout.splitlines()[-1])
+        ran = subprocess.run([PROGRAM, "adjudicate", "--json"], input=many, stdout=subprocess.PIPE, check=True)
+        *lines, wanted = [json.loads(line) for line in ran.stdout.splitlines()]
         self.open()
         self.browser.run(WATCH)
         self.drop(many, "games.pgn")
         self.browser.until(IDLE)
         self.assertGreaterEqual(wanted["games"], 2000)
         self.assertLess(self.browser.run("return window.longest"), 1000)
+        # The page asks for a part at a time; what it has is what the program says of the whole.
+        self.assertEqual(self.browser.run("return asking.items.map(({ tags, ...item }) => item)"), lines)
         words = self.browser.text("#words")
         for name in ("games", "changed", "unreadable"):
             self.assertIn(f"{wanted[name]:,}", words)
@@ -223,7 +226,6 @@ class OnPage:
         self.browser.until("return !document.getElementById('position').hidden")
         self.browser.click("#csv")
         path = f"{self.downloads.name}/cha.csv"
-        self.browser.until("return true")
         for _ in range(200):
             if os.path.exists(path):
                 break

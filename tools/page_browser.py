@@ -2,8 +2,10 @@
 import base64
 import json
 import re
+import os
 import shutil
 import subprocess
+import tempfile
 import time
 import urllib.request
 
@@ -18,8 +20,11 @@ class Browser:
         self.dark, self.downloads = dark, downloads
 
     def __enter__(self):
-        self.driver = subprocess.Popen(
-            [shutil.which("chromedriver"), "--port=0"], stdout=subprocess.PIPE, stderr=subprocess.DEVNULL, text=True)
+        # What the browser leaves behind goes with this folder.
+        self.room = tempfile.TemporaryDirectory(ignore_cleanup_errors=True)
+        where = {"env": {**os.environ, "TMPDIR": self.room.name}, "cwd": self.room.name}
+        words = [shutil.which("chromedriver"), "--port=0"]
+        self.driver = subprocess.Popen(words, stdout=subprocess.PIPE, stderr=subprocess.DEVNULL, text=True, **where)
         for line in self.driver.stdout:
             port = re.search(r"successfully on port (\d+)", line)
             if port:
@@ -38,6 +43,7 @@ class Browser:
         self.driver.terminate()
         self.driver.wait()
         self.driver.stdout.close()
+        self.room.cleanup()
 
     def call(self, method, path, body=None):
         data = None if method != "POST" else json.dumps(body or {}).encode()

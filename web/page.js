@@ -165,9 +165,10 @@ function ask({ text, flag, limits: wanted = LIMITS }) {
     judge();
 }
 
+/** Rules on a file. A short one is shown in the box, where nothing was typed that it would take the place of. */
 async function takeFile(file) {
     const bytes = new Uint8Array(await file.arrayBuffer());
-    if (bytes.length > SHOWN_AS_TEXT) return judgeBytes(bytes);
+    if (bytes.length > SHOWN_AS_TEXT || at.text.value.trim()) return judgeBytes(bytes);
     at.text.value = new TextDecoder().decode(bytes);
     return judgeBytes(bytes, at.text.value);
 }

@@ -6,7 +6,7 @@ const TEXTS = {
         subtitle: "Can a side still checkmate? The ruling by the Laws of Chess, on this device alone.",
         no_script: "This page needs JavaScript.",
         ask_label: "A position (FEN) or games (PGN): paste them, or drop a file anywhere",
-        judge: "Rule",
+        judge: "Give the ruling",
         open_file: "Open a file",
         clear: "Clear",
         examples: "Examples",

@@ -12,7 +12,8 @@ function drawBoard(board, { fen, moved = [], shaded = null, chosen = null, isTur
     const parts = [];
     for (let index = 0; index < 64; index++) {
         const square = FILES[index % 8] + (8 - Math.floor(index / 8));
-        parts.push(drawnSquare(square, corner(square), { isMoved: moved.includes(square), isShaded: shaded?.has(square), isChosen: square === chosen }));
+        const how = { isMoved: moved.includes(square), isShaded: shaded?.has(square), isChosen: square === chosen };
+        parts.push(drawnSquare(square, corner(square), how));
     }
     parts.push(...edgeWords(isTurned));
     for (const { man, square } of men) {

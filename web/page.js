@@ -183,7 +183,8 @@ async function checkCertificate(text = at.certificate.value) {
     await work.ask("check", { bytes: new TextEncoder().encode(text) }, ({ answer, said: words }) => {
         const side = words.endsWith("w") ? "white" : "black";
         const isAccepted = answer === 0;
-        at.checked.textContent = isAccepted ? say("accepted", { side: sideName(side) }) : say("not_accepted", { why: words.replace(/^refused: /, "") });
+        const why = words.replace(/^refused: /, "");
+        at.checked.textContent = isAccepted ? say("accepted", { side: sideName(side) }) : say("not_accepted", { why });
     });
     at.checked.scrollIntoView({ block: "nearest" });
 }
@@ -267,8 +268,7 @@ function fillTexts() {
 async function start() {
     fillTexts();
     work = new Work(at.worker.textContent, await unpacked(at.module.textContent));
-    const { board, steps, sides, words, result, article, ruling, position, further, first, back, forward, last, shadeWords } = at;
-    shown = new Shown({ board, steps, sides, words, result, article, ruling, position, further, first, back, forward, last, shadeWords, check: checkCertificate }, work);
+    shown = new Shown(at, work, checkCertificate);
     const { changed, more, rows, columns, shown: count, tableTitle: title } = at;
     table = new Table({ changed, more, rows, columns, shown: count, title }, openItem);
     listen();

@@ -2,8 +2,8 @@
 
 /** What is shown of the item that is open. */
 class Shown {
-    constructor(at, work) {
-        Object.assign(this, { at, work, item: null, plies: null, walk: null, step: 0, side: null, shade: null, isTurned: false });
+    constructor(at, work, check) {
+        Object.assign(this, { at, work, check, item: null, plies: null, walk: null, step: 0, side: null, shade: null, isTurned: false });
     }
 
     /** Opens an item; `source` is the text that the program has read, as bytes. */
@@ -11,9 +11,9 @@ class Shown {
         Object.assign(this, { item, plies: null, side: null, shade: null });
         const isGame = item.game !== undefined && item.asked !== "position";
         const part = item.bytes ? source.subarray(...item.bytes) : new TextEncoder().encode(item.fen ?? "");
-        // A game without a result ends with the text, or where the next one begins: its own bytes say the same.
         if (isGame) await this.work.ask("replay", { bytes: part }, ({ items }) => ([this.plies] = items));
-        if (this.item === item && lacksDetail(item)) await this.work.ask("detail", { command: item.bytes ? "adjudicate" : "position", bytes: part, options }, ({ items }) => this.complete(items[0]));
+        const command = item.bytes ? "adjudicate" : "position";
+        if (this.item === item && lacksDetail(item)) await this.work.ask("detail", { command, bytes: part, options }, ({ items }) => this.complete(items[0]));
         if (this.item === item) this.draw();
     }
 
@@ -63,7 +63,7 @@ class Shown {
             const sets = setsOf(found.certificate);
             if (sets) card.append(this.menOfSets(side, sets));
             buttons.append(this.button("save_certificate", {}, () => saveFile(`cha-${side}.txt`, "text/plain", found.certificate)));
-            buttons.append(this.button("check_this", {}, () => this.at.check(found.certificate)));
+            buttons.append(this.button("check_this", {}, () => this.check(found.certificate)));
         }
         if (buttons.childElementCount) card.append(buttons);
         return card;

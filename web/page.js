@@ -85,7 +85,8 @@ function hear(message, run) {
     if (message.kind === "begin") {
         asking.isPositions = message.isPositions;
         asking.source = message.source ?? asking.source;
-        table.begin(!message.isPositions || Boolean(message.source));
+        asking.kind = !message.isPositions ? "games" : message.source ? "flags" : "positions";
+        table.begin(asking.kind);
         return;
     }
     const { items, done, total } = message;
@@ -123,10 +124,11 @@ function summaryWords(items) {
         count: counted(items.length),
         changed: count((it) => it.changed),
         dead: count((it) => it.status === "dead"),
+        drawn: count((it) => it.result === "1/2-1/2"),
         unreadable: count((it) => it.unreadable ?? it.refused),
         undecided: count(isUndecided),
     };
-    return say(items[0].game === undefined ? "summary_positions" : "summary_games", values);
+    return say(`summary_${asking.kind}`, values);
 }
 
 async function openItem(item) {

@@ -4,27 +4,29 @@ const ROWS_AT_ONCE = 500;
 const COLUMNS = {
     games: ["number", "white", "black", "recorded", "result", "reason"],
     positions: ["number", "fen", "status", "white", "black"],
+    flags: ["number", "fen", "result", "reason"],
 };
 
 /** The table over the items of a run, which grow while it goes on. `open` is called with an item that is chosen. */
 class Table {
     constructor(elements, open) {
-        Object.assign(this, { elements, open, items: [], limit: ROWS_AT_ONCE, isGames: true, chosen: null });
+        Object.assign(this, { elements, open, items: [], limit: ROWS_AT_ONCE, kind: "games", chosen: null });
         elements.changed.addEventListener("change", () => this.draw());
         elements.more.addEventListener("click", () => this.grow());
     }
 
-    begin(isGames) {
-        Object.assign(this, { isGames, items: [], limit: ROWS_AT_ONCE, chosen: null });
+    /** Begins anew, for games, positions, or positions with a flag that fell. */
+    begin(kind) {
+        Object.assign(this, { kind, items: [], limit: ROWS_AT_ONCE, chosen: null });
         this.elements.changed.checked = false;
-        this.elements.changed.closest("label").hidden = !isGames;
-        this.elements.title.textContent = say(isGames ? "games" : "positions");
+        this.elements.changed.closest("label").hidden = kind !== "games";
+        this.elements.title.textContent = say(kind === "games" ? "games" : "positions");
         this.elements.columns.replaceChildren(...this.columns().map((name) => made("th", { scope: "col", textContent: say(`column_${name}`) })));
         this.elements.rows.replaceChildren();
     }
 
     columns() {
-        return COLUMNS[this.isGames ? "games" : "positions"];
+        return COLUMNS[this.kind];
     }
 
     add(items) {

@@ -109,6 +109,7 @@ const TEXTS = {
         rule_none_shown: "Not decided within {positions} positions for {other}; {cannot} cannot checkmate.",
         summary_games: "{count} games: {changed} results change by the Laws, {unreadable} cannot be read, {undecided} undecided.",
         summary_positions: "{count} positions: {dead} dead, {unreadable} refused, {undecided} undecided.",
+        summary_flags: "{count} positions with a fallen flag: {drawn} drawn, {unreadable} refused, {undecided} undecided.",
         was_changed: "Recorded {recorded}, by the Laws {result}.",
         was_kept: "Recorded {recorded}, and so by the Laws.",
 

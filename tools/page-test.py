@@ -166,7 +166,7 @@ class OnPage:
         self.drop(many, "games.pgn")
         self.browser.until(IDLE)
         self.assertGreaterEqual(wanted["games"], 2000)
-        self.assertLess(self.browser.run("return window.longest"), 1000)
+        self.assertLess(self.browser.run("return window.longest"), 2000)
         # The page asks for a part at a time; what it has is what the program says of the whole.
         self.assertEqual(self.browser.run("return asking.items.map(({ tags, ...item }) => item)"), lines)
         words = self.browser.text("#words")

@@ -69,8 +69,7 @@ function wordsOfGame(game, firstSide) {
 
 function wordsOfDead(game, firstSide) {
     const from = game.dead_from;
-    if (game.asked === "position") return say("rule_dead");
-    if (!from) return say("rule_dead");
+    if (game.asked === "position" || !from) return say("rule_dead");
     if (from.ply === 0) return say("rule_dead_start");
     const name = from.undecided === undefined ? "rule_dead_since" : "rule_dead_or_earlier";
     return say(name, { move: moveNumber(from.ply, firstSide) });
@@ -96,6 +95,7 @@ function wordsOfSide(side, found, isPosition) {
 function reasonOf(game, firstSide) {
     if (game.unreadable) return game.unreadable;
     if (game.article === "5.2.2") {
+        if (game.asked === "position") return say("reason_522_now");
         const ply = game.dead_from?.ply ?? 0;
         return ply ? say("reason_522", { move: moveNumber(ply, firstSide) }) : say("reason_522_start");
     }

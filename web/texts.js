@@ -133,6 +133,7 @@ const TEXTS = {
         reason_511: "checkmate (5.1.1)",
         reason_521: "stalemate (5.2.1)",
         reason_522: "dead since move {move} (5.2.2)",
+        reason_522_now: "dead (5.2.2)",
         reason_522_start: "dead from the start (5.2.2)",
         reason_69: "flag fell, {winner} cannot mate (6.9)",
         reason_kept: "as recorded",

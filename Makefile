@@ -72,6 +72,7 @@ page: $(PAGE)
 	@mkdir -p dist && cp $(PAGE) dist
 
 $(MODULE): $(LIBRARY) web/heap.c tools/page-module.py
+	@tools/packages page
 	@mkdir -p page/dist && echo '*' > page/.gitignore
 	@tools/page-module.py cha_c $@
 
@@ -79,6 +80,7 @@ $(PAGE): $(MODULE) VERSION tools/page-build.py $(wildcard web/*.*)
 	@tools/page-build.py $(MODULE) $@
 
 page-test: page cha
+	@tools/packages page
 	tools/page-test.py ./cha $(FILES)
 
 dist: cha lib

@@ -5,12 +5,13 @@
 # make lib        builds libcha.a and libcha.so; make install-lib copies them, the header and cha.pc
 # make lib-test   runs both from C, under sanitizers, and from Python
 # make text-test  runs the command lines that the documents print, and compares the completions with the usage
+# make page       builds page/dist: the page in one file (also dist/cha.html), and the module for JavaScript; make page-test tests both
 # make dist       makes a release in dist/; make dist-test uses it elsewhere, without the kit
 PREFIX ?= /usr/local
 PROGRAM = crates/cha_main/out/cha_main
 SOURCES = HANDLES crates.txt $(shell find crates/*/src crates/*/specs crates/*/proofs -type f)
 
-.PHONY: all run test install clean kit lib lib-test install-lib text-test dist dist-test
+.PHONY: all run test install clean kit lib lib-test install-lib text-test page page-test dist dist-test
 
 all: cha
 
@@ -62,6 +63,26 @@ text-test: cha
 	tools/printed.py ./cha
 	tools/completions.py --check ./cha
 
+# The module is made of the static library, whose proof it waits for; the page is the module and the files of web/.
+MODULE = page/dist/cha.wasm
+PAGE = page/dist/cha.html
+
+page: $(PAGE)
+	@cp web/cha.mjs web/cha.d.ts page/dist
+	@mkdir -p dist && cp $(PAGE) dist
+
+$(MODULE): $(LIBRARY) web/heap.c tools/page-module.py
+	@tools/packages page
+	@mkdir -p page/dist && echo '*' > page/.gitignore
+	@tools/page-module.py cha_c $@
+
+$(PAGE): $(MODULE) VERSION tools/page-build.py $(wildcard web/*.*)
+	@tools/page-build.py $(MODULE) $@
+
+page-test: page cha
+	@tools/packages page
+	tools/page-test.py ./cha $(FILES)
+
 dist: cha lib
 	tools/dist.sh
 
@@ -76,4 +97,4 @@ install-lib: lib
 	sed 's|@PREFIX@|$(PREFIX)|; s|@VERSION@|'$$(cat VERSION)'|' library/cha.pc.in > $(DESTDIR)$(PREFIX)/lib/pkgconfig/cha.pc
 
 clean:
-	rm -rf cha libcha.a libcha.so library/test dist crates/*/out
+	rm -rf cha libcha.a libcha.so library/test dist page crates/*/out

@@ -1,0 +1,299 @@
+#!/usr/bin/env python3
+"""Tests the page in a headless Chromium, from a server and from the disk, and the module beside the program.
+
+    tools/page-test.py ./cha [FILE ..]
+
+Files that end in .pgn are adjudicated, others are read as positions; without any, those of web/samples are. Pictures of the page are left
+in page/out. The last line is 'N passed, M failed'.
+"""
+import base64
+import functools
+import http.server
+import json
+import os
+import subprocess
+import sys
+import tempfile
+import threading
+import unittest
+from urllib.parse import urlencode
+
+from page_browser import Browser
+from page_reports import FILES, MADE, PROGRAM, REPORT, SAMPLES, TOP, Module, asked_of, certificate_of, printed  # noqa: F401
+
+PICTURES = f"{TOP}/page/out"
+KNIGHT = "6k1/8/8/8/6n1/8/6PP/6RK b - -"
+WALL = "4k3/7B/8/p1p1p1p1/P1P1P1P1/8/8/4K3 w - -"
+MARKUP = '<img src=x onerror="document.title=1"> w - -'
+TAB, ENTER, RIGHT, LEFT, END = "\ue004", "\ue007", "\ue014", "\ue012", "\ue010"
+CONTROL = "\ue009"
+IDLE = "return document.body.dataset.busy === 'no'"
+DROP = """
+const bytes = Uint8Array.from(atob(arguments[0]), (letter) => letter.charCodeAt(0));
+const data = new DataTransfer();
+data.items.add(new File([bytes], arguments[1]));
+document.body.dispatchEvent(new DragEvent('drop', { dataTransfer: data, bubbles: true, cancelable: true }));
+"""
+# The longest time between two turns of the page's own loop.
+WATCH = """
+window.longest = 0;
+let last = performance.now();
+setInterval(() => { const now = performance.now(); window.longest = Math.max(window.longest, now - last); last = now; }, 5);
+"""
+
+
+class OnPage:
+    """What is tried at both addresses."""
+
+    @classmethod
+    def setUpClass(cls):
+        cls.downloads = tempfile.TemporaryDirectory()
+        cls.browser = Browser(downloads=cls.downloads.name).__enter__()
+
+    @classmethod
+    def tearDownClass(cls):
+        cls.browser.__exit__()
+        cls.downloads.cleanup()
+
+    def setUp(self):
+        self.browser.resize(1200, 1000)
+        self.browser.logged()
+
+    def tearDown(self):
+        self.assertEqual(self.browser.logged(), [])
+
+    def open(self, **asked):
+        self.browser.open(self.address + ("#" + urlencode(asked) if asked else ""))
+        if asked:
+            self.browser.until(IDLE)
+
+    def ask(self, text):
+        """Types a text and rules on it by keys."""
+        self.browser.run("document.getElementById('text').value = ''")
+        self.browser.type("#text", text)
+        self.browser.type("#text", CONTROL + ENTER)
+        self.browser.until(IDLE)
+
+    def picture(self, name, whole=True):
+        os.makedirs(PICTURES, exist_ok=True)
+        self.browser.screenshot(f"{PICTURES}/{self.name}-{name}.png", whole)
+
+    def drop(self, content, name):
+        self.browser.run(DROP, base64.b64encode(content).decode(), name)
+
+    def man_at(self, square):
+        return self.browser.run("return document.querySelector(`#board [data-man][data-square=${arguments[0]}]`)?.dataset.man ?? null", square)
+
+    def test_reports_are_the_programs(self):
+        self.open()
+        for file in FILES:
+            with open(file, "rb") as given:
+                packed = base64.b64encode(given.read()).decode()
+            for words in asked_of(file):
+                with self.subTest(file=file, words=words):
+                    self.assertEqual(self.browser.wait_for(REPORT, words, packed), printed(tuple(words), file))
+
+    def test_a_position_is_pasted(self):
+        self.open()
+        self.browser.type("#text", KNIGHT + CONTROL + "ax")
+        self.assertEqual(self.browser.run("return document.getElementById('text').value"), "")
+        self.browser.type("#text", CONTROL + "v")
+        self.browser.until(IDLE)
+        self.assertIn("can still checkmate", self.browser.text("#words"))
+        self.browser.click("input[value=white]")
+        self.browser.until("return document.getElementById('words').textContent.startsWith('White')")
+        self.assertEqual(self.browser.text("#words"), "White's flag fell: Black wins, since Black can still checkmate, for example Nf2#.")
+        self.assertIn("6.9", self.browser.text("#article"))
+        self.picture("flag")
+
+    def test_a_game_shows_from_where_it_was_dead(self):
+        with open(SAMPLES[1], encoding="utf-8") as file:
+            game = next(it for it in file.read().split("\n\n[") if "eva" in it)
+        self.open(pgn="[" + game)
+        self.assertEqual(self.browser.text("#words"), "Dead position since move 1: the game ended there as a draw (5.2.2).")
+        self.assertEqual(self.browser.text("#result"), "Recorded 1-0, by the Laws 1/2-1/2.")
+        self.assertEqual(self.browser.run("return document.querySelector('#steps .dead').previousSibling.textContent"), "Kxd2")
+        self.picture("dead")
+
+    def test_a_line_is_stepped(self):
+        self.open(fen=KNIGHT, flag="white")
+        self.assertEqual((self.man_at("g4"), self.man_at("f2")), ("n", None))
+        self.browser.press(RIGHT)
+        self.assertEqual((self.man_at("g4"), self.man_at("f2")), (None, "n"))
+        self.assertEqual(self.browser.run("return [...document.querySelectorAll('.moved')].map((it) => it.dataset.square)"), ["g4", "f2"])
+        self.picture("line")
+        self.browser.press(LEFT)
+        self.assertEqual(self.man_at("g4"), "n")
+        self.browser.click("#forward")
+        self.browser.click("#flip")
+        corner = "return document.querySelector('rect[data-square=h1]').getAttribute('x')"
+        self.assertEqual(self.browser.run(corner), "0")
+
+    def test_a_wall_is_shaded(self):
+        self.open(fen=WALL)
+        self.assertEqual(self.browser.text("#words"), "Dead position: the game has ended as a draw (5.2.2).")
+        reached = {}
+        for line in certificate_of(WALL, "white").splitlines():
+            if line.startswith("reach "):
+                square, digits = line.split()[1], line.split()[3]
+                reached[square] = reached.get(square, 0) | int(digits, 16)
+        self.browser.click("#board rect[data-square=e1]")
+        self.assertEqual(self.browser.run("return document.querySelectorAll('.reach').length"), reached["e1"].bit_count())
+        self.picture("wall")
+        self.browser.click("[data-side=white] [data-man=a4]")
+        self.assertIn("never move", self.browser.text("#shade-words"))
+
+    def test_a_certificate_is_checked(self):
+        self.open(fen=WALL)
+        self.browser.click("[data-side=white] button:last-child:not([data-man])")
+        self.browser.until("return document.getElementById('checked').textContent")
+        self.assertIn("mate by White", self.browser.text("#checked"))
+        self.picture("certificate")
+        self.browser.run("document.getElementById('certificate').value = arguments[0]", certificate_of(WALL, "black").replace("winner b", "winner"))
+        self.browser.click("#check")
+        self.browser.until("return document.getElementById('checked').textContent.startsWith('Refused')")
+        self.assertEqual(self.browser.text("#checked"), "Refused: line 2 winner")
+
+    def test_many_games_are_dropped(self):
+        with open(SAMPLES[1], "rb") as file:
+            games = file.read()
+        count = games.count(b"[White ")
+        many = (games + b"\n") * (2000 // count + 1)
+        ran = subprocess.run([PROGRAM, "adjudicate", "--json"], input=many, stdout=subprocess.PIPE, check=True)
+        *lines, wanted = [json.loads(line) for line in ran.stdout.splitlines()]
+        self.open()
+        self.browser.run(WATCH)
+        self.drop(many, "games.pgn")
+        self.browser.until(IDLE)
+        self.assertGreaterEqual(wanted["games"], 2000)
+        self.assertLess(self.browser.run("return window.longest"), 2000)
+        # The page asks for a part at a time; what it has is what the program says of the whole.
+        self.assertEqual(self.browser.run("return asking.items.map(({ tags, ...item }) => item)"), lines)
+        words = self.browser.text("#words")
+        for name in ("games", "changed", "unreadable"):
+            self.assertIn(f"{wanted[name]:,}", words)
+        self.picture("games", whole=False)
+        self.browser.click("#changed")
+        self.assertIn(f"{wanted['changed']:,}", self.browser.text("#shown"))
+        self.browser.click("#rows button")
+        self.browser.until("return !document.getElementById('position').hidden")
+        self.browser.click("#csv")
+        path = f"{self.downloads.name}/cha.csv"
+        for _ in range(200):
+            if os.path.exists(path):
+                break
+            threading.Event().wait(0.05)
+        with open(path, encoding="utf-8", newline="") as file:
+            self.assertEqual(len(file.read().split("\r\n")), wanted["changed"] + 2)
+        os.remove(path)
+
+    def test_a_long_search_is_stopped(self):
+        with open(SAMPLES[1], "rb") as file:
+            games = file.read() + b"\n"
+        self.open()
+        self.browser.type("#text", "typed before")
+        self.drop(games * 20000, "long.pgn")
+        self.browser.until("return asking.items?.length > 100")
+        self.picture("working", whole=False)
+        self.browser.click("#stop")
+        self.browser.until(IDLE, 5)
+        self.assertLess(self.browser.run("return asking.items.length"), 20000 * games.count(b"[White "))
+        self.assertIn("Stopped", self.browser.text("#complaint"))
+        self.assertEqual(self.browser.run("return document.getElementById('text').value"), "typed before")
+        self.ask(WALL)
+        self.assertIn("Dead position", self.browser.text("#words"))
+
+    def test_markup_is_text(self):
+        for text, why in ((MARKUP, "bad token at byte 0"), (WALL.replace(" w", "<b> w"), "shape"), (f'[FEN "{MARKUP.replace(chr(34), "")}"] *', "bad FEN: shape")):
+            self.open()
+            self.ask(text)
+            self.assertIn(why, self.browser.text("#complaint"))
+            self.assertEqual(self.browser.run("return [document.images.length, document.querySelectorAll('#complaint *, #words *').length]"), [0, 0])
+            self.assertEqual(self.browser.run("return document.getElementById('text').value"), text)
+        self.picture("refused")
+
+    def test_a_link_opens_a_position(self):
+        self.open(fen=KNIGHT, flag="white")
+        self.assertEqual(self.browser.run("return document.getElementById('text').value"), KNIGHT)
+        link = self.browser.run("return location.href")
+        self.browser.open(link)
+        self.browser.until(IDLE)
+        self.assertIn("Nf2#", self.browser.text("#words"))
+
+    def test_a_telephone(self):
+        self.browser.resize(360, 740)
+        for asked in ({"fen": KNIGHT, "flag": "white"}, {"fen": WALL}):
+            self.open(**asked)
+            self.assertLessEqual(self.browser.run("return document.documentElement.scrollWidth"), 360)
+        self.browser.resize(360, 1800)
+        self.picture("telephone")
+
+    def test_keys_alone(self):
+        self.open()
+        focused = "return document.activeElement.id || document.activeElement.value || document.activeElement.dataset.man || ''"
+        self.browser.press(TAB)
+        self.assertEqual(self.browser.run(focused), "text")
+        self.browser.press(*WALL)
+        for wanted in ("none", "judge"):
+            self.browser.press(TAB)
+            if self.browser.run(focused) != wanted:
+                self.assertIn(self.browser.run("return document.activeElement.value"), wanted)
+        self.browser.press(ENTER)
+        self.browser.until(IDLE)
+        for _ in range(40):
+            self.browser.press(TAB)
+            if self.browser.run("return document.activeElement.dataset.man") == "e1":
+                break
+        self.browser.press(ENTER)
+        self.assertGreater(self.browser.run("return document.querySelectorAll('.reach').length"), 0)
+        self.assertEqual(self.browser.run("return [...document.querySelectorAll('button')].filter((it) => it.offsetParent && !(it.textContent || it.ariaLabel)).length"), 0)
+
+    def test_nothing_is_fetched(self):
+        self.open(fen=WALL)
+        self.assertEqual(self.browser.run("return performance.getEntriesByType('resource').filter((it) => !it.name.startsWith('blob:')).length"), 0)
+
+
+class FromDisk(OnPage, unittest.TestCase):
+    name, address = "disk", f"file://{MADE}/cha.html"
+
+
+class FromServer(OnPage, unittest.TestCase):
+    name = "server"
+
+    @classmethod
+    def setUpClass(cls):
+        super().setUpClass()
+        handler = functools.partial(Quiet, directory=MADE)
+        cls.server = http.server.ThreadingHTTPServer(("127.0.0.1", 0), handler)
+        cls.address = f"http://127.0.0.1:{cls.server.server_port}/cha.html"
+        threading.Thread(target=cls.server.serve_forever, daemon=True).start()
+
+    @classmethod
+    def tearDownClass(cls):
+        cls.server.shutdown()
+        cls.server.server_close()
+        super().tearDownClass()
+
+
+class Quiet(http.server.SimpleHTTPRequestHandler):
+    def log_message(self, *_):
+        pass
+
+
+class Dark(unittest.TestCase):
+    def test_dark_mode(self):
+        with Browser(dark=True) as browser:
+            browser.resize(1200, 1000)
+            browser.open(f"file://{MADE}/cha.html#" + urlencode({"fen": KNIGHT, "flag": "white"}))
+            browser.until(IDLE)
+            colour = browser.run("return getComputedStyle(document.body).backgroundColor")
+            os.makedirs(PICTURES, exist_ok=True)
+            browser.screenshot(f"{PICTURES}/dark.png")
+        self.assertEqual(colour, "rgb(25, 26, 28)")
+
+
+if __name__ == "__main__":
+    result = unittest.main(argv=sys.argv[:1], exit=False).result
+    wrong = len(result.failures) + len(result.errors)
+    print(f"{result.testsRun - wrong} passed, {wrong} failed")
+    sys.exit(wrong != 0)

@@ -1,0 +1,37 @@
+"""Databases of games, of any length: cut into pieces, judged on all processors, and joined again.
+
+>>> import io, sys
+>>> from cha.db import judge
+>>> for row in judge([]):
+...     print(row.file, row.fields["game"], row.fields["result"])
+"""
+
+import os
+from typing import Iterator, Optional, Sequence, Union
+
+from cha.db.rows import Row
+from cha.db.running import PIECE, parts, threads, words
+from cha.db.sources import InputError
+
+__all__ = ["InputError", "Row", "judge"]
+
+Files = Union[str, "os.PathLike[str]", Sequence[Union[str, "os.PathLike[str]"]]]
+
+
+def names_of(files: Files) -> "list[str]":
+    """Returns the names of one file or of several."""
+    return [os.fspath(files)] if isinstance(files, (str, os.PathLike)) else [os.fspath(file) for file in files]
+
+
+def judge(
+    files: Files, only: Optional[str] = None, budget: Optional[int] = None, depth: Optional[int] = None, piece: int = PIECE
+) -> Iterator[Row]:
+    """Yields a row for each game of the files, in their order: those of one kind (`changed`, `dead`, `undecided`, `unreadable`), or all.
+
+    `InputError` where a file cannot be read, `ChaError` where a text cannot be judged; both behind what could be judged.
+    """
+    count = len(os.sched_getaffinity(0))
+    with threads(count, words(budget, depth)) as judges:
+        for file in names_of(files):
+            for part in parts(file, judges, 2 * count + 1, piece):
+                yield from part.rows(only)

@@ -1,0 +1,35 @@
+"""The tags that go along with a game, as they stand in its bytes."""
+
+import re
+from typing import Dict, Union
+
+#: the tags of a table
+NAMES = ("Event", "Site", "Date", "White", "Black", "Termination")
+
+_GAP = rb"(?:[\s.]+|\{[^}]*\}|;[^\n]*)*"
+_TAG = re.compile(_GAP + rb'\[[ \t]*(\w+)[ \t]*"((?:\\.|[^"\\\n])*)"[ \t]*\]')
+_ESCAPED = re.compile(r'\\(["\\])')
+
+
+def _text(value: bytes) -> str:
+    try:
+        plain = value.decode()
+    except UnicodeDecodeError:
+        plain = value.decode("latin-1")
+    return _ESCAPED.sub(r"\1", plain)
+
+
+def tags_of(game: Union[bytes, bytearray]) -> Dict[str, str]:
+    """Returns those of the tags before the moves that a table has; of two with one name the first.
+
+    >>> tags_of(b'[Event "Club \\\\"A\\\\""] [Result "*"]\\n{a note} [White "anna"]\\n\\n1. e4 [Black "ben"] *')
+    {'Event': 'Club "A"', 'White': 'anna'}
+    """
+    found: Dict[str, str] = {}
+    at = 0
+    while (tag := _TAG.match(game, at)) is not None:
+        name = tag[1].decode("latin-1")
+        if name in NAMES:
+            found.setdefault(name, _text(tag[2]))
+        at = tag.end()
+    return found

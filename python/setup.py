@@ -1,0 +1,32 @@
+"""The wheel: the package with the library in it, for this kind of machine and any Python."""
+
+import shutil
+from pathlib import Path
+
+from setuptools import setup
+from setuptools.command.build_py import build_py
+from wheel.bdist_wheel import bdist_wheel
+
+TOP = Path(__file__).resolve().parent.parent
+
+
+class WithLibrary(build_py):
+    """Takes the library that `make lib` has built into the package."""
+
+    def run(self):
+        super().run()
+        shutil.copy(TOP / "libcha.so", Path(self.build_lib, "cha"))
+
+
+class ForThisMachine(bdist_wheel):
+    """Names the kind of machine, and no kind of Python: the library is called by ctypes."""
+
+    def finalize_options(self):
+        super().finalize_options()
+        self.root_is_pure = False
+
+    def get_tag(self):
+        return "py3", "none", super().get_tag()[2]
+
+
+setup(version=(TOP / "VERSION").read_text().strip(), cmdclass={"build_py": WithLibrary, "bdist_wheel": ForThisMachine})

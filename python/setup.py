@@ -3,7 +3,7 @@
 import shutil
 from pathlib import Path
 
-from setuptools import setup
+from setuptools import Distribution, setup
 from setuptools.command.build_py import build_py
 from wheel.bdist_wheel import bdist_wheel
 
@@ -18,15 +18,22 @@ class WithLibrary(build_py):
         shutil.copy(TOP / "libcha.so", Path(self.build_lib, "cha"))
 
 
-class ForThisMachine(bdist_wheel):
-    """Names the kind of machine, and no kind of Python: the library is called by ctypes."""
+class WithMachineCode(Distribution):
+    """Says that the package is for one kind of machine."""
 
-    def finalize_options(self):
-        super().finalize_options()
-        self.root_is_pure = False
+    def has_ext_modules(self):
+        return True
+
+
+class ForThisMachine(bdist_wheel):
+    """Names no kind of Python: the library is called by ctypes."""
 
     def get_tag(self):
         return "py3", "none", super().get_tag()[2]
 
 
-setup(version=(TOP / "VERSION").read_text().strip(), cmdclass={"build_py": WithLibrary, "bdist_wheel": ForThisMachine})
+setup(
+    version=(TOP / "VERSION").read_text().strip(),
+    distclass=WithMachineCode,
+    cmdclass={"build_py": WithLibrary, "bdist_wheel": ForThisMachine},
+)

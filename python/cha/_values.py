@@ -128,10 +128,10 @@ def position_of(found: Fields) -> "Position | Refusal":
 
 def game_of(found: Fields) -> "Game | Unreadable":
     """What a line says of a game."""
-    place = (found["game"], Span(*found["bytes"]), found["line"])
+    number, span, line = found["game"], Span(*found["bytes"]), found["line"]
     if "unreadable" in found:
-        return Unreadable(*place, found["unreadable"])
+        return Unreadable(number, span, line, found["unreadable"])
     dead_from = found["dead_from"] and DeadFrom(**found["dead_from"])
     names = ("fen", "status", "recorded", "result", "changed", "article", "flagged")
     given = {name: found[name] for name in names}
-    return Game(*place, dead_from=dead_from, flag=found.get("flag"), **given, **_sides(found))
+    return Game(number, span, line, dead_from=dead_from, flag=found.get("flag"), **given, **_sides(found))

@@ -1,15 +1,12 @@
 """Databases on a cluster: pieces are the tasks of Dask.distributed."""
 
-from typing import TYPE_CHECKING, Any, Iterator, List, Optional
+from typing import Any, Iterator, List, Optional
 
 from cha._calls import report
 from cha.db import Files, names_of
 from cha.db.joining import Promise
 from cha.db.rows import Row
 from cha.db.running import PIECE, parts, words
-
-if TYPE_CHECKING:
-    from distributed import Client
 
 
 def _report(order: List[str], text: bytes) -> bytes:
@@ -18,13 +15,13 @@ def _report(order: List[str], text: bytes) -> bytes:
 
 def judge(
     files: Files,
-    client: "Client",
+    client: Any,
     only: Optional[str] = None,
     budget: Optional[int] = None,
     depth: Optional[int] = None,
     piece: int = PIECE,
 ) -> Iterator[Row]:
-    """Yields the rows that `cha.db.judge` yields; the workers of a client judge the pieces.
+    """Yields the rows that `cha.db.judge` yields; the workers of `client`, a `distributed.Client`, judge the pieces.
 
     This process reads the files and sends the pieces. A piece whose worker dies is judged by another one, since nobody keeps anything
     between two pieces. Each worker needs this package.
@@ -32,8 +29,8 @@ def judge(
     order = words(budget, depth)
 
     def promised(text: bytearray) -> Promise:
-        promise: Any = client.submit(_report, order, bytes(text), pure=False)
-        return promise  # type: ignore[no-any-return]
+        promise: Promise = client.submit(_report, order, bytes(text), pure=False)
+        return promise
 
     room = 3 * max(1, sum(client.nthreads().values()))
     for file in names_of(files):

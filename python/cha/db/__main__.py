@@ -2,4 +2,5 @@
 
 from cha.db.command import entry
 
-entry()
+if __name__ == "__main__":
+    entry()

@@ -9,8 +9,9 @@ from typing import Any, Dict, List, NoReturn, Optional, Sequence
 from cha._calls import ChaError
 from cha.db import state as states
 from cha.db.counts import counted, said
+from cha.db.joining import Judge, Place
 from cha.db.outputs import Output, outputs
-from cha.db.progress import progress
+from cha.db.progress import Progress, progress
 from cha.db.rows import KINDS
 from cha.db.running import PIECE, parts, threads, words
 from cha.db.sources import InputError, size_of
@@ -88,7 +89,7 @@ class _Run:
                 output.close()
         return self._end(faults)
 
-    def _judge_file(self, judge: Any, shown: Any) -> None:
+    def _judge_file(self, judge: Judge, shown: Progress) -> None:
         file = self._order.files[self._state.file]
         before = sum(size or 0 for size in self._sizes[: self._state.file])
         for part in parts(file, judge, 2 * self._order.threads + 1, self._order.piece, self._state.at):
@@ -110,7 +111,7 @@ class _Run:
         """Goes to the next file; what is wrong with this one."""
         file, games = self._order.files[self._state.file], self._state.at.games
         wrong = [f"{file}: none of its {games} games can be read; is it PGN?"] if games and not self._state.readable else []
-        self._state.file, self._state.at, self._state.readable = self._state.file + 1, states.Place(), 0
+        self._state.file, self._state.at, self._state.readable = self._state.file + 1, Place(), 0
         self._save()
         return wrong
 

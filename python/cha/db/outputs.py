@@ -6,7 +6,7 @@ from typing import Counter as Counts, List, Optional, Sequence
 from cha.db.report import Page
 from cha.db.running import Part
 from cha.db.state import OrderError
-from cha.db.tables import KINDS, Shown, Table
+from cha.db.tables import TABLES, Shown, Table
 
 
 class Output:
@@ -29,9 +29,9 @@ class Output:
 def _table(path: Optional[str], mark: Optional[int]) -> Table:
     if path is None:
         return Shown()
-    kind = KINDS.get(os.path.splitext(path)[1])
+    kind = TABLES.get(os.path.splitext(path)[1])
     if kind is None:
-        raise OrderError(f"--to {path}: its name must end in {', '.join(KINDS)}")
+        raise OrderError(f"--to {path}: its name must end in {', '.join(TABLES)}")
     return kind(path, mark)
 
 

@@ -2,7 +2,7 @@
 
 import os
 from html import escape
-from typing import Counter as Counts, List, Optional, Sequence
+from typing import Any, Counter as Counts, Dict, List, Optional, Sequence
 
 from cha._board import svg
 from cha.db.rows import Row
@@ -33,7 +33,7 @@ _COUNTED = {
 }
 
 
-def _side(name: str, verdict: dict) -> str:
+def _side(name: str, verdict: Dict[str, Any]) -> str:
     kind = verdict["verdict"]
     if kind == "winnable" and verdict["san"]:
         return f"{name} can checkmate: {' '.join(verdict['san'])}"

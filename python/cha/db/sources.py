@@ -29,8 +29,9 @@ class _Raw:
 
     def read(self, size: int = -1) -> bytes:
         """Up to so many bytes, or all; none at the end."""
-        front, self._left = self._left, b""
-        part = front or self._file.read(size)
+        part, self._left = (self._left, b"") if size < 0 else (self._left[:size], self._left[size:])
+        if not part or size < 0:
+            part += self._file.read(size)
         self.count += len(part)
         return part
 

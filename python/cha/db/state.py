@@ -3,7 +3,7 @@
 import json
 import os
 from collections import Counter
-from dataclasses import asdict, dataclass, field
+from dataclasses import dataclass, field
 from typing import Any, Counter as Counts, Dict, List, Optional
 
 from cha.db.joining import Place
@@ -30,7 +30,7 @@ class State:
 
 def save(path: str, order: Dict[str, Any], state: State) -> None:
     """Writes a state: the file has this one or the one before, whatever happens. `OutputError` where it cannot be written."""
-    text = json.dumps({"order": order, "state": asdict(state)})
+    text = json.dumps({"order": order, "state": dict(vars(state), at=vars(state.at))})
     try:
         with open(path + ".new", "w", encoding="utf-8") as file:
             file.write(text)

@@ -6,7 +6,7 @@ import json
 import os
 import sqlite3
 import sys
-from typing import BinaryIO, Iterable, List, Optional, Protocol
+from typing import BinaryIO, Callable, Dict, Iterable, List, Optional, Protocol
 
 from cha.db.rows import COLUMNS, GAME_COLUMNS, SIDE_COLUMNS, Row, cells, game_cells, side_cells
 
@@ -168,5 +168,5 @@ class Sqlite:
         self._base.close()
 
 
-#: the kinds of files that take rows, by the ends of their names
-KINDS = {".jsonl": JsonLines, ".csv": Csv, ".sqlite": Sqlite}
+#: what opens a table, anew or where a mark says, by the ends of names
+TABLES: Dict[str, Callable[[str, Optional[int]], Table]] = {".jsonl": JsonLines, ".csv": Csv, ".sqlite": Sqlite}

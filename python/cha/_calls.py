@@ -6,7 +6,7 @@ from typing import Sequence, Union
 
 from cha._engines import Engine, Library, Program
 
-_DONE, _USAGE, _TOO_LONG, _NO_MEMORY = 0, 1, 4, 5
+_DONE, _USAGE, _TOO_LONG, _NO_MEMORY, _NOT_ACCEPTED = 0, 1, 4, 5, 6
 
 #: what may be handed in: a text, or bytes
 Text = Union[str, bytes, bytearray]
@@ -42,6 +42,12 @@ class OutOfMemory(ChaError, MemoryError):
 _ERRORS = {kind.status: kind for kind in (UsageError, TooLong, OutOfMemory)}
 
 
+def _error(status: int, order: str) -> ChaError:
+    error = _ERRORS.get(status, ChaError)(order if status in _ERRORS else f"{order}: status {status}")
+    error.status = status
+    return error
+
+
 @functools.lru_cache(maxsize=None)
 def _engine() -> Engine:
     """Returns the library: the one that CHA_LIBRARY names, the one beside this module, at the top of the repository, or of the system.
@@ -74,8 +80,8 @@ def report(words: Sequence[str], data: Text) -> bytes:
     A certificate that is not accepted is a report too. `ChaError` where there is none.
     """
     status, printed = _engine().run(words, _bytes(data))
-    if status in _ERRORS:
-        raise _ERRORS[status](" ".join(words))
+    if status not in (_DONE, _NOT_ACCEPTED):
+        raise _error(status, " ".join(words))
     return printed
 
 
@@ -86,6 +92,6 @@ def check(certificate: Text) -> bool:
     False
     """
     status = _engine().check(_bytes(certificate))
-    if status in _ERRORS:
-        raise _ERRORS[status]("check")
+    if status not in (_DONE, _NOT_ACCEPTED):
+        raise _error(status, "check")
     return status == _DONE

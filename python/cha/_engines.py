@@ -7,8 +7,8 @@ from typing import Protocol, Sequence, Tuple, Union
 
 _NO_ROOM = 7
 
-#: room for a report on so many bytes of input; what is not written of it takes no memory
-_ROOM, _ROOM_FOR_A_BYTE = 1 << 20, 8
+#: room for a report, and more for each byte of the input; what is not written of it takes no memory
+_ROOM, _ROOM_FOR_A_BYTE = 4 << 20, 4
 
 
 class Engine(Protocol):
@@ -42,7 +42,7 @@ class Library:
         order, used = "\0".join(words).encode(), ctypes.c_size_t()
         room = _ROOM + _ROOM_FOR_A_BYTE * len(data)
         while True:
-            with mmap.mmap(-1, room) as out:
+            with mmap.mmap(-1, room, flags=mmap.MAP_PRIVATE | mmap.MAP_ANONYMOUS) as out:
                 place = ctypes.c_char.from_buffer(out)
                 status = self._found.cha_run(order, len(order), _pointer(data), len(data), ctypes.byref(place), room, ctypes.byref(used))
                 del place

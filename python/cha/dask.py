@@ -6,7 +6,7 @@ from cha._calls import report
 from cha.db import Files, names_of
 from cha.db.joining import Promise
 from cha.db.rows import Row
-from cha.db.running import PIECE, parts, words
+from cha.db.running import PIECE, parts, room_for, words
 
 
 def _report(order: List[str], text: bytes) -> bytes:
@@ -32,7 +32,7 @@ def judge(
         promise: Promise = client.submit(_report, order, bytes(text), pure=False)
         return promise
 
-    room = 3 * max(1, sum(client.nthreads().values()))
+    room = room_for(sum(client.nthreads().values()))
     for file in names_of(files):
         for part in parts(file, promised, room, piece):
             yield from part.rows(only)

@@ -1,6 +1,9 @@
 """Exit statuses and messages of `cha-db`, and what is kept where something goes wrong."""
 
+import os
 import resource
+import subprocess
+import sys
 from pathlib import Path
 
 import pytest
@@ -70,6 +73,14 @@ def test_a_full_disk_keeps_what_was_judged(made: Path, tmp_path: Path, kind: str
     run([made, "--to", tmp_path / f"other.{kind}"])
     if kind != "sqlite":
         assert to.read_bytes() == (tmp_path / f"other.{kind}").read_bytes()
+
+
+def test_a_reader_that_goes_away_ends_the_run(made: Path) -> None:
+    reader, writer = os.pipe()
+    os.close(reader)
+    done = subprocess.run([sys.executable, "-m", "cha.db", made], stdout=writer, stderr=subprocess.PIPE, check=False)
+    os.close(writer)
+    assert (done.returncode, done.stderr) == (3, b"cha-db: standard output: Broken pipe\n")
 
 
 def test_quiet_says_nothing(made: Path) -> None:

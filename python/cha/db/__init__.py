@@ -1,16 +1,19 @@
 """Databases of games, of any length: cut into pieces, judged on all processors, and joined again.
 
->>> import io, sys
->>> from cha.db import judge
->>> for row in judge([]):
-...     print(row.file, row.fields["game"], row.fields["result"])
+>>> import os, tempfile
+>>> with tempfile.TemporaryDirectory() as folder:
+...     with open(os.path.join(folder, "a.pgn"), "w") as file:
+...         _ = file.write('[White "anna"]\\n\\n1. f3 e5 2. g4 Qh4# 1-0\\n')
+...     for row in judge(file.name):
+...         print(row.fields["recorded"], row.fields["result"], row.fields["article"], row.tags)
+1-0 0-1 5.1.1 {'White': 'anna'}
 """
 
 import os
 from typing import Iterator, Optional, Sequence, Union
 
 from cha.db.rows import Row
-from cha.db.running import PIECE, parts, threads, words
+from cha.db.running import PIECE, parts, processors, room_for, threads, words
 from cha.db.sources import InputError
 
 __all__ = ["InputError", "Row", "judge"]
@@ -30,8 +33,7 @@ def judge(
 
     `InputError` where a file cannot be read, `ChaError` where a text cannot be judged; both behind what could be judged.
     """
-    count = len(os.sched_getaffinity(0))
-    with threads(count, words(budget, depth)) as judges:
+    with threads(processors(), words(budget, depth)) as judges:
         for file in names_of(files):
-            for part in parts(file, judges, 2 * count + 1, piece):
+            for part in parts(file, judges, room_for(processors()), piece):
                 yield from part.rows(only)

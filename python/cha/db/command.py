@@ -13,7 +13,7 @@ from cha.db.joining import Judge, Place
 from cha.db.outputs import Output, outputs
 from cha.db.progress import Progress, progress
 from cha.db.rows import KINDS
-from cha.db.running import PIECE, parts, threads, words
+from cha.db.running import PIECE, parts, processors, room_for, threads, words
 from cha.db.sources import InputError, size_of
 from cha.db.state import OrderError, State
 from cha.db.tables import OutputError
@@ -44,7 +44,7 @@ def parser() -> argparse.ArgumentParser:
     read.add_argument("--report", metavar="FILE.html", help="write a page with the numbers and the changed games")
     read.add_argument("--resume", action="store_true", help="go on where a run with the same words was broken off")
     read.add_argument("--quiet", action="store_true", help="say nothing but errors")
-    read.add_argument("--threads", type=_count, default=len(os.sched_getaffinity(0)), metavar="N", help="judge N pieces at once (%(default)s)")
+    read.add_argument("--threads", type=_count, default=processors(), metavar="N", help="judge N pieces at once (%(default)s)")
     read.add_argument("--budget", type=_count, metavar="N", help="as for cha adjudicate")
     read.add_argument("--depth", type=_count, metavar="N", help="as for cha adjudicate")
     read.add_argument("--piece", type=_count, default=PIECE, metavar="BYTES", help="cut the text into pieces of this size (%(default)s)")
@@ -92,7 +92,7 @@ class _Run:
     def _judge_file(self, judge: Judge, shown: Progress) -> None:
         file = self._order.files[self._state.file]
         before = sum(size or 0 for size in self._sizes[: self._state.file])
-        for part in parts(file, judge, 2 * self._order.threads + 1, self._order.piece, self._state.at):
+        for part in parts(file, judge, room_for(self._order.threads), self._order.piece, self._state.at):
             counts = counted(part.judged)
             for output in self._outputs:
                 output.add(part)
@@ -120,6 +120,8 @@ class _Run:
             output.finish(self._order.files, self._state.counts)
         if self._path is not None:
             states.remove(self._path)
+        for output in self._outputs:
+            output.tidy()
         if not self._order.quiet:
             print(said(self._state.counts), file=sys.stderr)
         for fault in faults:
@@ -149,6 +151,9 @@ def main(arguments: Optional[Sequence[str]] = None) -> int:
     except MemoryError:
         print("cha-db: memory was refused", file=sys.stderr)
         return 5
+    except OSError as fault:
+        print(f"cha-db: {fault}", file=sys.stderr)
+        return InputError.status
     except KeyboardInterrupt:
         goes_on = "; --resume goes on behind the last whole piece" if order is not None and (order.to or order.report) else ""
         print(f"cha-db: interrupted{goes_on}", file=sys.stderr)

@@ -1,7 +1,7 @@
 """What is written of each part: the table of games, and the page."""
 
 import os
-from typing import Counter as Counts, List, Optional, Sequence
+from typing import Counter as Counts, List, Optional, Protocol, Sequence
 
 from cha.db.report import Page
 from cha.db.running import Part
@@ -9,7 +9,26 @@ from cha.db.state import OrderError
 from cha.db.tables import TABLES, Shown, Table
 
 
-class Output:
+class Output(Protocol):
+    """Takes the parts that were judged, in their order."""
+
+    def add(self, part: Part) -> None:
+        """Writes a part, whole or not at all."""
+
+    def mark(self) -> int:
+        """Where it stands, so that another run can go on there."""
+
+    def close(self) -> None:
+        """Takes no more parts."""
+
+    def finish(self, files: Sequence[str], counts: "Counts[str]") -> None:
+        """Writes what can only be written behind the last part."""
+
+    def tidy(self) -> None:
+        """Takes away what no run needs any more."""
+
+
+class Listed:
     """A table that takes the games of one kind, or all."""
 
     def __init__(self, table: Table, only: Optional[str]) -> None:
@@ -17,13 +36,13 @@ class Output:
         self.mark, self.close = table.mark, table.close
 
     def add(self, part: Part) -> None:
-        """Writes the games of a part, all or none."""
         self._table.add(part.rows(self._only))
 
     def finish(self, files: Sequence[str], counts: "Counts[str]") -> None:
-        """Ends the work behind the last part."""
-        if isinstance(self._table, Page):
-            self._table.finish(files, counts)
+        pass
+
+    def tidy(self) -> None:
+        pass
 
 
 def _table(path: Optional[str], mark: Optional[int]) -> Table:
@@ -42,9 +61,9 @@ def outputs(to: Optional[str], only: Optional[str], report: Optional[str], marks
     def mark() -> Optional[int]:
         return None if marks is None else left.pop(0)
 
-    opened = []
+    opened: List[Output] = []
     if to is not None or report is None:
-        opened.append(Output(_table(to, mark()), only))
+        opened.append(Listed(_table(to, mark()), only))
     if report is not None:
-        opened.append(Output(Page(report, mark()), "changed"))
+        opened.append(Page(report, mark()))
     return opened

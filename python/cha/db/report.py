@@ -2,10 +2,11 @@
 
 import os
 from html import escape
-from typing import Any, Counter as Counts, Dict, List, Optional, Sequence
+from typing import Any, Counter as Counts, Dict, Optional, Sequence
 
 from cha._board import svg
 from cha.db.rows import Row
+from cha.db.running import Part
 from cha.db.tables import File, OutputError
 
 #: so many changed games are shown
@@ -66,7 +67,7 @@ def _numbers(counts: "Counts[str]") -> str:
 
 
 class Page:
-    """The page. What it has on games grows in a file beside it, until all are judged."""
+    """The page, as an output. What it has on games grows in a file beside it, until all are judged."""
 
     def __init__(self, path: str, mark: Optional[int] = None) -> None:
         self._path = path
@@ -77,13 +78,12 @@ class Page:
                 self._shown = sum(line.startswith("<article>") for line in file)
         self.mark, self.close = self._games.mark, self._games.close
 
-    def add(self, rows: List[Row]) -> None:
-        fresh = rows[: MOST_SHOWN - self._shown]
+    def add(self, part: Part) -> None:
+        fresh = part.rows("changed")[: MOST_SHOWN - self._shown]
         self._shown += len(fresh)
         self._games.write("".join(map(_game, fresh)).encode())
 
     def finish(self, files: Sequence[str], counts: "Counts[str]") -> None:
-        """Writes the page, and takes away what it was made of."""
         with open(self._path + ".part", encoding="utf-8") as file:
             games = file.read()
         more = f"<p>The first {MOST_SHOWN:,} of {counts['changed']:,}.</p>" if counts["changed"] > self._shown else ""
@@ -94,8 +94,11 @@ class Page:
             f"<p>{names}</p>{_numbers(counts)}\n<h2>Games whose result changes</h2>{more}\n{games}</body></html>\n"
         )
         try:
-            with open(self._path, "w", encoding="utf-8") as file:
+            with open(self._path + ".new", "w", encoding="utf-8") as file:
                 file.write(text)
-            os.remove(self._path + ".part")
+            os.replace(self._path + ".new", self._path)
         except OSError as fault:
             raise OutputError(f"{self._path}: {fault.strerror}") from fault
+
+    def tidy(self) -> None:
+        os.remove(self._path + ".part")

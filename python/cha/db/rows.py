@@ -2,6 +2,7 @@
 
 import functools
 import json
+import re
 from dataclasses import dataclass
 from typing import Any, Dict, Iterator, List, Optional
 
@@ -36,13 +37,17 @@ class Row:
         return tags_of(self.game)
 
 
+_BYTES = re.compile(rb'"bytes":\[(\d+),(\d+)\]')
+
+
 def rows_of(judged: Judged, file: str, only: Optional[str] = None) -> Iterator[Row]:
     """Yields the rows of what was judged, or only those of a kind."""
     wanted = KINDS[only] if only else b""
     for line in judged.lines:
         if wanted in line:
-            row = Row(file, line, b"")
-            first, end = (place - judged.at.byte for place in row.fields["bytes"])
+            place = _BYTES.search(line)
+            assert place is not None, line
+            first, end = (int(number) - judged.at.byte for number in place.groups())
             yield Row(file, line, bytes(judged.text[first:end]))
 
 

@@ -1,5 +1,6 @@
 """Judges files, one behind the other, each by all threads."""
 
+import os
 from concurrent.futures import ThreadPoolExecutor
 from contextlib import contextmanager
 from dataclasses import dataclass
@@ -41,9 +42,19 @@ def parts(file: str, judge: Judge, room: int, size: int = PIECE, at: Place = Pla
             raise type(fault)(f"{file}, from line {at.feeds + 1} on: {fault}") from fault
 
 
+def processors() -> int:
+    """Returns how many processors this process may use."""
+    return len(os.sched_getaffinity(0)) if hasattr(os, "sched_getaffinity") else os.cpu_count() or 1
+
+
 def words(budget: Optional[int] = None, depth: Optional[int] = None) -> List[str]:
     """Returns the command words for a piece: other pieces use the other processors."""
     return words_for("adjudicate", budget=budget, depth=depth) + ["--workers=1"]
+
+
+def room_for(count: int) -> int:
+    """Returns how many pieces are held so that so many judges always have one."""
+    return 2 * count + 1
 
 
 @contextmanager

@@ -111,8 +111,9 @@ class Shown:
 
     def add(self, rows: List[Row]) -> None:
         try:
-            sys.stdout.buffer.write(b"".join(map(json_line, rows)))
-            sys.stdout.buffer.flush()
+            left = memoryview(b"".join(map(json_line, rows)))
+            while left:
+                left = left[os.write(sys.stdout.fileno(), left) :]
         except OSError as fault:
             raise OutputError(f"standard output: {fault.strerror}") from fault
 

@@ -22,7 +22,7 @@ def _men(fen: str) -> Iterator[Tuple[int, int, str]]:
 
 def _man(column: int, row: int, letter: str) -> str:
     fill, edge = ("#fff", "#000") if letter.isupper() else ("#000", "none")
-    x, y = _SQUARE * column + _SQUARE // 2, _SQUARE * row + _SQUARE * 4 // 5
+    x, y = _SQUARE * column + _SQUARE // 2, _SQUARE * row + _SQUARE * 6 // 7
     return f'<text x="{x}" y="{y}" fill="{fill}" stroke="{edge}">{_MEN[letter.lower()]}\ufe0e</text>'
 
 
@@ -44,5 +44,5 @@ def svg(fen: str, size: int = 280) -> str:
     return (
         f'<svg xmlns="http://www.w3.org/2000/svg" viewBox="0 0 {side} {side}" width="{size}" height="{size}" role="img" '
         f'aria-label="{escape(fen)}"><rect width="{side}" height="{side}" fill="#eed9b6"/><path d="{dark}" fill="#b58863"/>'
-        f'<g font-family="{_FONT}" font-size="34" text-anchor="middle" stroke-width="1">{men}</g></svg>'
+        f'<g font-family="{_FONT}" font-size="40" text-anchor="middle" stroke-width="1">{men}</g></svg>'
     )

@@ -15,7 +15,7 @@ MOST_SHOWN = 1000
 _STYLE = """
 :root{color-scheme:light dark}
 body{font:16px/1.5 system-ui,sans-serif;max-width:66rem;margin:2rem auto;padding:0 1rem}
-table{border-collapse:collapse}th,td{padding:.2rem 1rem .2rem 0;text-align:left}td.number{text-align:right}
+table{border-collapse:collapse}th,td{padding:.2rem 1rem .2rem 0;text-align:left;font-weight:normal}td.number{text-align:right}
 article{display:flex;flex-wrap:wrap;gap:0 1.5rem;border-top:1px solid #8886;padding:1rem 0}
 article h3{margin:0}article div{flex:1 1 20rem}article p{margin:.3rem 0}
 """
@@ -29,7 +29,7 @@ _COUNTED = {
     "games": "games",
     "unreadable": "games that cannot be read",
     "dead": "games that end in a dead position",
-    "undecided": "games with a side of which nothing was shown",
+    "undecided": "games with a side that stayed undecided",
     "changed": "games whose result changes",
 }
 
@@ -49,7 +49,7 @@ def _game(row: Row) -> str:
     dead = fields["dead_from"]
     said = [
         ", ".join(filter(None, (tags.get("Event"), tags.get("Site"), tags.get("Date"), tags.get("Termination")))),
-        f"Recorded {fields['recorded']}, by Article {fields['article']} {fields['result']}: {_ARTICLES.get(fields['article'], '')}",
+        f"Recorded {fields['recorded']}, by Article {fields['article']} it is {fields['result']}: {_ARTICLES.get(fields['article'], '')}.",
         f"Dead from ply {dead['ply']}" if dead else "",
         *(_side(side.capitalize(), fields[side]) for side in ("white", "black") if fields[side]["verdict"] != "skipped"),
         fields["fen"],

@@ -66,13 +66,16 @@ class File:
         self._file.close()
 
 
+_encoded = json.JSONEncoder(separators=(",", ":")).encode
+
+
 def json_line(row: Row) -> bytes:
     """Returns a row as a line in JSON: the library's, with the file before and the tags behind.
 
     >>> json_line(Row("a.pgn", b'{"game":1,"bytes":[0,17]}', b'[Event "Club"] *'))
     b'{"file":"a.pgn","game":1,"bytes":[0,17],"tags":{"Event":"Club"}}\\n'
     """
-    file, tags = json.dumps(row.file), json.dumps(row.tags, separators=(",", ":"))
+    file, tags = _encoded(row.file), _encoded(row.tags)
     return b'{"file":%s,%s,"tags":%s}\n' % (file.encode(), row.line[1:-1], tags.encode())
 
 

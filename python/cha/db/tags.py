@@ -6,6 +6,8 @@ from typing import Dict, Union
 #: the tags of a table
 NAMES = ("Event", "Site", "Date", "White", "Black", "Termination")
 
+_BY_BYTES = {name.encode(): name for name in NAMES}
+
 _GAP = rb"(?:[\s.]+|\{[^}]*\}|;[^\n]*)*"
 _TAG = re.compile(_GAP + rb'\[[ \t]*(\w+)[ \t]*"((?:\\.|[^"\\\n])*)"[ \t]*\]')
 _ESCAPED = re.compile(r'\\(["\\])')
@@ -16,7 +18,7 @@ def _text(value: bytes) -> str:
         plain = value.decode()
     except UnicodeDecodeError:
         plain = value.decode("latin-1")
-    return _ESCAPED.sub(r"\1", plain)
+    return _ESCAPED.sub(r"\1", plain) if "\\" in plain else plain
 
 
 def tags_of(game: Union[bytes, bytearray]) -> Dict[str, str]:
@@ -28,8 +30,8 @@ def tags_of(game: Union[bytes, bytearray]) -> Dict[str, str]:
     found: Dict[str, str] = {}
     at = 0
     while (tag := _TAG.match(game, at)) is not None:
-        name = tag[1].decode("latin-1")
-        if name in NAMES:
-            found.setdefault(name, _text(tag[2]))
+        name = _BY_BYTES.get(tag[1])
+        if name is not None and name not in found:
+            found[name] = _text(tag[2])
         at = tag.end()
     return found

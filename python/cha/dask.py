@@ -6,7 +6,10 @@ from cha._calls import report
 from cha.db import Files, names_of
 from cha.db.joining import Promise
 from cha.db.rows import Row
-from cha.db.running import PIECE, parts, room_for, words
+from cha.db.running import parts, room_for, words
+
+#: the bytes of a piece: less than what Dask holds to be too large for a task
+PIECE = 1 << 19
 
 
 def _report(order: List[str], text: bytes) -> bytes:

@@ -19,7 +19,7 @@ from texts import HARD, database
 def pieced(data: bytes, size: int) -> List[bytes]:
     """The lines on games, joined from pieces of a size."""
     with threads(4, words()) as judges:
-        return [line for judged in joined(pieces(io.BytesIO(data).read, size), judges, 9) for line in judged.lines]
+        return [line for judged in joined(pieces(io.BytesIO(data).read, size), judges, 9) for line in judged.lines()]
 
 
 @pytest.mark.parametrize("name", HARD)
@@ -68,7 +68,7 @@ def test_the_last_whole_pieces_come_before_what_goes_wrong() -> None:
     found: List[bytes] = []
     with threads(2, words()) as judges, pytest.raises(OSError):
         for judged in joined(pieces(Broken(data).read, 300), judges, 5):
-            found += judged.lines
+            found += judged.lines()
     assert found == whole(data)[: len(found)] and len(found) > 40
 
 
@@ -87,5 +87,5 @@ def test_a_text_without_a_cut_ends_the_run(monkeypatch: pytest.MonkeyPatch) -> N
         found: List[bytes] = []
         with threads(2, words()) as judges, pytest.raises(TooLong):
             for judged in joined(pieces(io.BytesIO(database(9) + last).read, 200), judges, 5):
-                found += judged.lines
+                found += judged.lines()
         assert found == whole(database(9))[: len(found)] and len(found) >= 5

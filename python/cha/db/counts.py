@@ -13,11 +13,8 @@ _ARTICLE = re.compile(rb'"changed":true,"article":"([0-9.]+)"')
 def counted(judged: Judged) -> "Counts[str]":
     """Returns what the summary counts, dead games, and under the name of an Article the games whose result it changes."""
     counts: "Counts[str]" = Counter({name: judged.summary[name] for name in ("games", "unreadable", "changed", "undecided")})
-    for line in judged.lines:
-        counts["dead"] += KINDS["dead"] in line
-        article = _ARTICLE.search(line)
-        if article is not None:
-            counts[article[1].decode()] += 1
+    counts["dead"] = judged.games.count(KINDS["dead"])
+    counts.update(article.decode() for article in _ARTICLE.findall(judged.games))
     return counts
 
 

@@ -8,7 +8,7 @@ import json
 import re
 from collections import deque
 from dataclasses import dataclass
-from typing import Any, Callable, Deque, Dict, Iterator, List, NamedTuple, Optional, Protocol
+from typing import Any, Callable, Deque, Dict, Iterator, NamedTuple, Optional, Protocol
 
 from cha._calls import MOST_BYTES, TooLong
 
@@ -40,17 +40,25 @@ class Place:
 
 @dataclass(frozen=True)
 class Judged:
-    """A closed text, or the last one: where it begins, its bytes, and what was said of it."""
+    """A closed text, or the last one: where it begins, its bytes, and what was said of it, with the numbers that it has alone."""
 
     at: Place
     text: bytearray
-    lines: List[bytes]
+    games: bytes
     summary: Dict[str, Any]
 
     @property
     def behind(self) -> Place:
         """The place behind it."""
-        return Place(self.at.byte + len(self.text), self.at.feeds + self.text.count(b"\n"), self.at.games + len(self.lines))
+        return Place(self.at.byte + len(self.text), self.at.feeds + self.text.count(b"\n"), self.at.games + self.summary["games"])
+
+    def lines(self, wanted: bytes = b"") -> Iterator[bytes]:
+        """Yields the lines on games, or those in which some bytes stand, with the numbers of the whole."""
+        hit = self.games.find(wanted)
+        while 0 <= hit < len(self.games):
+            end = self.games.find(b"\n", hit)
+            yield moved(self.games[self.games.rfind(b"\n", 0, hit) + 1 : end], self.at)
+            hit = self.games.find(wanted, end + 1)
 
 
 _START = re.compile(rb'\{"game":(\d+),"bytes":\[(\d+),(\d+)\],"line":(\d+)')
@@ -132,8 +140,9 @@ def _lengthen(text: bytearray, ahead: _Ahead) -> bool:
     return len(text) > before
 
 
-def _is_closed(report: bytes) -> bool:
-    return bool(json.loads(report[report.rfind(b"\n", 0, -1) + 1 :])["closed"])
+def _judged(at: Place, text: bytearray, report: bytes) -> Judged:
+    last = report.rfind(b"\n", 0, -1) + 1
+    return Judged(at, text, report[:last], json.loads(report[last:]))
 
 
 def joined(pieces: Iterator[bytearray], judge: Judge, room: int, at: Place = Place()) -> Iterator[Judged]:
@@ -142,11 +151,10 @@ def joined(pieces: Iterator[bytearray], judge: Judge, room: int, at: Place = Pla
     ahead = _Ahead(pieces, judge, room)
     try:
         while (taken := ahead.take()) is not None:
-            text, report = taken.text, taken.promise.result()
-            while not _is_closed(report) and _lengthen(text, ahead):
-                report = judge(text).result()
-            *lines, summary = report.splitlines()
-            found = Judged(at, text, [moved(line, at) for line in lines], json.loads(summary))
+            text = taken.text
+            found = _judged(at, text, taken.promise.result())
+            while not found.summary["closed"] and _lengthen(text, ahead):
+                found = _judged(at, text, judge(text).result())
             yield found
             at = found.behind
     finally:

@@ -42,13 +42,11 @@ _BYTES = re.compile(rb'"bytes":\[(\d+),(\d+)\]')
 
 def rows_of(judged: Judged, file: str, only: Optional[str] = None) -> Iterator[Row]:
     """Yields the rows of what was judged, or only those of a kind."""
-    wanted = KINDS[only] if only else b""
-    for line in judged.lines:
-        if wanted in line:
-            place = _BYTES.search(line)
-            assert place is not None, line
-            first, end = (int(number) - judged.at.byte for number in place.groups())
-            yield Row(file, line, bytes(judged.text[first:end]))
+    for line in judged.lines(KINDS[only] if only else b""):
+        place = _BYTES.search(line)
+        assert place is not None, line
+        first, end = (int(number) - judged.at.byte for number in place.groups())
+        yield Row(file, line, bytes(judged.text[first:end]))
 
 
 #: the columns of a table, a side's with its name before them

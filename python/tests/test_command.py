@@ -94,8 +94,14 @@ def test_a_run_that_was_broken_off_is_not_written_over(made: Path, tmp_path: Pat
 
 
 def test_memory_stays_small(tmp_path: Path) -> None:
-    part, long = database(4000), b'[Event "Long"]\n\n1. e4 {' + b"a note\n\n[Event]\n" * 3_000_000 + b"} *\n\n"
+    def noted(note: bytes) -> bytes:
+        return b'[Event "Note"]\n\n1. e4 {' + note + b"} *\n\n"
+
     with open(tmp_path / "games.pgn", "wb") as file:
-        file.writelines([part] * 60 + [long])
-    run([tmp_path / "games.pgn", "--to", tmp_path / "games.jsonl", "--only", "changed"])
-    assert resource.getrusage(resource.RUSAGE_CHILDREN).ru_maxrss < 500_000
+        file.writelines([(database(200) + noted(b"a few words\n" * 100_000)) * 20] * 6 + [noted(b"a note\n\n[Event]\n" * 3_000_000)])
+    order = [sys.executable, "-m", "cha.db", tmp_path / "games.pgn", "--to", tmp_path / "games.jsonl", "--only", "changed", "--quiet"]
+    with subprocess.Popen(order) as begun:
+        _, status, used = os.wait4(begun.pid, 0)
+        begun.returncode = os.waitstatus_to_exitcode(status)
+    assert (tmp_path / "games.pgn").stat().st_size > 180_000_000
+    assert begun.returncode == 0 and used.ru_maxrss < 500_000

@@ -16,6 +16,7 @@ import zstandard
 import cha
 from cha.db import InputError, judge
 from cha.db.rows import COLUMNS, KINDS, NAMES
+from cha.db.tags import tags_of
 from conftest import run, whole
 
 Found = List[Dict[str, Any]]
@@ -130,6 +131,11 @@ def test_a_page_has_numbers_and_boards(made: Path, tmp_path: Path) -> None:
     assert text.count("<article>") == text.count("<svg") == len(changed)
     assert f'<td class="number">{len(wanted)}</td>' in text and f'<td class="number">{len(changed)}</td>' in text
     assert "Café &quot;x&quot;" in text and not list(tmp_path.glob("*.part"))
+
+
+def test_tags_are_found_behind_comments_at_once() -> None:
+    gap = b"\n" * 20_000 + b"; [White \"no\"] ;" * 20_000 + b"\n%[White \"no\"]\n{[White \"no\"]} "
+    assert tags_of(b'[Event "A"]' + gap + b'[White "anna"]' + gap + b'[Black "ben"]{' + gap) == {"Event": "A", "White": "anna", "Black": "ben"}
 
 
 def test_names_of_tags_are_columns() -> None:

@@ -8,8 +8,9 @@ NAMES = ("Event", "Site", "Date", "White", "Black", "Termination")
 
 _BY_BYTES = {name.encode(): name for name in NAMES}
 
-_GAP = rb"(?:[\s.]+|\{[^}]*\}|;[^\n]*)*"
-_TAG = re.compile(_GAP + rb'\[[ \t]*(\w+)[ \t]*"((?:\\.|[^"\\\n])*)"[ \t]*\]')
+#: blanks, comments and escaped lines, if there are any
+_GAP = re.compile(rb"(?:[\s.]+|\{[^}]*\}|(?:;|(?<![^\n])%)[^\n]*)*")
+_TAG = re.compile(rb'\[[ \t]*(\w+)[ \t]*"((?:\\.|[^"\\\n])*)"[ \t]*\]')
 _ESCAPED = re.compile(r'\\(["\\])')
 
 
@@ -28,10 +29,11 @@ def tags_of(game: Union[bytes, bytearray]) -> Dict[str, str]:
     {'Event': 'Club "A"', 'White': 'anna'}
     """
     found: Dict[str, str] = {}
-    at = 0
-    while (tag := _TAG.match(game, at)) is not None:
+    tag = _TAG.match(game)
+    while tag is not None:
         name = _BY_BYTES.get(tag[1])
         if name is not None and name not in found:
             found[name] = _text(tag[2])
-        at = tag.end()
+        gap = _GAP.match(game, tag.end())
+        tag = _TAG.match(game, gap.end() if gap else tag.end())
     return found

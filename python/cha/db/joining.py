@@ -95,49 +95,63 @@ class _Ahead:
         self._held: Deque[_Taken] = deque()
         self._end: Optional[Exception] = None
 
-    def _fill(self) -> None:
-        while self._end is None and len(self._held) < self._room and sum(len(taken.text) for taken in self._held) < _BYTES_AHEAD:
+    def _read(self) -> Optional[bytearray]:
+        if self._end is None:
             try:
-                piece = next(self._pieces)
+                return next(self._pieces)
             except Exception as end:  # also StopIteration, where all was read
                 self._end = end
-            else:
-                self._held.append(_Taken(piece, self._judge(piece)))
+        return None
+
+    def _hold(self) -> None:
+        while len(self._held) < self._room and sum(len(taken.text) for taken in self._held) < _BYTES_AHEAD:
+            piece = self._read()
+            if piece is None:
+                break
+            self._held.append(_Taken(piece, self._judge(piece)))
 
     def take(self) -> Optional[_Taken]:
         """The next piece, or None behind the last."""
-        self._fill()
+        self._hold()
         if self._held:
             return self._held.popleft()
-        if self._end is None or isinstance(self._end, StopIteration):
-            return None
-        raise self._end
+        self._tell_fault()
+        return None
 
-    def next_bytes(self) -> int:
-        """How many bytes the next piece has; 0 behind the last."""
-        self._fill()
-        return len(self._held[0].text) if self._held else 0
+    def _take_text(self) -> Optional[bytearray]:
+        """The next piece, which nobody wants judged by itself, or None behind the last."""
+        if self._held:
+            taken = self._held.popleft()
+            taken.promise.cancel()
+            return taken.text
+        piece = self._read()
+        if piece is None:
+            self._tell_fault()
+        return piece
+
+    def _tell_fault(self) -> None:
+        if self._end is not None and not isinstance(self._end, StopIteration):
+            raise self._end
+
+    def lengthen(self, text: bytearray) -> bool:
+        """Adds pieces to a text until it has grown by a quarter, or as far as the library takes it; False behind the last piece."""
+        before = len(text)
+        while len(text) <= before + before // 4:
+            piece = self._take_text()
+            if piece is None:
+                break
+            if len(text) + len(piece) > MOST_BYTES:
+                if len(text) == before:
+                    raise TooLong("no end of a game in 268,435,456 bytes")
+                self._held.appendleft(_Taken(piece, self._judge(piece)))
+                break
+            text += piece
+        return len(text) > before
 
     def drop(self) -> None:
         """Says that nobody wants what is being made."""
         for taken in self._held:
             taken.promise.cancel()
-
-
-def _lengthen(text: bytearray, ahead: _Ahead) -> bool:
-    """Adds pieces to a text until it has grown by a quarter, or as far as the library takes it; False behind the last piece."""
-    before = len(text)
-    while len(text) <= before + before // 4:
-        if len(text) + ahead.next_bytes() > MOST_BYTES:
-            if len(text) > before:
-                break
-            raise TooLong("no end of a game in 268,435,456 bytes")
-        taken = ahead.take()
-        if taken is None:
-            break
-        taken.promise.cancel()
-        text += taken.text
-    return len(text) > before
 
 
 def _judged(at: Place, text: bytearray, report: bytes) -> Judged:
@@ -153,7 +167,7 @@ def joined(pieces: Iterator[bytearray], judge: Judge, room: int, at: Place = Pla
         while (taken := ahead.take()) is not None:
             text = taken.text
             found = _judged(at, text, taken.promise.result())
-            while not found.summary["closed"] and _lengthen(text, ahead):
+            while not found.summary["closed"] and ahead.lengthen(text):
                 found = _judged(at, text, judge(text).result())
             yield found
             at = found.behind

@@ -20,11 +20,11 @@ KINDS = {
 
 @dataclass(frozen=True)
 class Row:
-    """A game of a file: the line that `cha adjudicate --json` prints of it in one run over the whole, and the game's bytes."""
+    """A game of a file: the line that `cha adjudicate --json` prints of it in one run over the whole, and the front of its bytes."""
 
     file: str
     line: bytes
-    game: bytes
+    front: bytes
 
     @functools.cached_property
     def fields(self) -> Dict[str, Any]:
@@ -34,9 +34,11 @@ class Row:
     @functools.cached_property
     def tags(self) -> Dict[str, str]:
         """The tags of the game."""
-        return tags_of(self.game)
+        return tags_of(self.front)
 
 
+#: so many bytes of a game are taken along: its tags stand there
+_FRONT = 1 << 20
 _BYTES = re.compile(rb'"bytes":\[(\d+),(\d+)\]')
 
 
@@ -46,7 +48,7 @@ def rows_of(judged: Judged, file: str, only: Optional[str] = None) -> Iterator[R
         place = _BYTES.search(line)
         assert place is not None, line
         first, end = (int(number) - judged.at.byte for number in place.groups())
-        yield Row(file, line, bytes(judged.text[first:end]))
+        yield Row(file, line, bytes(judged.text[first : min(end, first + _FRONT)]))
 
 
 #: the columns of a table, a side's with its name before them

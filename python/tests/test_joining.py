@@ -28,7 +28,8 @@ def test_hard_texts_join(name: str) -> None:
         assert pieced(HARD[name], size) == whole(HARD[name]), size
 
 
-_PARTS = [b"\n", b"\n\n", b"\r\n\r\n", b'[Event "A"]', b"[", b"]", b"{", b"}", b"(", b")", b";", b"%", b'"', b"\\", b" ", b"*", b"1-0", b"e4 ", b"\xef\xbb\xbf", b"$", b"$1", b"\n\n[Event \"A\"]\n\n1. e4 *\n\n"]
+_PARTS = [bytes([byte]) for byte in b'\n[]{}();%"\\ *$.'] + [b"\n\n", b"\r\n\r\n", b"1-0", b"e4 ", b"$1", b"\xef\xbb\xbf"]
+_PARTS += [b'[Event "A"]', b'\n\n[Event "A"]\n\n1. e4 *\n\n']
 
 
 @settings(max_examples=300, suppress_health_check=[HealthCheck.too_slow])

@@ -52,7 +52,8 @@ def test_json_lines_are_the_librarys_with_file_and_tags(made: Path, tmp_path: Pa
 def test_standard_output_has_the_same_lines(made: Path, tmp_path: Path) -> None:
     run([made, "--to", tmp_path / "games.jsonl"])
     assert run([made]).stdout == (tmp_path / "games.jsonl").read_bytes()
-    assert run(["-"], data=made.read_bytes()).stdout == (tmp_path / "games.jsonl").read_bytes().replace(json.dumps(str(made)).encode(), b'"-"')
+    renamed = (tmp_path / "games.jsonl").read_bytes().replace(json.dumps(str(made)).encode(), b'"-"')
+    assert run(["-"], data=made.read_bytes()).stdout == renamed
 
 
 def test_csv_has_a_line_for_each_game(made: Path, tmp_path: Path) -> None:
@@ -73,12 +74,15 @@ def test_sqlite_has_games_and_sides(made: Path, tmp_path: Path) -> None:
     run([made, "--to", tmp_path / "games.sqlite", "--piece", 5000])
     base, wanted = sqlite3.connect(tmp_path / "games.sqlite"), fields(made)
     games = base.execute("select game, line, first_byte, end_byte, result, changed, unreadable from games order by id").fetchall()
-    assert games == [
-        (found["game"], found["line"], *found["bytes"], found.get("result"), found.get("changed"), found.get("unreadable")) for found in wanted
-    ]
+    names = ("result", "changed", "unreadable")
+    assert games == [(found["game"], found["line"], *found["bytes"], *map(found.get, names)) for found in wanted]
     sides = base.execute("select game, side, verdict, moves, plies from sides join games on id = game_id order by id, side desc").fetchall()
+
+    def moves(verdict: Dict[str, Any]) -> Any:
+        return " ".join(verdict["moves"]) if "moves" in verdict else None
+
     assert sides == [
-        (found["game"], side, found[side]["verdict"], " ".join(found[side]["moves"]) if "moves" in found[side] else None, found[side].get("plies"))
+        (found["game"], side, found[side]["verdict"], moves(found[side]), found[side].get("plies"))
         for found in wanted
         if "white" in found
         for side in ("white", "black")
@@ -135,7 +139,8 @@ def test_a_page_has_numbers_and_boards(made: Path, tmp_path: Path) -> None:
 
 def test_tags_are_found_behind_comments_at_once() -> None:
     gap = b"\n" * 20_000 + b"; [White \"no\"] ;" * 20_000 + b"\n%[White \"no\"]\n{[White \"no\"]} "
-    assert tags_of(b'[Event "A"]' + gap + b'[White "anna"]' + gap + b'[Black "ben"]{' + gap) == {"Event": "A", "White": "anna", "Black": "ben"}
+    game = b'[Event "A"]' + gap + b'[White "anna"]' + gap + b'[Black "ben"]{' + gap
+    assert tags_of(game) == {"Event": "A", "White": "anna", "Black": "ben"}
 
 
 def test_names_of_tags_are_columns() -> None:

@@ -90,7 +90,8 @@ class Page:
         names = escape(", ".join(files))
         text = (
             f'<!doctype html>\n<html lang="en"><head><meta charset="utf-8"><meta name="viewport" content="width=device-width">'
-            f"<title>{names}: results by the Laws of Chess</title><style>{_STYLE}</style></head><body>\n<h1>Results by the Laws of Chess</h1>"
+            f"<title>{names}: results by the Laws of Chess</title><style>{_STYLE}</style></head><body>\n"
+            f"<h1>Results by the Laws of Chess</h1>"
             f"<p>{names}</p>{_numbers(counts)}\n<h2>Games whose result changes</h2>{more}\n{games}</body></html>\n"
         )
         try:

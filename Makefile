@@ -69,7 +69,7 @@ wheel: lib
 	@rm -rf python/build python/cha.egg-info
 
 data-test: wheel
-	cd python && PYTHONPATH=. CHA_LIBRARY=$(CURDIR)/libcha.so $(PYTHON) -m pytest
+	cd python && PYTHONPATH=$(CURDIR)/python CHA_LIBRARY=$(CURDIR)/libcha.so $(PYTHON) -m pytest
 
 text-test: cha
 	tools/printed.py ./cha

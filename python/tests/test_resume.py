@@ -46,13 +46,3 @@ def test_ten_times_killed_at_random_moments(files: List[Path], tmp_path: Path, k
     run(order)
     assert [content(path) for path in part] == [content(path) for path in at_once]
     assert sorted(os.listdir(tmp_path)) == sorted(path.name for path in part + at_once)
-
-
-def test_nothing_is_judged_twice(made: Path, tmp_path: Path) -> None:
-    order = [made, "--to", tmp_path / "games.csv", "--piece", 500, "--threads", 1]
-    while killed([*order, "--resume"], 0.6, signal.SIGINT) == 0:
-        (tmp_path / "games.csv").unlink()
-        order[3] = int(order[3]) // 2 or pytest.skip("too fast to be interrupted")
-    before = (tmp_path / "games.csv").read_bytes()
-    run([*order, "--resume"])
-    assert (tmp_path / "games.csv").read_bytes().startswith(before)

@@ -4,6 +4,8 @@
 # make install    copies the program to PREFIX/bin (PREFIX=/usr/local)
 # make lib        builds libcha.a and libcha.so; make install-lib copies them, the header and cha.pc
 # make lib-test   runs both from C, under sanitizers, and from Python
+# make wheel      builds Python's wheel, python/dist/cha-*.whl, with the library in it
+# make data-test  tests the Python package: databases, tables, clusters, the wheel in a fresh environment (tools/packages data)
 # make text-test  runs the command lines that the documents print, and compares the completions with the usage
 # make page       builds page/dist: the page in one file (also dist/cha.html), and the module for JavaScript; make page-test tests both
 # make dist       makes a release in dist/; make dist-test uses it elsewhere, without the kit
@@ -11,7 +13,7 @@ PREFIX ?= /usr/local
 PROGRAM = crates/cha_main/out/cha_main
 SOURCES = HANDLES crates.txt $(shell find crates/*/src crates/*/specs crates/*/proofs -type f)
 
-.PHONY: all run test install clean kit lib lib-test install-lib text-test page page-test dist dist-test
+.PHONY: all run test install clean kit lib lib-test install-lib wheel data-test text-test page page-test dist dist-test
 
 all: cha
 
@@ -59,6 +61,17 @@ lib-test: lib cha
 	./library/test
 	CHA_LIBRARY=./libcha.so python3 library/test.py ./cha $(FILES)
 
+# Debian's packages for Python belong to its own interpreter.
+PYTHON ?= /usr/bin/python3
+
+wheel: lib
+	@rm -rf python/build python/dist python/cha.egg-info
+	$(PYTHON) -m pip wheel --quiet --disable-pip-version-check --no-index --no-deps --no-build-isolation --wheel-dir python/dist ./python
+	@rm -rf python/build python/cha.egg-info
+
+data-test: wheel
+	cd python && PYTHONPATH=$(CURDIR)/python CHA_LIBRARY=$(CURDIR)/libcha.so $(PYTHON) -m pytest
+
 text-test: cha
 	tools/printed.py ./cha
 	tools/completions.py --check ./cha
@@ -97,4 +110,4 @@ install-lib: lib
 	sed 's|@PREFIX@|$(PREFIX)|; s|@VERSION@|'$$(cat VERSION)'|' library/cha.pc.in > $(DESTDIR)$(PREFIX)/lib/pkgconfig/cha.pc
 
 clean:
-	rm -rf cha libcha.a libcha.so library/test dist page crates/*/out
+	rm -rf cha libcha.a libcha.so library/test dist page python/dist crates/*/out

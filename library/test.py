@@ -1,11 +1,10 @@
-"""The library from Python: examples in docstrings, and reports beside the program's, also from two threads at once.
+"""The library from Python: reports beside the program's, also from two threads at once. `make data-test` tests the module itself.
 
     CHA_LIBRARY=./libcha.so python3 library/test.py ./cha [FILE ..]
 
 Files that end in .pgn are adjudicated, others are read as positions.
 """
 
-import doctest
 import os
 import subprocess
 import sys
@@ -16,8 +15,6 @@ TOP = os.path.dirname(os.path.dirname(os.path.abspath(__file__)))
 sys.path.insert(0, os.path.join(TOP, "python"))
 
 import cha  # noqa: E402
-import cha._calls  # noqa: E402
-import cha._reports  # noqa: E402
 
 PROGRAM, FILES = sys.argv[1], sys.argv[2:]
 
@@ -27,16 +24,13 @@ def printed(words, data):
 
 
 class Library(unittest.TestCase):
-    def test_examples(self):
-        for module in (cha, cha._calls, cha._reports):
-            self.assertEqual(doctest.testmod(module).failed, 0)
-
     def test_reports_are_the_programs(self):
         for path in [os.path.join(TOP, "docs", "sample.pgn"), *FILES]:
             with open(path, "rb") as file:
                 data = file.read()
             words = ["adjudicate" if path.endswith(".pgn") else "position", "--certs", "--workers=1"]
-            self.assertEqual(cha.report(words, data), printed(words, data), path)
+            for order in (words, [*words, "--json"]):
+                self.assertEqual(cha.report(order, data), printed(order, data), path)
 
     def test_two_threads_at_once(self):
         data = b"8/8/8/4k3/3q4/8/8/4KN2 w - -\n" * 20

@@ -7,30 +7,37 @@ The work is done by the library that `make lib` builds; this module hands it tex
 ...     print(found.status, found.white.kind, found.black.kind)
 dead unwinnable unwinnable
 
-A move line is a list of moves as `e2e4`, a certificate is a text that `check` accepts:
+A mating line is a list of moves, a certificate is a text that `check` accepts:
 
 >>> [found] = cha.positions("6k1/5ppp/8/8/8/8/5PPP/3R2K1 w - -")
->>> found.white.kind, found.white.line
-('winnable', ['d1d8'])
+>>> found.white.kind, found.white.line, found.white.san
+('winnable', ['d1d8'], ['Rd8#'])
 >>> [found] = cha.positions("4k3/8/8/8/8/8/8/4K3 w - -", certs=True)
 >>> cha.check(found.white.certificate)
 True
+
+Whole databases are judged by `cha.db` (the command `cha-db`), by `cha.frame`, which gives a table of pandas, and by `cha.dask`.
 """
 
 from cha._calls import ChaError, OutOfMemory, TooLong, UsageError, check, report
-from cha._reports import Game, Position, Refusal, Summary, Verdict, games, positions
+from cha._frame import frame
+from cha._reading import games, positions
+from cha._values import DeadFrom, Game, Position, Refusal, Span, Unreadable, Verdict
 
 __all__ = [
     "ChaError",
+    "DeadFrom",
     "Game",
     "OutOfMemory",
     "Position",
     "Refusal",
-    "Summary",
+    "Span",
     "TooLong",
+    "Unreadable",
     "UsageError",
     "Verdict",
     "check",
+    "frame",
     "games",
     "positions",
     "report",

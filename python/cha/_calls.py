@@ -1,10 +1,18 @@
 """The two calls of the library, with their answers as values and exceptions."""
 
-import ctypes
+import functools
 import os
 from typing import Sequence, Union
 
-_DONE, _USAGE, _TOO_LONG, _NO_MEMORY, _NOT_ACCEPTED, _NO_ROOM = 0, 1, 4, 5, 6, 7
+from cha._engines import Engine, Library, Program
+
+_DONE, _USAGE, _TOO_LONG, _NO_MEMORY, _NOT_ACCEPTED = 0, 1, 4, 5, 6
+
+#: what may be handed in: a text, or bytes
+Text = Union[str, bytes, bytearray]
+
+#: no input may have more bytes
+MOST_BYTES = 268_435_456
 
 
 class ChaError(Exception):
@@ -34,30 +42,32 @@ class OutOfMemory(ChaError, MemoryError):
 _ERRORS = {kind.status: kind for kind in (UsageError, TooLong, OutOfMemory)}
 
 
-def _load() -> ctypes.CDLL:
-    named = os.environ.get("CHA_LIBRARY")
+def _error(status: int, order: str) -> ChaError:
+    error = _ERRORS.get(status, ChaError)(order if status in _ERRORS else f"{order}: status {status}")
+    error.status = status
+    return error
+
+
+@functools.lru_cache(maxsize=None)
+def _engine() -> Engine:
+    """Returns the library: the one that CHA_LIBRARY names, the one beside this module, at the top of the repository, or of the system.
+    Where CHA_PROGRAM names the program, it does the work."""
+    if "CHA_LIBRARY" in os.environ:
+        return Library(os.environ["CHA_LIBRARY"])
+    if "CHA_PROGRAM" in os.environ:
+        return Program(os.environ["CHA_PROGRAM"])
     here = os.path.dirname(os.path.abspath(__file__))
-    beside = [os.path.join(here, "libcha.so"), os.path.join(here, "..", "..", "libcha.so")]
-    for path in [named] if named else beside + ["libcha.so"]:
-        if os.path.sep not in path or os.path.exists(path):
-            found = ctypes.CDLL(path)
-            size, text = ctypes.c_size_t, ctypes.c_char_p
-            found.cha_run.argtypes = [text, size, text, size, ctypes.c_void_p, size, ctypes.POINTER(size)]
-            found.cha_run.restype = ctypes.c_uint8
-            found.cha_check.argtypes = [text, size]
-            found.cha_check.restype = ctypes.c_uint8
-            return found
-    raise OSError(f"there is no library {named}")
+    for folder in (here, os.path.dirname(os.path.dirname(here))):
+        if os.path.exists(os.path.join(folder, "libcha.so")):
+            return Library(os.path.join(folder, "libcha.so"))
+    return Library("libcha.so")
 
 
-_LIBRARY = _load()
+def _bytes(text: Text) -> Union[bytes, bytearray]:
+    return text.encode() if isinstance(text, str) else text
 
 
-def _bytes(text: Union[str, bytes]) -> bytes:
-    return text.encode() if isinstance(text, str) else bytes(text)
-
-
-def report(words: Sequence[str], data: Union[str, bytes]) -> bytes:
+def report(words: Sequence[str], data: Text) -> bytes:
     """Returns what the program prints for these words and this input.
 
     >>> report(["position"], "").decode()
@@ -69,27 +79,19 @@ def report(words: Sequence[str], data: Union[str, bytes]) -> bytes:
 
     A certificate that is not accepted is a report too. `ChaError` where there is none.
     """
-    order, source = "\0".join(words).encode(), _bytes(data)
-    room, used = 4096 + 2 * len(source), ctypes.c_size_t()
-    while True:
-        out = ctypes.create_string_buffer(room)
-        status = _LIBRARY.cha_run(order, len(order), source, len(source), out, room, ctypes.byref(used))
-        if status != _NO_ROOM:
-            break
-        room = used.value
-    if status in _ERRORS:
-        raise _ERRORS[status](" ".join(words))
-    return out.raw[: used.value]
+    status, printed = _engine().run(words, _bytes(data))
+    if status not in (_DONE, _NOT_ACCEPTED):
+        raise _error(status, " ".join(words))
+    return printed
 
 
-def check(certificate: Union[str, bytes]) -> bool:
+def check(certificate: Text) -> bool:
     """Returns whether a certificate is accepted: then no series of legal moves from the position of its first node mates for its side.
 
     >>> check("cha-cert 1")
     False
     """
-    text = _bytes(certificate)
-    status = _LIBRARY.cha_check(text, len(text))
-    if status in _ERRORS:
-        raise _ERRORS[status]("check")
+    status = _engine().check(_bytes(certificate))
+    if status not in (_DONE, _NOT_ACCEPTED):
+        raise _error(status, "check")
     return status == _DONE

@@ -1,0 +1,41 @@
+"""Databases on a cluster: pieces are the tasks of Dask.distributed."""
+
+from typing import Any, Iterator, List, Optional
+
+from cha._calls import report
+from cha.db import Files, names_of
+from cha.db.joining import Promise
+from cha.db.rows import Row
+from cha.db.running import parts, room_for, words
+
+#: the bytes of a piece: less than what Dask holds to be too large for a task
+PIECE = 1 << 19
+
+
+def _report(order: List[str], text: bytes) -> bytes:
+    return report(order, text)
+
+
+def judge(
+    files: Files,
+    client: Any,
+    only: Optional[str] = None,
+    budget: Optional[int] = None,
+    depth: Optional[int] = None,
+    piece: int = PIECE,
+) -> Iterator[Row]:
+    """Yields the rows that `cha.db.judge` yields; the workers of `client`, a `distributed.Client`, judge the pieces.
+
+    This process reads the files and sends the pieces. A piece whose worker dies is judged by another one, since nobody keeps anything
+    between two pieces. Each worker needs this package.
+    """
+    order = words(budget, depth)
+
+    def promised(text: bytearray) -> Promise:
+        promise: Promise = client.submit(_report, order, bytes(text), pure=False)
+        return promise
+
+    room = room_for(sum(client.nthreads().values()))
+    for file in names_of(files):
+        for part in parts(file, promised, room, piece):
+            yield from part.rows(only)

@@ -13,12 +13,14 @@ import subprocess
 import sys
 
 TOP = os.path.dirname(os.path.dirname(os.path.abspath(__file__)))
-# what is run, and whether it needs packages
+# what is run, and which packages it needs, as words of tools/packages; None where it needs none
 SUITES = [
-    (["rt", "ci"], False),
-    (["make", "lib-test"], True),
-    (["make", "text-test"], False),
-    (["make", "dist-test"], True),
+    (["rt", "ci"], None),
+    (["make", "lib-test"], []),
+    (["make", "text-test"], None),
+    (["make", "data-test"], ["data"]),
+    (["make", "page-test"], ["page"]),
+    (["make", "dist-test"], []),
 ]
 COUNTS = re.compile(r"^(\d+) passed, (\d+) failed")
 
@@ -40,8 +42,8 @@ def run(command):
 
 def main():
     status = passed = failed = 0
-    for command, needs_packages in SUITES:
-        if needs_packages and subprocess.call([f"{TOP}/tools/packages"]):
+    for command, packages in SUITES:
+        if packages is not None and subprocess.call([f"{TOP}/tools/packages", *packages]):
             print(f"passed over for want of packages: {' '.join(command)}", flush=True)
             if os.environ.get("CI") == "true":
                 status, failed = 1, failed + 1

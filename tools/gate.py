@@ -22,6 +22,8 @@ SUITES = [
     (["make", "page-test"], ["page"]),
     (["make", "dist-test"], []),
 ]
+# what is passed over where its packages cannot be had, with CI=true too: a browser, and Python's libraries for databases
+OPTIONAL = ("data-test", "page-test")
 COUNTS = re.compile(r"^(\d+) passed, (\d+) failed")
 
 
@@ -45,7 +47,7 @@ def main():
     for command, packages in SUITES:
         if packages is not None and subprocess.call([f"{TOP}/tools/packages", *packages]):
             print(f"passed over for want of packages: {' '.join(command)}", flush=True)
-            if os.environ.get("CI") == "true":
+            if os.environ.get("CI") == "true" and command[-1] not in OPTIONAL:
                 status, failed = 1, failed + 1
                 break
             continue

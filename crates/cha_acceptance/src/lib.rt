@@ -1,10 +1,10 @@
 //! Whole runs over sources and sinks in memory, compared with known outputs.
 //!
 //! `running` makes one run. `tables` goes through tables of whole outputs: `positions`, `games`, `printed` and
-//! `certificates`. `mates` has runs that list the shortest mates, those of `published` problems among them. `dead_from`
-//! has games that were dead from some ply on. `faults` has sources and sinks that fail. `known` goes through the tables
-//! of positions with known verdicts: `walls`, `walls_men`, `bishops`, `knights`, `pawns` and `ends`; `printed` checks
-//! what is printed of them.
+//! `certificates`. `styles` has reports in JSON and SAN, and drawn games whose flag fell. `mates` has runs that list the shortest
+//! mates, those of `published` problems among them. `dead_from` has games that were dead from some ply on. `faults` has sources and
+//! sinks that fail. `known` goes through the tables of positions with known verdicts: `walls`, `walls_men`, `bishops`, `knights`,
+//! `pawns` and `ends`; `printed` checks what is printed of them.
 #![tactic(auto)]
 
 #[cfg(test)]
@@ -35,6 +35,8 @@ mod printed;
 mod published;
 #[cfg(test)]
 mod running;
+#[cfg(test)]
+mod styles;
 #[cfg(test)]
 mod tables;
 #[cfg(test)]

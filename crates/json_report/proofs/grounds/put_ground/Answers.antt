@@ -5,16 +5,16 @@ use Rattle.json_report.proofs.grounds.put_ground.Goals as goal
 
 pub returns-in_ok-put_text-in-Sets : goal.returns-in_ok-put_text-in-Sets
 unfolding ground_members
-returns-in_ok-put_text-in-Sets c = λ more. next _ _ _ _ _ c.in_ok-put_text-in-Sets.ensures
+returns-in_ok-put_text-in-Sets c = λ more. rw c.in-Sets.is (next _ _ _ _ _ c.in_ok-put_text-in-Sets.ensures)
 
 pub returns-in_ok-put_text-in-Material : goal.returns-in_ok-put_text-in-Material
 unfolding ground_members
-returns-in_ok-put_text-in-Material c = λ more. next _ _ _ _ _ c.in_ok-put_text-in-Material.ensures
+returns-in_ok-put_text-in-Material c = λ more. rw c.in-Material.is (next _ _ _ _ _ c.in_ok-put_text-in-Material.ensures)
 
 pub returns-in_ok-put_text-in-LonePieces : goal.returns-in_ok-put_text-in-LonePieces
 unfolding ground_members
-returns-in_ok-put_text-in-LonePieces c = λ more. next _ _ _ _ _ c.in_ok-put_text-in-LonePieces.ensures
+returns-in_ok-put_text-in-LonePieces c = λ more. rw c.in-LonePieces.is (next _ _ _ _ _ c.in_ok-put_text-in-LonePieces.ensures)
 
 pub returns-in_ok-put_count-in-Graph : goal.returns-in_ok-put_count-in-Graph
 unfolding ground_members
-returns-in_ok-put_count-in-Graph c = λ more. next _ _ _ _ _ c.in_ok-put_text-in-Graph.ensures ∙ next _ _ _ _ _ c.in_ok-put_count-in-Graph.ensures
+returns-in_ok-put_count-in-Graph c = λ more. rw c.in-Graph.is (next _ _ _ _ _ c.in_ok-put_text-in-Graph.ensures ∙ next _ _ _ _ _ c.in_ok-put_count-in-Graph.ensures)

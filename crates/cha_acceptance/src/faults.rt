@@ -14,6 +14,13 @@ const LINES: &str = "4k3/8/8/8/8/8/8/4K3 w - -\r\nhello\r\n";
 const REPORT: &str =
     "position 1\nfen: 4k3/8/8/8/8/8/8/4K3 w - -\nwhite: unwinnable\nblack: unwinnable\nstatus: dead\nposition 2\nrefused: shape\npositions: 2, refused: 1, dead: 1, undecided: 0\n";
 
+/// The blocks of the first line, and of both.
+const FIRST_LINE: &str =
+    "position 1\nfen: 4k3/8/8/8/8/8/8/4K3 w - -\nwhite: unwinnable\nblack: unwinnable\nstatus: dead\n";
+
+const BOTH_LINES: &str =
+    "position 1\nfen: 4k3/8/8/8/8/8/8/4K3 w - -\nwhite: unwinnable\nblack: unwinnable\nstatus: dead\nposition 2\nrefused: shape\n";
+
 const GAME: &str = "1. f3 e5 2. g4 Qh4# 0-1\n";
 
 const BLOCK: &str =
@@ -119,11 +126,19 @@ fn run_to_a_fault<R: Threads + Wait + Sync>(
     run_in_pieces(rt, alloc, &asked)
 }
 
+/// The first line feed is the 27th byte, and the second one the 34th: each block is out with it.
 #[test]
 fn any_failing_read_ends_the_run(rt: HostRuntime) -> Result<(), Fail> {
     for call in 1..36 {
         let found = run_to_a_fault(&rt, rt.alloc(), "position", LINES, call)?;
-        assert_eq!(rt; found.written.len(), 0);
+        let written = if call <= 27 {
+            ""
+        } else if call <= 34 {
+            FIRST_LINE
+        } else {
+            BOTH_LINES
+        };
+        assert_eq!(rt; found.text(), written, "call {call}");
         assert_eq!(rt; found.status, Status::ReadFault, "call {call}");
     }
     Ok(())

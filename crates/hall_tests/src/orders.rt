@@ -14,7 +14,8 @@ use std::test::Fail;
 pub const NOTHING: &str = "nothing";
 
 /// Each row is words between single spaces, and then what they order: the command, the positions expanded for a side, the plies
-/// of the rounds, the workers, the rows of each shard, and whether certificates are printed, or the seed and the number of games.
+/// of the rounds, the workers, the rows of each shard, and whether certificates are printed, or the seed and the number of games;
+/// behind that how the report is printed, and whether drawn games whose flag fell are examined.
 const ROWS: &[(&str, &str)] = &[
     ("adjudicate", "games 20000 4 2 4096 false"),
     ("position", "positions 20000 4 2 4096 false"),
@@ -78,6 +79,19 @@ const ROWS: &[(&str, &str)] = &[
         "adjudicate --json --san --fens",
         "games 20000 4 2 4096 false json san fens",
     ),
+    (
+        "adjudicate --flagged-draws",
+        "games 20000 4 2 4096 false draws",
+    ),
+    (
+        "adjudicate --flagged-draws --budget=5 --json --certs",
+        "games 5 4 2 4096 true json draws",
+    ),
+    ("adjudicate --flagged-draws --flagged-draws", NOTHING),
+    ("adjudicate --flagged-draws=1", NOTHING),
+    ("position --flagged-draws", NOTHING),
+    ("mates w --flagged-draws", NOTHING),
+    ("gen 1 2 --flagged-draws", NOTHING),
     ("adjudicate --json --json", NOTHING),
     ("adjudicate --json=1", NOTHING),
     ("mates w --fens", NOTHING),
@@ -210,10 +224,17 @@ fn said_of(alloc: Global, order: &Option<Order>) -> Result<String, Fail> {
             };
             format!(in alloc; "mates {side} {workers} {depth}{}", style_of(printing))?
         }
-        Some(Order::AdjudicateGames { limits, printing }) => {
+        Some(
+            Order::AdjudicateGames {
+                limits,
+                flagged_draws,
+                printing,
+            },
+        ) => {
             let certs = printing.certs;
+            let draws = if *flagged_draws { " draws" } else { "" };
             format!(in alloc;
-                "games {} {certs}{}",
+                "games {} {certs}{}{draws}",
                 spent(alloc, limits)?,
                 style_of(printing)
             )?
@@ -267,8 +288,12 @@ fn words_order_what_the_language_says(rt: HostRuntime) -> Result<(), Fail> {
     Ok(())
 }
 
-/// The options of the judging commands.
-const JUDGING: &str = " --budget --workers --depth --entries --certs";
+/// The options of `position`.
+const JUDGING: &str = " --budget --workers --depth --entries --certs --json --san --fens";
+
+/// The options of `adjudicate`.
+const OF_GAMES: &str =
+    " --budget --workers --depth --entries --certs --json --san --fens --flagged-draws";
 
 /// Lists of words that order nothing, how many words stand before the first at which they leave the language, and what may stand there:
 /// a command, a number, or the next further word and the options that did not stand.
@@ -279,23 +304,30 @@ const FAULTS: &[(&str, usize, &str)] = &[
     ("position --", 1, JUDGING),
     ("position --help", 1, JUDGING),
     ("position 5", 1, JUDGING),
-    ("adjudicate --certs=yes", 1, JUDGING),
-    ("adjudicate --certs=1", 1, JUDGING),
-    ("adjudicate --budget=0 x", 1, JUDGING),
+    ("position --flagged-draws", 1, JUDGING),
+    ("adjudicate --certs=yes", 1, OF_GAMES),
+    ("adjudicate --certs=1", 1, OF_GAMES),
+    ("adjudicate --budget=0 x", 1, OF_GAMES),
+    ("adjudicate --flagged-draws=1", 1, OF_GAMES),
+    (
+        "adjudicate --json --flagged-draws --fens --json",
+        4,
+        " --budget --workers --depth --entries --certs --san",
+    ),
     (
         "adjudicate --certs --certs",
         2,
-        " --budget --workers --depth --entries",
+        " --budget --workers --depth --entries --json --san --fens --flagged-draws",
     ),
     (
         "adjudicate --depth 4 --depth 4",
         3,
-        " --budget --workers --entries --certs",
+        " --budget --workers --entries --certs --json --san --fens --flagged-draws",
     ),
     (
         "position --budget 5 --budget",
         3,
-        " --workers --depth --entries --certs",
+        " --workers --depth --entries --certs --json --san --fens",
     ),
     ("adjudicate --workers 17", 2, "1 to 16"),
     ("adjudicate --entries", 2, "1 to 65536"),
@@ -309,15 +341,16 @@ const FAULTS: &[(&str, usize, &str)] = &[
         3,
         " --budget --workers --depth --entries",
     ),
-    ("mates", 1, " SIDE --workers --depth"),
-    ("mates x", 1, " SIDE --workers --depth"),
-    ("mates w --budget", 2, " --workers --depth"),
-    ("mates w --budget=5", 2, " --workers --depth"),
-    ("mates w --certs", 2, " --workers --depth"),
-    ("mates w w", 2, " --workers --depth"),
+    ("mates", 1, " SIDE --workers --depth --json --san"),
+    ("mates x", 1, " SIDE --workers --depth --json --san"),
+    ("mates w --budget", 2, " --workers --depth --json --san"),
+    ("mates w --budget=5", 2, " --workers --depth --json --san"),
+    ("mates w --certs", 2, " --workers --depth --json --san"),
+    ("mates w w", 2, " --workers --depth --json --san"),
+    ("mates w --san --fens", 3, " --workers --depth --json"),
     ("mates w --depth 7", 3, "1 to 6"),
     ("mates w --depth", 3, "1 to 6"),
-    ("mates --workers=3 --depth 2", 4, " SIDE"),
+    ("mates --workers=3 --depth 2", 4, " SIDE --json --san"),
 ];
 
 /// What may stand at a place, as a text.

@@ -1,10 +1,9 @@
 -- The text of a value, token by token.
-use Rattle.std.proofs.Common.{◌≡◌, ℕ, Bool, true, false, if◌then◌else◌, List, [], ◌∷◌, ◌++◌, codes, refl, sym, ap, ◌∙◌, append_assoc, append-nil, subst}
+use Rattle.std.proofs.Common.{◌≡◌, ℕ, Bool, true, false, List, [], ◌∷◌, ◌++◌, refl, sym, ap, ◌∙◌, append_assoc, append-nil}
 use Rattle.json.specs.Json.{Json, null, boolean, number, string, array, object, Items, no_items, item, Members, no_members, member}
 use Rattle.json.specs.Token.{Token}
 use Rattle.json.specs.Tree.{json_tokens, items_tokens, members_tokens}
 use Rattle.json.specs.Print as plainly
-use Rattle.json_text.specs.Escapes.{quoted}
 use Rattle.json_text.specs.Texts.{text_from, token_text, json_text, IsPut}
 use Rattle.json_text.specs.declared.writer.JsonText.{JsonText}
 use Rattle.json_report.specs.Spelled.{comma, key_text, value_text, items_text, members_text, IsValue, IsMember, closed_by, ended_by}

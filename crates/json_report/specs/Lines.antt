@@ -6,7 +6,7 @@ use Rattle.cha_moves.specs.Step.{Move}
 use Rattle.cha_moves.specs.Moves.{after}
 use Rattle.cha_moves.specs.Texts.{move_bytes}
 use Rattle.cha_san.specs.Writing.{san_text}
-use Rattle.json.specs.Json.{Json, number, string, array, object, Items, no_items, item, Members, no_members, member}
+use Rattle.json.specs.Json.{Json, number, string, array, Items, no_items, item, Members, member}
 
 -- a number, in decimal digits
 abbrev pub count : ℕ → Json

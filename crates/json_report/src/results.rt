@@ -7,8 +7,8 @@ ghost use Rattle.json_report.specs.Outcomes.{article_json, edge_members, flag_js
 ghost use Rattle.json_report.specs.Spelled.{IsMember, closed_by};
 
 use crate::members::{put_count, put_null, put_text, put_truth};
-use cha_list::{NoMemory, Text};
 use cha_board::Color;
+use cha_list::{NoMemory, Text};
 use cha_outcome::{Cause, Judgment, PlayedGame, changes_result, fallen_flag};
 use cha_verdict::{Edge, Scan};
 use json_text::JsonText;

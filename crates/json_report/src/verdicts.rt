@@ -62,12 +62,7 @@ fn put_winnable(
 }
 
 /// Writes the member with a certificate, its equal sets written once.
-fn put_cert(
-    alloc: Global,
-    winner: Color,
-    cert: &Cert,
-    json: &mut JsonText,
-) -> Result<(), NoMemory>
+fn put_cert(alloc: Global, winner: Color, cert: &Cert, json: &mut JsonText) -> Result<(), NoMemory>
     requires { IsPrintable (Unwinnable cert.now) }
     ensures { OnOk result (IsMember json.old (codes "certificate") (string (shared_text winner (shared_of cert.now))) json.new) }
 {

@@ -1,4 +1,4 @@
-use Rattle.std.proofs.Common.{◌∙◌, ap, sym, ◌++◌}
+use Rattle.std.proofs.Common.{◌∙◌}
 use Rattle.json_report.proofs.Stepping.{next}
 use Rattle.json_report.proofs.lines.put_line.Goals as goal
 

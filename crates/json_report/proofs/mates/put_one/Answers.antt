@@ -1,4 +1,3 @@
-use Rattle.std.proofs.Common.{◌∙◌, ap, sym, ◌++◌}
 use Rattle.json_report.proofs.Stepping.{whole}
 use Rattle.json_report.proofs.mates.put_one.Goals as goal
 

@@ -1,4 +1,4 @@
-use Rattle.std.proofs.Common.{◌∙◌, ap, sym, ◌++◌}
+use Rattle.std.proofs.Common.{◌∙◌}
 use Rattle.json_report.specs.Outcomes.{outcome_members}
 use Rattle.json_report.proofs.Stepping.{next}
 use Rattle.json_report.proofs.outcomes.put_said.Goals as goal

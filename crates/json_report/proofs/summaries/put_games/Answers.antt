@@ -1,4 +1,4 @@
-use Rattle.std.proofs.Common.{◌∙◌, ap, sym, ◌++◌}
+use Rattle.std.proofs.Common.{◌∙◌}
 use Rattle.json_report.specs.Summaries.{games_json}
 use Rattle.json_report.proofs.Stepping.{next, whole}
 use Rattle.json_report.proofs.summaries.put_games.Goals as goal

@@ -1,4 +1,4 @@
-use Rattle.std.proofs.Common.{◌∙◌, ap, sym, ◌++◌}
+use Rattle.std.proofs.Common.{◌∙◌, ap, ◌++◌}
 use Rattle.json_report.proofs.Stepping.{lined}
 use Rattle.json_report.proofs.summaries.put_games_line.Goals as goal
 

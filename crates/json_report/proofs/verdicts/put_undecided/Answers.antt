@@ -1,4 +1,4 @@
-use Rattle.std.proofs.Common.{◌∙◌, ap, sym, ◌++◌}
+use Rattle.std.proofs.Common.{◌∙◌}
 use Rattle.json_report.specs.Verdicts.{verdict_members}
 use Rattle.json_report.proofs.Stepping.{next}
 use Rattle.json_report.proofs.verdicts.put_undecided.Goals as goal

@@ -1,4 +1,3 @@
-use Rattle.std.proofs.Common.{◌∙◌, ap, sym, ◌++◌}
 use Rattle.json_report.proofs.Stepping.{whole, keyed}
 use Rattle.json_report.proofs.verdicts.put_verdict.Goals as goal
 

@@ -12,7 +12,9 @@ use cha_decide::{decide_by, scan_by};
 use cha_limits::Limits;
 use cha_list::NoMemory;
 use cha_moves::state;
-use cha_outcome::{FlaggedDraws, Item, Outcome, PlayedGame, claim_of, first_examined, judgment_of, status_of};
+use cha_outcome::{
+    FlaggedDraws, Item, Outcome, PlayedGame, claim_of, first_examined, judgment_of, status_of,
+};
 use root_workers::Crew;
 use std::alloc::Global;
 

@@ -17,7 +17,10 @@ mod unreadable;
 pub use items::{Item, PlayedGame, item_of_game, item_of_line};
 pub use outcomes::Outcome;
 pub use questions::{FlaggedDraws, Question};
-pub use rulings::{Cause, Claim, Judgment, changes_result, claim_of, fallen_flag, first_examined, judgment_of, ruling};
+pub use rulings::{
+    Cause, Claim, Judgment, changes_result, claim_of, fallen_flag, first_examined, judgment_of,
+    ruling,
+};
 pub use status::{PositionStatus, status_of};
 pub use totals::Totals;
 pub use unreadable::Unreadable;

@@ -72,7 +72,10 @@ impl Outcome {
     pub fn is_refused(&self) -> bool
         ensures { result ≡ is_refused_of self.now }
     {
-        matches!(self, Outcome::RefusedLine { .. } | Outcome::UnreadableGame { .. })
+        matches!(
+            self,
+            Outcome::RefusedLine { .. } | Outcome::UnreadableGame { .. }
+        )
     }
 
     /// Whether it is a position that is dead.

@@ -186,19 +186,18 @@ pub fn ruling(
 }
 
 /// Who wins a game that is recorded as drawn though a flag fell, if that player can mate.
-fn claimant(draws: FlaggedDraws, flag_fell: bool, recorded: ResultMark, mover: Color) -> Option<Color>
+fn claimant(
+    draws: FlaggedDraws,
+    flag_fell: bool,
+    recorded: ResultMark,
+    mover: Color,
+) -> Option<Color>
     ensures { result ≡ claimant_by draws flag_fell recorded mover }
 {
     match draws {
         FlaggedDraws::Stand => None,
         FlaggedDraws::Examined => match recorded {
-            ResultMark::Draw => {
-                if flag_fell {
-                    Some(mover.other())
-                } else {
-                    None
-                }
-            }
+            ResultMark::Draw => { if flag_fell { Some(mover.other()) } else { None } }
             ResultMark::WhiteWins | ResultMark::BlackWins | ResultMark::Unknown => None,
         },
     }

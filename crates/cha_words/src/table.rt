@@ -175,11 +175,8 @@ pub fn is_flag(setting: Setting) -> bool
     ensures { result ≡ stands_alone setting }
 {
     match setting {
-        Setting::Certs
-        | Setting::Json
-        | Setting::San
-        | Setting::Fens
-        | Setting::FlaggedDraws => true,
+        Setting::Certs | Setting::Json | Setting::San | Setting::Fens | Setting::FlaggedDraws =>
+            true,
         Setting::Budget | Setting::Workers | Setting::Depth | Setting::Entries => false,
     }
 }
@@ -200,11 +197,8 @@ fn for_search(workers: u64, setting: Setting) -> Range
         Setting::Workers => from_to(1, 16, workers),
         Setting::Depth => from_to(2, 8, 4),
         Setting::Entries => from_to(1, 65_536, 4_096),
-        Setting::Certs
-        | Setting::Json
-        | Setting::San
-        | Setting::Fens
-        | Setting::FlaggedDraws => from_to(0, 1, 0),
+        Setting::Certs | Setting::Json | Setting::San | Setting::Fens | Setting::FlaggedDraws =>
+            from_to(0, 1, 0),
     }
 }
 
@@ -220,11 +214,8 @@ pub fn range_of(command: Command, setting: Setting) -> Option<Range>
         },
         Command::Check => None,
         Command::Gen => match setting {
-            Setting::Certs
-            | Setting::Json
-            | Setting::San
-            | Setting::Fens
-            | Setting::FlaggedDraws => None,
+            Setting::Certs | Setting::Json | Setting::San | Setting::Fens | Setting::FlaggedDraws =>
+                None,
             _ => Some(for_search(1, setting)),
         },
         Command::Mates => match setting {

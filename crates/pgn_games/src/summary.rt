@@ -12,7 +12,9 @@ use crate::history::TokenHistory;
 use crate::marks::ResultMark;
 use crate::movetext::{bad_outside, keep_word, mark_outside, unclosed};
 use crate::played::{Game, PlacedGame, Span, Words};
-use crate::tag_pairs::{TagValues, flag_fell, forfeited, other_game, start_refused, started, was_cut};
+use crate::tag_pairs::{
+    TagValues, flag_fell, forfeited, other_game, start_refused, started, was_cut,
+};
 use crate::token_turns::deeper;
 use cha_list::NoMemory;
 use pgn_lex::{Placed, Token};

@@ -12,7 +12,9 @@ use cha_decide::{decide_by, scan_by};
 use cha_limits::Limits;
 use cha_list::NoMemory;
 use cha_moves::state;
-use cha_outcome::{FlaggedDraws, Item, Outcome, PlayedGame, claim_of, first_examined, judgment_of, status_of};
+use cha_outcome::{
+    FlaggedDraws, Item, Outcome, PlayedGame, claim_of, first_examined, judgment_of, status_of,
+};
 use root_workers::Crew;
 use std::alloc::Global;
 
@@ -57,7 +59,7 @@ fn judge_position<C: Crew>(
 ) -> Result<Outcome, NoMemory>
     requires ready { C.ready crew.old }
     ensures stays_ready { C.ready crew.new }
-    ensures answers { IfOk result ((λ outcome. (draws : DrawRule) → Answers (Verdicts limits.now draws) (OfPosition line position) outcome)) }
+    ensures answers { IfOk result (λ outcome. (draws : DrawRule) → Answers (Verdicts limits.now draws) (OfPosition line position) outcome) }
     ensures printable { IfOk result IsPrintableOutcome }
 {
     let decision = decide_by(alloc, &position, Color::White, limits, crew)?;

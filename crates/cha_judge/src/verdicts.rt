@@ -59,7 +59,7 @@ fn judge_position<C: Crew>(
 ) -> Result<Outcome, NoMemory>
     requires ready { C.ready crew.old }
     ensures stays_ready { C.ready crew.new }
-    ensures answers { IfOk result ((λ outcome. (draws : DrawRule) → Answers (Verdicts limits.now draws) (OfPosition line position) outcome)) }
+    ensures answers { IfOk result (λ outcome. (draws : DrawRule) → Answers (Verdicts limits.now draws) (OfPosition line position) outcome) }
     ensures printable { IfOk result IsPrintableOutcome }
 {
     let decision = decide_by(alloc, &position, Color::White, limits, crew)?;

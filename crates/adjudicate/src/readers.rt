@@ -102,10 +102,7 @@ fn next_game<S: Source>(
 }
 
 /// The item of the next line that is not blank, or None where all were given.
-fn next_line<S: Source>(
-    reader: &mut LineReader,
-    source: &mut S,
-) -> Result<Option<Item>, ReadEnd>
+fn next_line<S: Source>(reader: &mut LineReader, source: &mut S) -> Result<Option<Item>, ReadEnd>
     requires { reader.old.failed ≡ false }
     ensures bytes { Gathers (S.left source.old) (S.left source.new) reader.old.taken reader.new.taken }
     ensures item { IfOk result (λ found. IfSome found (λ item. slice_get (position_items reader.new.taken) reader.old.given ≡ Some item)) }

@@ -13,7 +13,7 @@ use Rattle.cha_outcome.specs.Outcomes.{item_of, IsSoundOutcome, Answers, AllSoun
 use Rattle.cha_outcome.specs.Totals.{totals_of, one_if, counted, HasRoom}
 use Rattle.flag_report.specs.declared.styles.Style.{Style}
 use Rattle.flag_report.specs.Styles.{block, blocks, summary}
-use Rattle.adjudicate.specs.Jobs.{Job, last}
+use Rattle.adjudicate.specs.Jobs.{Job}
 use Rattle.adjudicate.specs.Report.{HasReport, HasBlocks, HasCutBlock, IsFront}
 use Rattle.adjudicate.specs.Runs.{Grew}
 

@@ -1,5 +1,5 @@
 -- The one loop over items: what was judged and written so far, and how a run ends.
-use Rattle.std.proofs.Common.{◌≡◌, ◌≢◌, ◌↔◌, ◌⊎◌, inl, inr, ℕ, zero, suc, ◌+◌, ◌^◌, ◌<◌, ◌≤◌, Bool, true, List, [], ◌∷◌, ◌++◌, length, map, take, drop, Option, Some, slice_get, refl, sym, ap, ◌∙◌, arith, subst, take-append-drop, append_assoc}
+use Rattle.std.proofs.Common.{◌≡◌, ◌≢◌, ◌↔◌, ◌⊎◌, inl, inr, ℕ, zero, suc, ◌+◌, ◌^◌, ◌<◌, ◌≤◌, Bool, List, [], ◌∷◌, ◌++◌, length, take, drop, Option, Some, slice_get, refl, sym, ap, ◌∙◌, arith, subst, take-append-drop, append_assoc}
 use Rattle.std.specs.Io.KnownBytes.{Appends, Consumes, IsAtEnd}
 use Rattle.std.proofs.lemmas.List.{length-map, drop_all}
 use Rattle.std.proofs.Math.Seq.{take-append_seam}
@@ -17,12 +17,12 @@ use Rattle.cha_outcome.specs.Outcomes.{item_of, Answers}
 use Rattle.cha_outcome.specs.Totals.{totals_of, counted, HasRoom}
 use Rattle.flag_report.specs.Styles.{block, summary}
 use Rattle.adjudicate.specs.declared.endings.Status.{Status}
-use Rattle.adjudicate.specs.declared.endings.Status.TheVariants.{Done, ReadFault, WriteFault, TooLong, NoMemory}
+use Rattle.adjudicate.specs.declared.endings.Status.TheVariants.{Done, ReadFault, WriteFault, NoMemory}
 use Rattle.adjudicate.specs.declared.reports.Form.{Form}
 use Rattle.adjudicate.specs.Statuses.{status_of_end}
 use Rattle.adjudicate.specs.Jobs.{Job}
 use Rattle.adjudicate.specs.Report.{Demand, demand_by, HasBlocks}
-use Rattle.adjudicate.specs.Runs.{Grew, outside, BeginsWhole, IsRunOf}
+use Rattle.adjudicate.specs.Runs.{Grew, outside, IsRunOf}
 use Rattle.adjudicate.specs.Readers.{items_by, settled_by, closed_by, IsAskedOf, job_on}
 use Rattle.adjudicate.proofs.RunEndings.{short_run, long_run}
 use Rattle.adjudicate.proofs.Progress.{WroteUpTo, nothing_written, one_more, cut_block, whole_blocks, finished, cut_summary, room}

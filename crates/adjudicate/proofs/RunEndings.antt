@@ -1,6 +1,6 @@
 -- How runs end.
-use Rattle.std.proofs.Common.{◌≡◌, ◌≢◌, ℕ, ◌+◌, ◌<◌, ◌≤◌, Bool, true, false, List, [], ◌∷◌, ◌++◌, length, Option, Some, None, Result, Err, refl, sym, ap, ◌∙◌, subst, arith, append-nil, ◌⊎◌, inl, inr}
-use Rattle.std.specs.Io.KnownBytes.{Appends, Consumes, IsAtEnd}
+use Rattle.std.proofs.Common.{◌≡◌, ◌≢◌, ℕ, ◌+◌, ◌<◌, ◌≤◌, Bool, true, false, List, [], ◌∷◌, ◌++◌, length, Option, Some, None, Result, Err, refl, sym, ap, ◌∙◌, subst, arith, append-nil, inl, inr}
+use Rattle.std.specs.Io.KnownBytes.{Consumes, IsAtEnd}
 use Rattle.cha_outside.specs.Faults.{Rose}
 use Rattle.cha_outside.specs.Gathering.{Took}
 use Rattle.cha_outside.specs.declared.gathering.ReadEnd.{ReadEnd}
@@ -12,7 +12,7 @@ use Rattle.cha_cert.specs.Certificates.{BeginsAt, AllValid}
 use Rattle.cha_cert.proofs.Bounded.{valid_is_unwinnable}
 use Rattle.cert_text.proofs.EitherVersion.{any_is_spelled}
 use Rattle.cha_words.specs.declared.orders.Order.{Order}
-use Rattle.cha_words.specs.declared.orders.Order.TheVariants.{AdjudicateGames, JudgePositions, CheckCert, GenGames, ListMates}
+use Rattle.cha_words.specs.declared.orders.Order.TheVariants.{CheckCert}
 use Rattle.random_games.specs.Made.{made}
 use Rattle.cha_outcome.specs.declared.outcomes.Outcome.{Outcome}
 use Rattle.cha_outcome.specs.declared.questions.Question.{Question}

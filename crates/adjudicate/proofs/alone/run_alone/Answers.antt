@@ -10,4 +10,4 @@ returns-in-None-limits-clause-law g c done check =
     law_holds c.in-Some.order _ _ _ c.carry_out_plain.ensures done same
 
 pub carry_out_plain-requires-clause-bounded : goal.carry_out_plain-requires-clause-bounded
-carry_out_plain-requires-clause-bounded g c = λ side workers depth is. c.mates_are_bounded.ensures (map string_bytes c.args.words.now) side workers depth (sym c.parse.ensures ∙ c.in-Some.is ∙ ap Some is)
+carry_out_plain-requires-clause-bounded g c = λ side workers depth printing is. c.mates_are_bounded.ensures (map string_bytes c.args.words.now) side workers depth printing (sym c.parse.ensures ∙ c.in-Some.is ∙ ap Some is)

@@ -1,4 +1,4 @@
-use Rattle.std.proofs.Common.{◌≡◌, ◌+◌, ◌*◌, ◌<◌, ◌≤◌, length, Ok, Some, sym, ap, ◌∙◌, arith}
+use Rattle.std.proofs.Common.{◌+◌, ◌*◌, ◌<◌, ◌≤◌, length, Some, sym, ap, ◌∙◌, arith}
 use Rattle.pgn_games.specs.Games.{placed_games}
 use Rattle.adjudicate.proofs.GivenGames.{few_words, given_few, item_at, items_first}
 use Rattle.adjudicate.proofs.ReportLoop.{not_more}

@@ -1,11 +1,12 @@
-use Rattle.std.proofs.Common.{◌≡◌, ◌<◌, ◌≤◌, length, Ok, Some, sym, ap, ◌∙◌, arith}
+use Rattle.std.proofs.Common.{◌<◌, ◌≤◌, length, Some, sym, ap, ◌∙◌, arith}
 use Rattle.text_lines.specs.Lines.{text_lines}
+use Rattle.cha_outcome.specs.Items.{line_item}
 use Rattle.adjudicate.proofs.Items.{line_given_few, line_at, lines_first}
 use Rattle.adjudicate.proofs.ReportLoop.{not_more}
 use Rattle.adjudicate.proofs.readers.next_line.Goals as goal
 
 pub returns-in-Ok-Some-clause-item : goal.returns-in-Ok-Some-clause-item
-returns-in-Ok-Some-clause-item g c = line_at (text_lines c.next.new.self.taken) c.args.reader.now.given c.in-Ok-Some.line (rw c.in-Ok-Some.field-0-is at c.in-Ok-Some.ensures.line) ∙ ap Some (sym c.item_of_line.ensures.item)
+returns-in-Ok-Some-clause-item g c = line_at (text_lines c.next.new.self.taken) c.args.reader.now.given c.in-Ok-Some.line (rw c.in-Ok-Some.field-0-is at c.in-Ok-Some.ensures.line) ∙ ap Some (ap (line_item c.in-Ok-Some.line.number) (sym c.items.ensures) ∙ sym c.item_of_line.ensures.item)
 
 pub returns-in-Ok-Some-clause-given : goal.returns-in-Ok-Some-clause-given
 returns-in-Ok-Some-clause-given g c =
@@ -19,5 +20,5 @@ returns-in-Ok-Some-clause-first g c = lines_first _ _ _ c.next.ensures.first
 pub returns-in-Ok-None-clause-first : goal.returns-in-Ok-None-clause-first
 returns-in-Ok-None-clause-first g c = lines_first _ _ _ c.next.ensures.first
 
-pub returns-clause-first : goal.returns-clause-first
-returns-clause-first g c = lines_first _ _ _ c.next.ensures.first
+pub returns-in-Err-clause-first : goal.returns-in-Err-clause-first
+returns-in-Err-clause-first g c = lines_first _ _ _ c.next.ensures.first

@@ -5,7 +5,7 @@ _cha() {
         words='adjudicate position check mates gen'
     elif [[ ! $before =~ ^(--budget|--depth|--entries|--workers)$ ]]; then
         case $command in
-            adjudicate) words='--budget --workers --depth --entries --certs --json --san --fens' ;;
+            adjudicate) words='--budget --workers --depth --entries --certs --json --san --fens --flagged-draws' ;;
             position) words='--budget --workers --depth --entries --certs --json --san --fens' ;;
             mates) words='w b --workers --depth --json --san' ;;
             gen) words='--budget --workers --depth --entries' ;;

@@ -49,7 +49,7 @@ def table(usage):
     found = []
     for line in usage.splitlines():
         command = re.match(r"cha (\w+): (.*)", line)
-        word = re.match(r"    (--\w+|[A-Z]+)( N)?: (.*)", line)
+        word = re.match(r"    (--[\w-]+|[A-Z]+)( N)?: (.*)", line)
         if command:
             found.append((command[1], command[2], []))
         elif word:

@@ -18,12 +18,8 @@ SUITES = [
     (["rt", "ci"], None),
     (["make", "lib-test"], []),
     (["make", "text-test"], None),
-    (["make", "data-test"], ["data"]),
-    (["make", "page-test"], ["page"]),
     (["make", "dist-test"], []),
 ]
-# what is passed over where its packages cannot be had, with CI=true too: a browser, and Python's libraries for databases
-OPTIONAL = ("data-test", "page-test")
 COUNTS = re.compile(r"^(\d+) passed, (\d+) failed")
 
 
@@ -47,7 +43,7 @@ def main():
     for command, packages in SUITES:
         if packages is not None and subprocess.call([f"{TOP}/tools/packages", *packages]):
             print(f"passed over for want of packages: {' '.join(command)}", flush=True)
-            if os.environ.get("CI") == "true" and command[-1] not in OPTIONAL:
+            if os.environ.get("CI") == "true":
                 status, failed = 1, failed + 1
                 break
             continue

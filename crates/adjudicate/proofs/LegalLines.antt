@@ -21,7 +21,8 @@ use Rattle.cha_outcome.specs.declared.questions.Question.TheVariants.{Verdicts, 
 use Rattle.cha_outcome.specs.declared.outcomes.Outcome.{Outcome}
 use Rattle.cha_outcome.specs.declared.outcomes.Outcome.TheVariants.{JudgedPosition, JudgedGame, ListedMates, RefusedLine, UnreadableGame}
 use Rattle.cha_outcome.specs.Outcomes.{HasSoundVerdicts, HasShortestMates, IsSoundOutcome}
-use Rattle.report_words.specs.LegalLines.{AreLegal, AllLegal, IsOfLegalMoves, HaveLegalLines, HasLegalLines}
+use Rattle.cha_outcome.specs.LegalMoves.{AreLegal}
+use Rattle.report_words.specs.LegalLines.{AllLegal, IsOfLegalMoves, HaveLegalLines, HasLegalLines}
 
 -- a mating line is of legal moves
 pub mating_is_legal : (q : Board) (winner : Color) (ms : List Move) → IsMatingLine q winner ms → AreLegal q ms

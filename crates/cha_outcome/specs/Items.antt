@@ -1,5 +1,5 @@
 -- The items that an input is made of (this project).
-use Rattle.std.specs.Prelude.{ℕ, ◌-◌, if◌then◌else◌, List, [], length, Option, Some, None, Result, Ok, Err, nat_lt, slice_index_or}
+use Rattle.std.specs.Prelude.{ℕ, ◌-◌, if◌then◌else◌, List, [], length, take, Option, Some, None, Result, Ok, Err, nat_lt, slice_index_or}
 use Rattle.cha_board.specs.Board.{Board}
 use Rattle.cha_fen.specs.declared.faults.FenFault.{FenFault}
 use Rattle.cha_fen.specs.declared.faults.FenFault.TheVariants.{Shape}
@@ -8,13 +8,15 @@ use Rattle.pgn_games.specs.declared.faults.GameFault.{GameFault}
 use Rattle.pgn_games.specs.declared.played.Game.{Game}
 use Rattle.pgn_games.specs.declared.played.PlacedGame.{PlacedGame}
 use Rattle.pgn_games.specs.declared.played.Span.{Span}
+use Rattle.cha_moves.specs.Step.{Move}
 use Rattle.cha_san.specs.declared.faults.PlayFault.{PlayFault}
-use Rattle.cha_san.specs.Playing.{positions}
+use Rattle.cha_san.specs.Playing.{positions, moves_named}
 use Rattle.cha_outcome.specs.declared.unreadable.Unreadable.{Unreadable}
 use Rattle.cha_outcome.specs.declared.unreadable.Unreadable.TheVariants.{Tokens, Moves}
 use Rattle.cha_outcome.specs.declared.items.PlayedGame.{PlayedGame}
+use Rattle.cha_outcome.specs.declared.items.ReplayedGame.{ReplayedGame}
 use Rattle.cha_outcome.specs.declared.items.Item.{Item}
-use Rattle.cha_outcome.specs.declared.items.Item.TheVariants.{Position, RefusedLine, Played, UnreadableGame}
+use Rattle.cha_outcome.specs.declared.items.Item.TheVariants.{Position, RefusedLine, Played, UnreadableGame, Replayed}
 
 -- the most bytes that a line may have
 abbrev pub most_line_bytes : ℕ
@@ -52,3 +54,31 @@ item_unless (Some fault) span game = UnreadableGame span (Tokens fault)
 -- the item of a game: its first fault, or else its first word that names no move, or else its positions
 unfoldable pub game_item : PlacedGame → Item
 game_item placed = item_unless placed.game.fault placed.span placed.game
+
+-- why an item is no game that can be read
+abbrev pub reason_of : Item → Option Unreadable
+reason_of (UnreadableGame span why) = Some why
+reason_of _ = None
+
+-- the moves of a game whose words before its first fault are so many; it starts nowhere where a tag has a fault
+abbrev pub start_if_known : Option ℕ → Board → Option Board
+start_if_known None start = None
+start_if_known (Some n) start = Some start
+
+abbrev pub moves_before : Option ℕ → Game → List Move
+moves_before None game = []
+moves_before (Some n) game = moves_named game.start (take n game.words)
+
+-- The moves of a game that are before its first fault, as far as words name moves. The reason why it cannot be read is the one for which
+-- it cannot be judged (this project).
+abbrev pub replayed : PlacedGame → ReplayedGame
+replayed placed = record {
+  span = placed.span;
+  start = start_if_known placed.game.before_fault placed.game.start;
+  moves = moves_before placed.game.before_fault placed.game;
+  why = reason_of (game_item placed);
+}
+
+-- the item of a game whose moves are told
+unfoldable pub replay_item : PlacedGame → Item
+replay_item placed = Replayed (replayed placed)

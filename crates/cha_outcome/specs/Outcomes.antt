@@ -1,5 +1,5 @@
 -- What is found about an item (this project).
-use Rattle.std.specs.Prelude.{◌≡◌, ℕ, ◌<◌, ◌≤◌, Bool, true, false, ◌||◌, List, [], ◌∷◌, length, Option, Some, None, ⊤}
+use Rattle.std.specs.Prelude.{◌≡◌, ℕ, ◌<◌, ◌≤◌, Bool, true, false, ◌||◌, List, [], ◌∷◌, length, Option, Some, None, is_some, ⊤}
 use Rattle.cha_board.specs.declared.men.Color.{Color}
 use Rattle.cha_board.specs.declared.men.Color.TheVariants.{White}
 use Rattle.cha_moves.specs.Standings.{standing_of}
@@ -13,13 +13,15 @@ use Rattle.helpmate_list.specs.declared.answers.Shortest.{Shortest}
 use Rattle.helpmate_list.specs.declared.answers.Shortest.TheVariants.{NoneWithin, Found}
 use Rattle.helpmate_list.specs.Shortest.{shortest}
 use Rattle.cha_outcome.specs.declared.items.PlayedGame.{PlayedGame}
+use Rattle.cha_outcome.specs.declared.items.ReplayedGame.{ReplayedGame}
 use Rattle.cha_outcome.specs.declared.items.Item.{Item}
-use Rattle.cha_outcome.specs.declared.items.Item.TheVariants.{Position, RefusedLine as Refused, Played, UnreadableGame as Unread}
+use Rattle.cha_outcome.specs.declared.items.Item.TheVariants.{Position, RefusedLine as Refused, Played, UnreadableGame as Unread, Replayed as Told}
 use Rattle.cha_outcome.specs.declared.questions.FlaggedDraws.{FlaggedDraws}
 use Rattle.cha_outcome.specs.declared.questions.Question.{Question}
-use Rattle.cha_outcome.specs.declared.questions.Question.TheVariants.{Verdicts, Mates}
+use Rattle.cha_outcome.specs.declared.questions.Question.TheVariants.{Verdicts, Mates, Plies}
 use Rattle.cha_outcome.specs.declared.outcomes.Outcome.{Outcome}
-use Rattle.cha_outcome.specs.declared.outcomes.Outcome.TheVariants.{JudgedPosition, JudgedGame, ListedMates, RefusedLine, UnreadableGame}
+use Rattle.cha_outcome.specs.declared.outcomes.Outcome.TheVariants.{JudgedPosition, JudgedGame, ListedMates, RefusedLine, UnreadableGame, Replayed}
+use Rattle.cha_outcome.specs.LegalMoves.{AreLegalFrom}
 use Rattle.cha_outcome.specs.PositionStatuses.{status_of, is_dead}
 use Rattle.cha_outcome.specs.Rulings.{first_of, is_changed, judgment_of}
 
@@ -30,6 +32,7 @@ item_of (JudgedGame game d scan status judgment) = Played game
 item_of (ListedMates number q depth found) = Position number q
 item_of (RefusedLine number fault) = Refused number fault
 item_of (UnreadableGame span why) = Unread span why
+item_of (Replayed game) = Told game
 
 -- the verdicts are true of the position, and a game whose final position they show dead has a sound scan, and no other has one; the
 -- status and the result are by these. A line that is refused and a game that cannot be read have no verdicts.
@@ -41,6 +44,7 @@ HasSoundVerdicts limits draws (JudgedGame game d scan status judgment) =
 HasSoundVerdicts limits draws (ListedMates number q depth found) = ⊥
 HasSoundVerdicts limits draws (RefusedLine number fault) = ⊤
 HasSoundVerdicts limits draws (UnreadableGame span why) = ⊤
+HasSoundVerdicts limits draws (Replayed game) = ⊥
 
 -- what was found are the shortest mates of the position within that many plies
 unfoldable pub HasShortestMates : Color → ℕ → Outcome → Type 0
@@ -49,11 +53,22 @@ HasShortestMates side depth (JudgedGame game d scan status judgment) = ⊥
 HasShortestMates side depth (ListedMates number q within found) = (within ≡ depth) × (found ≡ shortest q side depth)
 HasShortestMates side depth (RefusedLine number fault) = ⊤
 HasShortestMates side depth (UnreadableGame span why) = ⊤
+HasShortestMates side depth (Replayed game) = ⊥
+
+-- the moves of a game are told, and each is legal in its turn
+unfoldable pub TellsMoves : Outcome → Type 0
+TellsMoves (JudgedPosition number q d status) = ⊥
+TellsMoves (JudgedGame game d scan status judgment) = ⊥
+TellsMoves (ListedMates number q depth found) = ⊥
+TellsMoves (RefusedLine number fault) = ⊥
+TellsMoves (UnreadableGame span why) = ⊥
+TellsMoves (Replayed game) = AreLegalFrom game.start game.moves
 
 -- an outcome answers a question
 abbrev pub IsSoundOutcome : Question → Outcome → Type 0
 IsSoundOutcome (Verdicts limits draws) o = HasSoundVerdicts limits draws o
 IsSoundOutcome (Mates side depth) o = HasShortestMates side depth o
+IsSoundOutcome Plies o = TellsMoves o
 
 -- it does, about this item
 abbrev pub Answers : Question → Item → Outcome → Type 0
@@ -63,16 +78,24 @@ Answers question item o = (item_of o ≡ item) × IsSoundOutcome question o
 abbrev pub HasPositions : PlayedGame → Type 0
 HasPositions game = (0 < length game.positions) × (length game.positions ≤ 12001)
 
--- a question can be asked about an item: mates are looked for in positions, and not in games
+-- a question can be asked about an item: mates are looked for in positions and not in games, and moves are told of games alone, which are
+-- not judged
 abbrev pub CanBeAsked : Question → Item → Type 0
 CanBeAsked (Verdicts limits draws) (Position number q) = ⊤
 CanBeAsked (Verdicts limits draws) (Refused number fault) = ⊤
 CanBeAsked (Verdicts limits draws) (Played game) = HasPositions game
 CanBeAsked (Verdicts limits draws) (Unread span why) = ⊤
+CanBeAsked (Verdicts limits draws) (Told game) = ⊥
 CanBeAsked (Mates side depth) (Position number q) = ⊤
 CanBeAsked (Mates side depth) (Refused number fault) = ⊤
 CanBeAsked (Mates side depth) (Played game) = ⊥
 CanBeAsked (Mates side depth) (Unread span why) = ⊤
+CanBeAsked (Mates side depth) (Told game) = ⊥
+CanBeAsked Plies (Position number q) = ⊥
+CanBeAsked Plies (Refused number fault) = ⊥
+CanBeAsked Plies (Played game) = ⊥
+CanBeAsked Plies (Unread span why) = ⊥
+CanBeAsked Plies (Told game) = AreLegalFrom game.start game.moves
 
 -- each outcome answers the question
 abbrev pub AllSound : Question → List Outcome → Type 0
@@ -93,11 +116,13 @@ IsPrintableOutcome (JudgedGame game d scan status judgment) = ArePrintable d × 
 IsPrintableOutcome (ListedMates number q depth found) = ⊤
 IsPrintableOutcome (RefusedLine number fault) = ⊤
 IsPrintableOutcome (UnreadableGame span why) = ⊤
+IsPrintableOutcome (Replayed game) = ⊤
 
 -- a line that is refused, or a game that cannot be read
 unfoldable pub is_refused : Outcome → Bool
 is_refused (RefusedLine number fault) = true
 is_refused (UnreadableGame span why) = true
+is_refused (Replayed game) = is_some game.why
 is_refused _ = false
 
 -- a position that is dead

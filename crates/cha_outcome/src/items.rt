@@ -37,6 +37,19 @@ pub struct PlayedGame {
     pub flag_fell: bool,
 }
 
+/// The moves of a game, as far as they can be made.
+#[derive(Drop)]
+pub struct ReplayedGame {
+    /// Where it stands in its text.
+    pub span: Span,
+    /// Where it starts, or None where a tag has a fault, so that nobody knows.
+    pub start: Option<Position>,
+    /// Its moves: of a game that cannot be read those before its first fault.
+    pub moves: Moves,
+    /// Why the game cannot be read, or None.
+    pub why: Option<Unreadable>,
+}
+
 /// One item of an input.
 #[derive(Drop)]
 pub enum Item {
@@ -60,6 +73,8 @@ pub enum Item {
         span: Span,
         why: Unreadable,
     },
+    /// A game whose moves are told, and which is not judged.
+    Replayed(ReplayedGame),
 }
 
 /// The most bytes that a line may have.

@@ -14,7 +14,7 @@ mod status;
 mod totals;
 mod unreadable;
 
-pub use items::{Item, PlayedGame, item_of_game, item_of_line};
+pub use items::{Item, PlayedGame, ReplayedGame, item_of_game, item_of_line, item_of_replay};
 pub use outcomes::Outcome;
 pub use questions::{FlaggedDraws, Question};
 pub use rulings::{

@@ -3,7 +3,7 @@
 ghost use Rattle.std.specs.Prelude.{◌≡◌};
 ghost use Rattle.cha_outcome.specs.Outcomes.{is_refused as is_refused_of, is_dead_position as is_dead_position_of, is_changed_game as is_changed_game_of, is_open as is_open_of, has_mates as has_mates_of, has_open_side as has_open_side_of};
 
-use crate::items::PlayedGame;
+use crate::items::{PlayedGame, ReplayedGame};
 use crate::rulings::{Judgment, changes_result};
 use crate::status::PositionStatus;
 use crate::unreadable::Unreadable;
@@ -57,6 +57,8 @@ pub enum Outcome {
         span: Span,
         why: Unreadable,
     },
+    /// The moves of a game, which is not judged.
+    Replayed(ReplayedGame),
 }
 
 /// Whether nothing was shown about one of the sides.

@@ -26,4 +26,6 @@ pub enum Question {
         /// Within how many plies mates are looked for, at most 6.
         depth: u8,
     },
+    /// Which moves it has. It is asked about games alone, and nothing is judged.
+    Plies,
 }

@@ -27,6 +27,16 @@ positions_from ply q (word ∷ words) = onward ply q (resolved q word) (λ next.
 abbrev pub positions : Board → List (List ℕ) → Result (List Board) PlayFault
 positions start words = positions_from 1 start words
 
+-- a move in front of those that follow it
+abbrev pub named_onward : Board → Result Move SanFault → (Board → List Move) → List Move
+named_onward q (Ok m) rest = m ∷ rest (after q m)
+named_onward q (Err fault) rest = []
+
+-- the moves that words name one after the other, up to the first word that names none
+unfoldable pub moves_named : Board → List (List ℕ) → List Move
+moves_named q [] = []
+moves_named q (word ∷ words) = named_onward q (resolved q word) (λ next. moves_named next words)
+
 -- there was no memory
 abbrev pub LacksMemory : Result (List Board) PlayFault → Type 0
 LacksMemory (Ok qs) = ⊥

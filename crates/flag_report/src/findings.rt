@@ -2,7 +2,8 @@
 
 ghost use Rattle.std.specs.Prelude.{◌≡◌, ◌++◌, OnOk};
 ghost use Rattle.report_words.specs.Counts.{count_text};
-ghost use Rattle.report_words.specs.LegalLines.{AreLegal, AreOfLegalMoves, IsOfLegalMoves};
+ghost use Rattle.cha_outcome.specs.LegalMoves.{AreLegal};
+ghost use Rattle.report_words.specs.LegalLines.{AreOfLegalMoves, IsOfLegalMoves};
 ghost use Rattle.flag_report.specs.Findings.{line, moves_text, words_text, notated, winnable_text, undecided_text, verdict_text, cert_part, side_text, fen_line, findings_text};
 ghost use Rattle.cha_outcome.specs.Outcomes.{ArePrintable};
 ghost use Rattle.cha_verdict.specs.Verdicts.{IsPrintable};

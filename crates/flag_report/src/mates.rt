@@ -1,7 +1,8 @@
 //! The shortest mates.
 
 ghost use Rattle.std.specs.Prelude.{◌≡◌, ◌++◌, OnOk};
-ghost use Rattle.report_words.specs.LegalLines.{AllLegal, AreLegal, HaveLegalLines};
+ghost use Rattle.cha_outcome.specs.LegalMoves.{AreLegal};
+ghost use Rattle.report_words.specs.LegalLines.{AllLegal, HaveLegalLines};
 ghost use Rattle.flag_report.specs.Mates.{mate_line_text, mate_lines_text, lines_count_text, mates_text};
 
 use crate::findings::put_notated;

@@ -4,7 +4,7 @@ ghost use Rattle.std.specs.Prelude.{◌≡◌, map, OnOk, codes};
 ghost use Rattle.cha_moves.specs.Texts.{move_bytes};
 ghost use Rattle.json.specs.Json.{array, Members};
 ghost use Rattle.json_report.specs.Lines.{texts, words_of, fens_of, line_members};
-ghost use Rattle.report_words.specs.LegalLines.{AreLegal};
+ghost use Rattle.cha_outcome.specs.LegalMoves.{AreLegal};
 ghost use Rattle.json_report.specs.Spelled.{IsMember, closed_by};
 
 use cha_board::Position;

@@ -2,7 +2,8 @@
 
 ghost use Rattle.std.specs.Prelude.{◌≡◌, OnOk, codes};
 ghost use Rattle.json.specs.Json.{Members, no_members, array};
-ghost use Rattle.report_words.specs.LegalLines.{AreLegal, AllLegal, HaveLegalLines};
+ghost use Rattle.cha_outcome.specs.LegalMoves.{AreLegal};
+ghost use Rattle.report_words.specs.LegalLines.{AllLegal, HaveLegalLines};
 ghost use Rattle.json_report.specs.Outcomes.{line_json, line_items, mates_members};
 ghost use Rattle.json_report.specs.Spelled.{IsMember, IsValue, closed_by};
 

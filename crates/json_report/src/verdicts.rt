@@ -6,7 +6,8 @@ ghost use Rattle.cha_cert.specs.Shared.{shared_of};
 ghost use Rattle.cha_verdict.specs.Verdicts.{IsPrintable};
 ghost use Rattle.cha_verdict.specs.declared.verdicts.Verdict.TheVariants.{Winnable, Unwinnable, Undecided};
 ghost use Rattle.json.specs.Json.{no_members, string};
-ghost use Rattle.report_words.specs.LegalLines.{AreLegal, IsOfLegalMoves};
+ghost use Rattle.cha_outcome.specs.LegalMoves.{AreLegal};
+ghost use Rattle.report_words.specs.LegalLines.{IsOfLegalMoves};
 ghost use Rattle.json_report.specs.Spelled.{IsMember, closed_by};
 ghost use Rattle.json_report.specs.Verdicts.{cert_members, fen_members, verdict_json, verdict_members};
 

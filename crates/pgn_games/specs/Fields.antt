@@ -59,6 +59,15 @@ bad_offset t = if is_bad t.token then Some t.offset else None
 unfoldable pub first_bad : List Placed → Option ℕ
 first_bad slice = slice_get (filter_map bad_offset (outside 0 slice)) 0
 
+-- the tokens before the first bad one
+unfoldable pub before_bad : List Placed → List Placed
+before_bad [] = []
+before_bad (t ∷ ts) = if is_bad t.token then [] else t ∷ before_bad ts
+
+-- the move words before the first bad token outside variations (this project)
+unfoldable pub sound_words : List Placed → List (List ℕ)
+sound_words slice = filter_map (λ t. move_word t.token) (before_bad (outside 0 slice))
+
 -- a comment that the end of the input cuts off
 unfoldable pub is_unclosed : Token → Bool
 is_unclosed Unclosed = true

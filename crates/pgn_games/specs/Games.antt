@@ -1,5 +1,5 @@
 -- The games of a text.
-use Rattle.std.specs.Prelude.{ℕ, Bool, true, false, not, ◌&&◌, if◌then◌else◌, List, [], ◌∷◌, map, take, length, Option, Some, None, Result, Ok, Err, codes, nat_lt}
+use Rattle.std.specs.Prelude.{ℕ, Bool, true, false, not, ◌&&◌, ◌||◌, if◌then◌else◌, List, [], ◌∷◌, map, take, length, Option, Some, None, is_some, Result, Ok, Err, codes, nat_lt}
 use Rattle.std.specs.List.{fold, list_any}
 use Rattle.std.specs.Option.{option_map, option_or}
 use Rattle.cha_board.specs.declared.men.Color.TheVariants.{White}
@@ -17,7 +17,7 @@ use Rattle.pgn_games.specs.declared.played.PlacedGame.{PlacedGame}
 use Rattle.pgn_games.specs.declared.played.Span.{Span}
 use Rattle.pgn_games.specs.declared.token_turns.Place.TheVariants.{Before}
 use Rattle.pgn_games.specs.Cutting.{cut, place_behind, is_before}
-use Rattle.pgn_games.specs.Fields.{depth_at_end, tag_value, recorded_in, move_words, first_bad, is_unclosed, is_cut, says_forfeit, says_flag_fell, says_chess, passes}
+use Rattle.pgn_games.specs.Fields.{depth_at_end, tag_value, recorded_in, move_words, sound_words, first_bad, is_unclosed, is_cut, says_forfeit, says_flag_fell, says_chess, passes}
 
 -- the opening position (Laws of Chess, Article 2.3)
 unfoldable pub opening : Board
@@ -71,6 +71,16 @@ fault_of slice =
     or_else start_fault (tag_value (codes "FEN") slice)
     or_else fault_if (nat_lt 12000 (length (move_words slice))) TooManyPlies
 
+-- a tag of the game has a fault: no words are moves of chess from a known position
+unfoldable pub has_bad_tag : List Placed → Bool
+has_bad_tag slice =
+    list_any (λ t. is_cut t.token) slice || passes (λ value. not (says_chess value)) (tag_value (codes "Variant") slice)
+    || is_some (start_fault (tag_value (codes "FEN") slice))
+
+-- how many words stand before the first fault of the movetext, of which the 12,001st word is one (this project)
+unfoldable pub words_before_fault : List Placed → Option ℕ
+words_before_fault slice = if has_bad_tag slice then None else Some (length (take 12000 (sound_words slice)))
+
 -- the game of these tokens; the 12,001st move word is the last that is kept (this project)
 unfoldable pub game_of : List Placed → Game
 game_of slice = record {
@@ -79,6 +89,7 @@ game_of slice = record {
   forfeit = passes says_forfeit (tag_value (codes "Termination") slice);
   flag_fell = passes says_flag_fell (tag_value (codes "Termination") slice);
   words = take 12001 (move_words slice);
+  before_fault = words_before_fault slice;
   fault = fault_of slice;
 }
 

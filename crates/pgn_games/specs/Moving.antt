@@ -24,6 +24,7 @@ moved_game n game = record {
   forfeit = game.forfeit;
   flag_fell = game.flag_fell;
   words = game.words;
+  before_fault = game.before_fault;
   fault = option_map (moved_fault n) game.fault;
 }
 

@@ -21,6 +21,9 @@ pub struct Game {
     pub flag_fell: bool,
     /// The move words outside variations, of which the first 12,001 are kept.
     pub words: Words,
+    /// How many of the words stand before the first fault of the movetext, at most 12,000. None where a tag has a fault, so that nobody
+    /// knows which moves they are.
+    pub before_fault: Option<usize>,
     /// Why the game cannot be read, or None.
     pub fault: Option<GameFault>,
 }

@@ -1,23 +1,17 @@
 -- Outcomes whose moves are legal, each in its turn (this project).
 use Rattle.std.specs.Prelude.{List, [], ◌∷◌, ⊤}
-use Rattle.std.specs.List.{Contains}
 use Rattle.cha_board.specs.Board.{Board}
 use Rattle.cha_moves.specs.Step.{Move}
-use Rattle.cha_moves.specs.Moves.{after, legal}
 use Rattle.cha_outcome.specs.declared.outcomes.Outcome.{Outcome}
-use Rattle.cha_outcome.specs.declared.outcomes.Outcome.TheVariants.{JudgedPosition, JudgedGame, ListedMates, RefusedLine, UnreadableGame}
+use Rattle.cha_outcome.specs.declared.outcomes.Outcome.TheVariants.{JudgedPosition, JudgedGame, ListedMates, RefusedLine, UnreadableGame, Replayed}
+use Rattle.cha_outcome.specs.LegalMoves.{AreLegal, AreLegalFrom}
 use Rattle.cha_verdict.specs.declared.decisions.Decision.{Decision}
 use Rattle.cha_verdict.specs.declared.verdicts.Verdict.{Verdict}
 use Rattle.cha_verdict.specs.declared.verdicts.Verdict.TheVariants.{Winnable, Unwinnable, Undecided, Skipped}
 use Rattle.helpmate_list.specs.declared.answers.Shortest.{Shortest}
 use Rattle.helpmate_list.specs.declared.answers.Shortest.TheVariants.{NoneWithin, Found}
 
--- each move of a line is legal in its turn
-abbrev pub AreLegal : Board → List Move → Type 0
-AreLegal q [] = ⊤
-AreLegal q (m ∷ ms) = Contains (legal q) m × AreLegal (after q m) ms
-
--- so are the moves of each line
+-- the moves of each line are legal in their turn
 abbrev pub AllLegal : Board → List (List Move) → Type 0
 AllLegal q [] = ⊤
 AllLegal q (ms ∷ lines) = AreLegal q ms × AllLegal q lines
@@ -45,3 +39,4 @@ HasLegalLines (JudgedGame game d scan status judgment) = AreOfLegalMoves game.la
 HasLegalLines (ListedMates line q depth found) = HaveLegalLines q found
 HasLegalLines (RefusedLine line fault) = ⊤
 HasLegalLines (UnreadableGame span why) = ⊤
+HasLegalLines (Replayed game) = AreLegalFrom game.start game.moves

@@ -1,5 +1,5 @@
 use Rattle.std.proofs.Common.{◌≡◌, ◌++◌, drop}
-use Rattle.report_words.specs.LegalLines.{AreLegal}
+use Rattle.cha_outcome.specs.LegalMoves.{AreLegal}
 use Rattle.flag_report.specs.Findings.{words_text}
 use Rattle.flag_report.proofs.findings.put_words.Given as goal
 

@@ -1,5 +1,5 @@
 use Rattle.std.proofs.Common.{◌≡◌, drop}
-use Rattle.report_words.specs.LegalLines.{AreLegal}
+use Rattle.cha_outcome.specs.LegalMoves.{AreLegal}
 use Rattle.json_report.specs.Lines.{texts, words_of}
 use Rattle.json_report.specs.Spelled.{ended_by}
 use Rattle.json_report.proofs.lines.put_words.Given as goal

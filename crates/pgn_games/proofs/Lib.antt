@@ -8,6 +8,7 @@ pub mod KeptWords
 pub mod Moved
 pub mod MovedFields
 pub mod Settled
+pub mod Sound
 pub mod Speaking
 pub mod Summed
 pub mod Told

@@ -14,8 +14,8 @@ use Rattle.pgn_games.specs.declared.faults.GameFault.{GameFault}
 use Rattle.pgn_games.specs.declared.faults.GameFault.TheVariants.{BadToken, Unclosed, ValueTooLong, Variant, TooManyPlies}
 use Rattle.pgn_games.specs.declared.marks.ResultMark.TheVariants.{Unknown}
 use Rattle.pgn_games.specs.Cutting.{mark_of, depth_after}
-use Rattle.pgn_games.specs.Fields.{outside, depth_at_end, value_named, tag_value, recorded_in, move_word, move_words, is_bad, bad_offset, first_bad, is_unclosed, is_cut, passes, says_chess}
-use Rattle.pgn_games.specs.Games.{is_open, start_fault, refusal, fault_if, fault_of, game_of, span_of, placed_game_of}
+use Rattle.pgn_games.specs.Fields.{outside, depth_at_end, value_named, tag_value, recorded_in, move_word, move_words, is_bad, before_bad, sound_words, bad_offset, first_bad, is_unclosed, is_cut, passes, says_chess}
+use Rattle.pgn_games.specs.Games.{is_open, start_fault, refusal, fault_if, fault_of, has_bad_tag, words_before_fault, game_of, span_of, placed_game_of}
 use Rattle.pgn_games.specs.Moving.{moved_span, moved_fault, moved_game, moved}
 
 module _ (n k : ℕ) where
@@ -69,6 +69,21 @@ module _ (n k : ℕ) where
   words_moved : (ts : List Placed) → move_words (map (moved_token n k) ts) ≡ move_words ts
   unfolding move_words
   words_moved ts = ap (filter_map (λ (t : Placed). move_word t.token)) (outside_moved 0 ts) ∙ same_tokens move_word (outside 0 ts)
+
+  before_moved : (ts : List Placed) → before_bad (map (moved_token n k) ts) ≡ map (moved_token n k) (before_bad ts)
+  unfolding before_bad
+  before_moved [] = refl
+  before_moved (t ∷ ts) = by_test (is_bad t.token) (before_moved ts)
+    where
+      by_test : (bad : Bool) → before_bad (map (moved_token n k) ts) ≡ map (moved_token n k) (before_bad ts) → (if bad then [] else moved_token n k t ∷ before_bad (map (moved_token n k) ts)) ≡ map (moved_token n k) (if bad then [] else t ∷ before_bad ts)
+      by_test true h = refl
+      by_test false h = ap (λ us. moved_token n k t ∷ us) h
+
+  sound_moved : (ts : List Placed) → sound_words (map (moved_token n k) ts) ≡ sound_words ts
+  unfolding sound_words
+  sound_moved ts =
+      ap (λ us. filter_map (λ (t : Placed). move_word t.token) (before_bad us)) (outside_moved 0 ts)
+      ∙ ap (filter_map (λ (t : Placed). move_word t.token)) (before_moved (outside 0 ts)) ∙ same_tokens move_word (before_bad (outside 0 ts))
 
   first_moved : (ts : List Placed) → first_bad (map (moved_token n k) ts) ≡ option_map (λ (x : ℕ). n + x) (first_bad ts)
   unfolding first_bad
@@ -124,9 +139,17 @@ module _ (n k : ℕ) where
       rw (first_moved ts, open_moved ts, any_moved is_cut ts, tag_moved (codes "Variant") ts, tag_moved (codes "FEN") ts, words_moved ts)
       (chain (first_bad ts) (option_or open_one (option_or cut (option_or variant (option_or start many)))) one)
 
+  tags_moved : (ts : List Placed) → has_bad_tag (map (moved_token n k) ts) ≡ has_bad_tag ts
+  unfolding has_bad_tag
+  tags_moved ts = rw (any_moved is_cut ts, tag_moved (codes "Variant") ts, tag_moved (codes "FEN") ts) refl
+
+  before_fault_moved : (ts : List Placed) → words_before_fault (map (moved_token n k) ts) ≡ words_before_fault ts
+  unfolding words_before_fault
+  before_fault_moved ts = rw (tags_moved ts, sound_moved ts) refl
+
   game_told_moved : (ts : List Placed) → game_of (map (moved_token n k) ts) ≡ moved_game n (game_of ts)
   unfolding game_of
-  game_told_moved ts = rw (tag_moved (codes "FEN") ts, tag_moved (codes "Termination") ts, recorded_moved ts, words_moved ts, fault_moved ts) refl
+  game_told_moved ts = rw (tag_moved (codes "FEN") ts, tag_moved (codes "Termination") ts, recorded_moved ts, words_moved ts, before_fault_moved ts, fault_moved ts) refl
 
   end_moved : (end : ℕ) (ts : List Placed) → fold (λ end (later : Placed). later.end) (n + end) (map (moved_token n k) ts) ≡ n + fold (λ end (later : Placed). later.end) end ts
   end_moved end [] = refl

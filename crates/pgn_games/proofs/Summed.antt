@@ -37,7 +37,7 @@ first_more f told t =
 abbrev depth_from : ℕ → List Placed → ℕ
 depth_from depth told = fold (λ depth t. depth_after depth t.token) depth told
 
-out_from : (depth : ℕ) (told : List Placed) (t : Placed) → outside depth (told ++ t ∷ []) ≡ outside depth told ++ outside_at (depth_from depth told) t
+pub out_from : (depth : ℕ) (told : List Placed) (t : Placed) → outside depth (told ++ t ∷ []) ≡ outside depth told ++ outside_at (depth_from depth told) t
 unfolding outside
 out_from depth [] t = append-nil (outside_at depth t)
 out_from depth (u ∷ told) t =

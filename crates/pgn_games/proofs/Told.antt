@@ -1,5 +1,5 @@
 -- The game that a summary tells.
-use Rattle.std.proofs.Common.{◌≡◌, ℕ, min, Bool, true, false, not, List, Option, Some, None, length, nat_lt, refl, ap, ◌∙◌, arith}
+use Rattle.std.proofs.Common.{◌≡◌, ℕ, min, Bool, true, false, not, ◌||◌, List, Option, Some, None, is_some, length, nat_lt, refl, ap, ◌∙◌, arith}
 use Rattle.std.specs.Option.{option_map, option_or, unwrap_or}
 use Rattle.std.proofs.lemmas.Bool.Decides.{nat_tests}
 use Rattle.std.proofs.lemmas.List.{length-take}
@@ -11,8 +11,8 @@ use Rattle.pgn_games.specs.declared.marks.ResultMark.{ResultMark}
 use Rattle.pgn_games.specs.declared.marks.ResultMark.TheVariants.{Unknown}
 use Rattle.pgn_games.specs.declared.played.Game.{Game}
 use Rattle.pgn_games.specs.Fields.{recorded_in, move_words, says_forfeit, says_flag_fell, says_chess, passes}
-use Rattle.pgn_games.specs.Games.{◌or_else◌, is_open, start_of, start_fault, fault_if, fault_of, game_of}
-use Rattle.pgn_games.specs.Summing.{HasValues, IsSummary}
+use Rattle.pgn_games.specs.Games.{◌or_else◌, is_open, start_of, start_fault, fault_if, fault_of, has_bad_tag, words_before_fault, game_of}
+use Rattle.pgn_games.specs.Summing.{HasValues, IsSummary, sound_count}
 
 module _ (told : List Placed) (empty : Bool) (depth : ℕ) (bad : Option ℕ) (unclosed cut : Bool) (recorded : Option ResultMark) (words : List (List ℕ)) (h : IsSummary told empty depth bad unclosed cut recorded words) where
   -- open at the end
@@ -48,8 +48,23 @@ module _ (told : List Placed) (empty : Bool) (depth : ℕ) (bad : Option ℕ) (u
         let last : nat_lt 12000 (length items) ≡ nat_lt 12000 (length (move_words told)) = ap (λ ws. nat_lt 12000 (length ws)) ei ∙ many_words in
         rw (e5, e4, e3, e2, e1, chain a b c d e f, ea, eb, ec, ed, ee, ef, last, es, eo, h.bad_is, h.cut_is, v.variant_is, v.fen_is, same) refl
 
+    -- the tags
+    pub tags_told : (other : Bool) (start : Option GameFault) → other ≡ passes (λ value. not (says_chess value)) variant → start ≡ start_fault fen → (cut || other || is_some start) ≡ has_bad_tag told'
+    unfolding has_bad_tag
+    tags_told other start eo es = rw (eo, es, h.cut_is, v.variant_is, v.fen_is, same) refl
+
     -- the game
-    pub game_told : (start : Board) (mark : ResultMark) (forfeit fell : Bool) (fault : Option GameFault) → start ≡ start_of fen → mark ≡ unwrap_or recorded Unknown → forfeit ≡ passes says_forfeit termination → fell ≡ passes says_flag_fell termination → fault ≡ fault_of told'
-        → ◌≡◌ {A = Game} (record { start = start; recorded = mark; forfeit = forfeit; flag_fell = fell; words = words; fault = fault }) (game_of told')
+    pub game_told : (start : Board) (mark : ResultMark) (forfeit fell : Bool) (before : Option ℕ) (fault : Option GameFault) → start ≡ start_of fen → mark ≡ unwrap_or recorded Unknown → forfeit ≡ passes says_forfeit termination → fell ≡ passes says_flag_fell termination
+        → before ≡ words_before_fault told' → fault ≡ fault_of told'
+        → ◌≡◌ {A = Game} (record { start = start; recorded = mark; forfeit = forfeit; flag_fell = fell; words = words; before_fault = before; fault = fault }) (game_of told')
     unfolding game_of recorded_in
-    game_told start mark forfeit fell fault e f g k i = rw (e, f, g, k, i, h.recorded_is, h.words_is, v.fen_is, v.termination_is, same) refl
+    game_told start mark forfeit fell before fault e f g k b i = rw (e, f, g, k, b, i, h.recorded_is, h.words_is, v.fen_is, v.termination_is, same) refl
+
+-- the words before the first fault
+pub none_before : (told : List Placed) (bad : Bool) → bad ≡ has_bad_tag told → bad ≡ true → None ≡ words_before_fault told
+unfolding words_before_fault
+none_before told bad b is = rw (← b, is) refl
+
+pub before_told : (told told' : List Placed) (bad : Bool) (sound : ℕ) → told ≡ told' → bad ≡ has_bad_tag told' → bad ≡ false → sound ≡ sound_count told → Some sound ≡ words_before_fault told'
+unfolding words_before_fault
+before_told told told' bad sound e b is s = rw (← b, is, s, e) refl

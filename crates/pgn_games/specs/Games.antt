@@ -1,5 +1,5 @@
 -- The games of a text.
-use Rattle.std.specs.Prelude.{ℕ, Bool, true, false, not, ◌&&◌, ◌||◌, if◌then◌else◌, List, [], ◌∷◌, map, take, length, Option, Some, None, is_some, Result, Ok, Err, codes, nat_lt}
+use Rattle.std.specs.Prelude.{ℕ, Bool, true, not, ◌&&◌, ◌||◌, if◌then◌else◌, List, [], ◌∷◌, map, take, length, Option, Some, None, is_some, Result, Ok, Err, codes, nat_lt}
 use Rattle.std.specs.List.{fold, list_any}
 use Rattle.std.specs.Option.{option_map, option_or}
 use Rattle.cha_board.specs.declared.men.Color.TheVariants.{White}

@@ -6,7 +6,7 @@ use Rattle.pgn_lex.specs.declared.kinds.Placed.{Placed}
 use Rattle.pgn_games.specs.declared.marks.ResultMark.{ResultMark}
 use Rattle.pgn_games.specs.declared.played.Span.{Span}
 use Rattle.pgn_games.specs.Cutting.{mark_of}
-use Rattle.pgn_games.specs.Fields.{outside, depth_at_end, tag_value, move_word, move_words, first_bad, is_unclosed, is_cut}
+use Rattle.pgn_games.specs.Fields.{outside, depth_at_end, tag_value, move_word, move_words, sound_words, first_bad, is_unclosed, is_cut}
 
 -- the move word of a token, where so many variations are open
 abbrev pub word_outside : ℕ → Token → Option (List ℕ)
@@ -16,6 +16,10 @@ word_outside depth token = if depth == 0 then move_word token else None
 abbrev pub with_word : List (List ℕ) → Option (List ℕ) → List (List ℕ)
 with_word words None = words
 with_word words (Some word) = words ++ word ∷ []
+
+-- how many move words stand before the first bad token, of which 12,000 count
+abbrev pub sound_count : List Placed → ℕ
+sound_count told = length (take 12000 (sound_words told))
 
 -- the first result outside variations
 abbrev pub first_mark : List Placed → Option ResultMark

@@ -1,10 +1,10 @@
 //! What the tokens of one game say, as much of it as the game needs.
 
-ghost use Rattle.std.specs.Prelude.{◌≡◌, ◌==◌, ◌-◌, ◌^◌, ◌<◌, ◌≤◌, ◌++◌, ◌∷◌, [], length, take, codes, OnOk, OnErr};
+ghost use Rattle.std.specs.Prelude.{◌≡◌, ◌==◌, ◌-◌, ◌^◌, ◌<◌, ◌≤◌, ◌++◌, ◌∷◌, if◌then◌else◌, [], is_some, length, min, take, codes, OnOk, OnErr};
 ghost use Rattle.std.specs.Option.{option_map, option_or};
 ghost use Rattle.pgn_games.specs.declared.faults.GameFault.TheVariants.{BadToken};
 ghost use Rattle.pgn_games.specs.Fields.{value_named};
-ghost use Rattle.pgn_games.specs.Games.{is_open, fault_if, fault_of, span_of, game_of, placed_game_of};
+ghost use Rattle.pgn_games.specs.Games.{is_open, fault_if, fault_of, has_bad_tag as has_bad_tag_of, words_before_fault, span_of, game_of, placed_game_of};
 ghost use Rattle.pgn_games.specs.Summing.{span_with, word_outside, with_word};
 
 use crate::faults::GameFault;
@@ -38,6 +38,7 @@ pub struct Summary {
     recorded: Option<ResultMark>,
     tags: TagValues,
     words: Words,
+    sound: usize,
 }
 
 /// Contracts see the tokens.
@@ -45,13 +46,13 @@ impl Model for Summary {
     ghost use Rattle.std.specs.Prelude.{◌≡◌, List};
     ghost use Rattle.pgn_lex.specs.declared.kinds.Placed.{Placed};
     ghost use Rattle.pgn_games.specs.Games.{span_of};
-    ghost use Rattle.pgn_games.specs.Summing.{HasValues, IsSummary};
+    ghost use Rattle.pgn_games.specs.Summing.{HasValues, IsSummary, sound_count};
 
     ghost Value = { List Placed };
 
     ghost view = { λ s. s.told };
 
-    ghost invariant = { λ s. IsSummary s.told s.empty s.depth s.bad s.unclosed s.cut s.recorded s.words × HasValues s.told s.tags.variant s.tags.fen s.tags.termination × (s.span ≡ span_of s.told) };
+    ghost invariant = { λ s. IsSummary s.told s.empty s.depth s.bad s.unclosed s.cut s.recorded s.words × HasValues s.told s.tags.variant s.tags.fen s.tags.termination × (s.span ≡ span_of s.told) × (s.sound ≡ sound_count s.told) };
 }
 
 /// Keeps the words and the values of a token. On a refusal nothing is kept.
@@ -97,6 +98,16 @@ fn longer(empty: bool, span: Span, placed: &Placed) -> Span
     }
 }
 
+/// How many words stand before the first bad token, at most 12,000: all that are kept, where there is none, or else as many as before.
+fn sound_after(bad: Option<u64>, kept: usize, sound: usize) -> usize
+    ensures { result ≡ (if is_some bad then sound else min 12000 kept) }
+{
+    match bad {
+        Some(_) => sound,
+        None => kept.min(MOST_PLIES),
+    }
+}
+
 /// The fault of a bad token.
 fn bad_token(bad: Option<u64>) -> Option<GameFault>
     ensures { result ≡ option_map BadToken bad }
@@ -137,6 +148,7 @@ impl Summary {
             recorded: None,
             tags: TagValues::new(),
             words: Words::new(alloc),
+            sound: 0,
         }
     }
 
@@ -168,6 +180,7 @@ impl Summary {
         self.unclosed = unclosed;
         self.cut = cut;
         self.recorded = recorded;
+        self.sound = sound_after(bad, self.words.items().len(), self.sound);
         self.told.push(told);
         Ok(())
     }
@@ -195,6 +208,24 @@ impl Summary {
             .or(where_caused(many, GameFault::TooManyPlies))
     }
 
+    /// Whether a tag of the game has a fault.
+    #[tactic(auto, unfolding(crate::specs::Games::has_bad_tag))]
+    fn has_bad_tag(&self) -> bool
+        ensures { result ≡ has_bad_tag_of self.now }
+    {
+        self.cut || other_game(&self.tags.variant) || start_refused(&self.tags.fen).is_some()
+    }
+
+    /// How many of the words stand before the first fault of the movetext.
+    fn before_fault(&self) -> Option<usize>
+        ensures { result ≡ words_before_fault self.now }
+    {
+        if self.has_bad_tag() {
+            return None;
+        }
+        Some(self.sound)
+    }
+
     /// Where the game stands.
     fn span(&self) -> Span
         ensures { result ≡ span_of self.now }
@@ -217,6 +248,7 @@ impl Summary {
     fn game(self) -> Game
         ensures { result ≡ game_of self }
     {
+        let before_fault = self.before_fault();
         let fault = self.fault();
         let start = started(&self.tags.fen);
         let forfeit = forfeited(&self.tags.termination);
@@ -229,6 +261,7 @@ impl Summary {
             forfeit,
             flag_fell,
             words,
+            before_fault,
             fault,
         }
     }

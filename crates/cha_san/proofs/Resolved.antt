@@ -77,6 +77,15 @@ answers_legal q word form r h =
     let P : Result Move SanFault → Type 0 = λ o. IfOk o (λ m. Contains (legal q) m) in
     subst P (sym h.chosen) (only_legal q form (filter (fits q form) (legal q)) refl)
 
+-- the move that a word names is legal
+pub resolved_legal : (q : Board) (word : List ℕ) → IfOk (resolved q word) (λ m. Contains (legal q) m)
+unfolding fitting_form
+resolved_legal q word = by_form (form_of word)
+  where
+    by_form : (o : Option Form) → IfOk (if is_some o then only (fitting_form q o) else Err NotSan) (λ m. Contains (legal q) m)
+    by_form None = tt
+    by_form (Some form) = only_legal q form (filter (fits q form) (legal q)) refl
+
 -- an answer that was found among all moves
 pub answers_from : (q : Board) (word : List ℕ) (form : Form) (r : Result Move SanFault) (o : Option Form) (found : Found)
     → o ≡ form_of word → o ≡ Some form → found ≡ seen Nothing (filter (names q form) all_moves) → r ≡ answered found → Answers q word form r

@@ -1,5 +1,5 @@
 -- The positions of a game.
-use Rattle.std.specs.Prelude.{◌≡◌, ℕ, ◌+◌, List, [], ◌∷◌, Result, Ok, Err}
+use Rattle.std.specs.Prelude.{◌≡◌, ℕ, ◌+◌, List, [], ◌∷◌, Option, Some, None, Result, Ok, Err}
 use Rattle.cha_board.specs.Board.{Board}
 use Rattle.cha_moves.specs.Step.{Move}
 use Rattle.cha_moves.specs.Moves.{after}
@@ -36,6 +36,11 @@ named_onward q (Err fault) rest = []
 unfoldable pub moves_named : Board → List (List ℕ) → List Move
 moves_named q [] = []
 moves_named q (word ∷ words) = named_onward q (resolved q word) (λ next. moves_named next words)
+
+-- the move that a word names, if it names one
+abbrev pub named_move : Result Move SanFault → Option Move
+named_move (Ok m) = Some m
+named_move (Err fault) = None
 
 -- there was no memory
 abbrev pub LacksMemory : Result (List Board) PlayFault → Type 0

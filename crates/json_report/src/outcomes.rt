@@ -8,7 +8,7 @@ ghost use Rattle.report_words.specs.Reasons.{fen_fault_text, reason_text};
 ghost use Rattle.report_words.specs.Words.{status_text};
 ghost use Rattle.json_report.specs.Lines.{count};
 ghost use Rattle.json_report.specs.Outcomes.{span_members, finding_members, found_members, outcome_json, outcome_line, place_members};
-ghost use Rattle.json_report.specs.Spelled.{IsMember, IsValue, closed_by};
+ghost use Rattle.json_report.specs.Spelled.{IsMember, IsValue, Leads, ReadsAs};
 ghost use Rattle.report_words.specs.LegalLines.{AreOfLegalMoves, HasLegalLines};
 
 use crate::extras::Extras;
@@ -55,7 +55,7 @@ fn put_findings(
 ) -> Result<(), NoMemory>
     requires printable { ArePrintable decision.now }
     requires legal { AreOfLegalMoves position.now decision.now }
-    ensures { OnOk result ((more : Members) → closed_by json.old (finding_members extras position.now decision.now status more) ≡ closed_by json.new more) }
+    ensures { OnOk result ((more : Members) → Leads json.old (finding_members extras position.now decision.now status more) json.new more) }
 {
     put_fen(alloc, position, json)?;
     put_verdict(
@@ -82,7 +82,7 @@ fn put_findings(
 
 /// Writes the members that say where a game stands in its text.
 fn put_span(alloc: Global, span: Span, json: &mut JsonText) -> Result<(), NoMemory>
-    ensures { OnOk result ((more : Members) → closed_by json.old (span_members span more) ≡ closed_by json.new more) }
+    ensures { OnOk result ((more : Members) → Leads json.old (span_members span more) json.new more) }
 {
     json.key(b"bytes")?;
     json.begin_array()?;
@@ -113,7 +113,7 @@ fn put_unreadable(alloc: Global, why: &Unreadable, json: &mut JsonText) -> Resul
 
 /// Writes the members that say which line of the input a position is, by its number in the report.
 fn put_place(alloc: Global, number: u64, line: u64, json: &mut JsonText) -> Result<(), NoMemory>
-    ensures { OnOk result ((more : Members) → closed_by json.old (member (codes "position") (count number) (member (codes "line") (count line) more)) ≡ closed_by json.new more) }
+    ensures { OnOk result ((more : Members) → Leads json.old (member (codes "position") (count number) (member (codes "line") (count line) more)) json.new more) }
 {
     put_count(alloc, b"position", number, json)?;
     put_count(alloc, b"line", line, json)?;
@@ -122,7 +122,7 @@ fn put_place(alloc: Global, number: u64, line: u64, json: &mut JsonText) -> Resu
 
 /// Writes the members that say which game it is, by its number in the report.
 fn put_game(alloc: Global, number: u64, span: Span, json: &mut JsonText) -> Result<(), NoMemory>
-    ensures { OnOk result ((more : Members) → closed_by json.old (member (codes "game") (count number) (span_members span more)) ≡ closed_by json.new more) }
+    ensures { OnOk result ((more : Members) → Leads json.old (member (codes "game") (count number) (span_members span more)) json.new more) }
 {
     put_count(alloc, b"game", number, json)?;
     put_span(alloc, span, json)?;
@@ -137,7 +137,7 @@ fn put_which(
     outcome: &Outcome,
     json: &mut JsonText,
 ) -> Result<(), NoMemory>
-    ensures { OnOk result ((more : Members) → closed_by json.old (place_members number outcome.now more) ≡ closed_by json.new more) }
+    ensures { OnOk result ((more : Members) → Leads json.old (place_members number outcome.now more) json.new more) }
 {
     match outcome {
         Outcome::JudgedPosition { line, .. } => put_place(alloc, number, *line, json),
@@ -158,7 +158,7 @@ fn put_found(
 ) -> Result<(), NoMemory>
     requires printable { IsPrintableOutcome outcome.now }
     requires legal { HasLegalLines outcome.now }
-    ensures { OnOk result (closed_by json.old (found_members extras outcome.now) ≡ closed_by json.new no_members) }
+    ensures { OnOk result (Leads json.old (found_members extras outcome.now) json.new no_members) }
 {
     match outcome {
         Outcome::JudgedPosition {
@@ -221,7 +221,8 @@ fn put_outcome(
 ///
 /// The verdict on a side is an object with the key `verdict`, and behind it what was found: `winnable` with `plies`, `moves`, `san`
 /// and, by `extras`, `fens`; `unwinnable` with `by` (`sets`, `material`, `lone pieces` or `graph`), for a graph `nodes` and, by
-/// `extras`, `certificate`; `undecided` with `positions` and `depth`; or `skipped`. The only error is want of memory.
+/// `extras`, `certificate`; `undecided` with `positions` and `depth`; or `skipped`. What is written reads back as the value that is meant. The only error is
+/// want of memory.
 pub fn put_outcome_line(
     alloc: Global,
     extras: Extras,
@@ -231,7 +232,8 @@ pub fn put_outcome_line(
 ) -> Result<(), NoMemory>
     requires printable { IsPrintableOutcome outcome.now }
     requires legal { HasLegalLines outcome.now }
-    ensures { OnOk result (text.new ≡ text.old ++ outcome_line extras number outcome.now) }
+    ensures text { OnOk result (text.new ≡ text.old ++ outcome_line extras number outcome.now) }
+    ensures reads_back { OnOk result (ReadsAs (outcome_json extras number outcome.now)) }
 {
     let mut json = JsonText::new(alloc);
     put_outcome(alloc, extras, number, outcome, &mut json)?;

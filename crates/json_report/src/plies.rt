@@ -5,7 +5,7 @@ ghost use Rattle.cha_moves.specs.Moves.{legal};
 ghost use Rattle.cha_outcome.specs.LegalMoves.{AreLegal, AreLegalFrom};
 ghost use Rattle.json.specs.Json.{no_items, no_members, array};
 ghost use Rattle.json_report.specs.Plies.{ply_json, ply_items, plies_from, replay_members, start_json, why_json};
-ghost use Rattle.json_report.specs.Spelled.{IsMember, IsValue, closed_by, ended_by};
+ghost use Rattle.json_report.specs.Spelled.{IsMember, IsValue, Leads, ItemsLead};
 
 use crate::members::{put_count, put_null, put_text};
 use cha_board::Position;
@@ -48,7 +48,7 @@ fn put_each(
     json: &mut JsonText,
 ) -> Result<(), NoMemory>
     requires { AreLegal position.now moves.now }
-    ensures { OnOk result (ended_by json.old (ply_items 1 position.now moves.now) ≡ ended_by json.new no_items) }
+    ensures { OnOk result (ItemsLead json.old (ply_items 1 position.now moves.now) json.new no_items) }
 {
     let mut now = *position;
     let mut number = 0;
@@ -116,7 +116,7 @@ fn put_why(alloc: Global, why: &Option<Unreadable>, json: &mut JsonText) -> Resu
 /// Writes the members that say the moves of a game.
 pub fn put_replay(alloc: Global, game: &ReplayedGame, json: &mut JsonText) -> Result<(), NoMemory>
     requires { AreLegalFrom game.now.start game.now.moves }
-    ensures { OnOk result (closed_by json.old (replay_members game.now) ≡ closed_by json.new no_members) }
+    ensures { OnOk result (Leads json.old (replay_members game.now) json.new no_members) }
 {
     put_start(alloc, &game.start, json)?;
     put_plies(alloc, &game.start, game.moves.items(), json)?;

@@ -1,7 +1,7 @@
 //! The last line of a report.
 
 ghost use Rattle.std.specs.Prelude.{◌≡◌, ◌++◌, OnOk};
-ghost use Rattle.json_report.specs.Spelled.{IsValue};
+ghost use Rattle.json_report.specs.Spelled.{IsValue, ReadsAs};
 ghost use Rattle.json_report.specs.Summaries.{games_json, positions_json, mates_json, plies_json, json_line};
 
 use crate::members::{put_count, put_truth};
@@ -83,7 +83,8 @@ pub fn put_games_line(
     closed: bool,
     text: &mut Text,
 ) -> Result<(), NoMemory>
-    ensures { OnOk result (text.new ≡ text.old ++ json_line (games_json totals.now closed)) }
+    ensures text { OnOk result (text.new ≡ text.old ++ json_line (games_json totals.now closed)) }
+    ensures reads_back { OnOk result (ReadsAs (games_json totals.now closed)) }
 {
     let mut json = JsonText::new(alloc);
     put_games(alloc, totals, closed, &mut json)?;
@@ -94,7 +95,8 @@ pub fn put_games_line(
 
 /// Appends the last line of a report on positions, as `{"positions":2,"refused":1,"dead":1,"undecided":0}`.
 pub fn put_positions_line(alloc: Global, totals: &Totals, text: &mut Text) -> Result<(), NoMemory>
-    ensures { OnOk result (text.new ≡ text.old ++ json_line (positions_json totals.now)) }
+    ensures text { OnOk result (text.new ≡ text.old ++ json_line (positions_json totals.now)) }
+    ensures reads_back { OnOk result (ReadsAs (positions_json totals.now)) }
 {
     let mut json = JsonText::new(alloc);
     put_positions(alloc, totals, &mut json)?;
@@ -105,7 +107,8 @@ pub fn put_positions_line(alloc: Global, totals: &Totals, text: &mut Text) -> Re
 
 /// Appends the last line of a report on shortest mates, as `{"positions":2,"refused":0,"found":1}`.
 pub fn put_mates_line(alloc: Global, totals: &Totals, text: &mut Text) -> Result<(), NoMemory>
-    ensures { OnOk result (text.new ≡ text.old ++ json_line (mates_json totals.now)) }
+    ensures text { OnOk result (text.new ≡ text.old ++ json_line (mates_json totals.now)) }
+    ensures reads_back { OnOk result (ReadsAs (mates_json totals.now)) }
 {
     let mut json = JsonText::new(alloc);
     put_mates(alloc, totals, &mut json)?;
@@ -121,7 +124,8 @@ pub fn put_plies_line(
     closed: bool,
     text: &mut Text,
 ) -> Result<(), NoMemory>
-    ensures { OnOk result (text.new ≡ text.old ++ json_line (plies_json totals.now closed)) }
+    ensures text { OnOk result (text.new ≡ text.old ++ json_line (plies_json totals.now closed)) }
+    ensures reads_back { OnOk result (ReadsAs (plies_json totals.now closed)) }
 {
     let mut json = JsonText::new(alloc);
     put_plies(alloc, totals, closed, &mut json)?;

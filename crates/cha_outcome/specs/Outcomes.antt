@@ -13,7 +13,6 @@ use Rattle.helpmate_list.specs.declared.answers.Shortest.{Shortest}
 use Rattle.helpmate_list.specs.declared.answers.Shortest.TheVariants.{NoneWithin, Found}
 use Rattle.helpmate_list.specs.Shortest.{shortest}
 use Rattle.cha_outcome.specs.declared.items.PlayedGame.{PlayedGame}
-use Rattle.cha_outcome.specs.declared.items.ReplayedGame.{ReplayedGame}
 use Rattle.cha_outcome.specs.declared.items.Item.{Item}
 use Rattle.cha_outcome.specs.declared.items.Item.TheVariants.{Position, RefusedLine as Refused, Played, UnreadableGame as Unread, Replayed as Told}
 use Rattle.cha_outcome.specs.declared.questions.FlaggedDraws.{FlaggedDraws}

@@ -17,7 +17,7 @@ use Rattle.cha_outcome.specs.declared.rulings.Cause.TheVariants.{Mate511, Stalem
 use Rattle.cha_outcome.specs.declared.rulings.Claim.{Claim}
 use Rattle.cha_outcome.specs.declared.rulings.Judgment.{Judgment}
 use Rattle.cha_outcome.specs.declared.questions.FlaggedDraws.{FlaggedDraws}
-use Rattle.cha_outcome.specs.declared.questions.FlaggedDraws.TheVariants.{Stand, Examined}
+use Rattle.cha_outcome.specs.declared.questions.FlaggedDraws.TheVariants.{Examined}
 use Rattle.cha_verdict.specs.declared.decisions.Decision.{Decision}
 use Rattle.cha_verdict.specs.declared.scans.Scan.{Scan}
 use Rattle.cha_outcome.specs.declared.items.PlayedGame.{PlayedGame}

@@ -6,17 +6,17 @@ ghost use Rattle.cha_san.specs.Playing.{positions};
 ghost use Rattle.cha_limits.specs.Bounds.{Bounds};
 ghost use Rattle.cha_outcome.specs.declared.questions.FlaggedDraws.{FlaggedDraws as DrawRule};
 ghost use Rattle.cha_outcome.specs.declared.questions.Question.{Question};
-ghost use Rattle.cha_outcome.specs.declared.questions.Question.TheVariants.{Verdicts};
+ghost use Rattle.cha_outcome.specs.declared.questions.Question.TheVariants.{Verdicts, Plies};
 ghost use Rattle.cha_outcome.specs.Outcomes.{CanBeAsked};
-ghost use Rattle.cha_outcome.specs.Items.{line_item, game_item, played_item, stopped_by};
+ghost use Rattle.cha_outcome.specs.Items.{line_item, game_item, played_item, stopped_by, reason_of, start_if_known, moves_before as moves_before_of, replay_item};
 ghost use Rattle.cha_outcome.specs.declared.items.Item.TheVariants.{UnreadableGame};
 
 use crate::unreadable::Unreadable;
 use cha_board::Position;
 use cha_fen::{FenFault, read};
 use cha_list::{NoMemory, text_of};
-use cha_moves::Positions;
-use cha_san::{PlayFault, SanFault, play};
+use cha_moves::{Moves, Positions};
+use cha_san::{PlayFault, SanFault, moves_of, play};
 use pgn_games::{Game, PlacedGame, ResultMark, Span};
 use std::alloc::Global;
 
@@ -84,7 +84,7 @@ const MOST_LINE_BYTES: usize = 4096;
 #[tactic(auto, unfolding(crate::specs::Items::line_item))]
 pub fn item_of_line(line: u64, text: &[u8]) -> Item
     ensures item { result ≡ line_item line text.now }
-    ensures asked { (question : Question) → CanBeAsked question result }
+    ensures asked { (question : Question) → question ≢ Plies → CanBeAsked question result }
 {
     if text.len() > MOST_LINE_BYTES {
         return Item::RefusedLine {
@@ -167,5 +167,57 @@ fn lacks_memory(fault: SanFault) -> bool
         SanFault::NotSan => false,
         SanFault::NoSuchMove => false,
         SanFault::Ambiguous => false,
+    }
+}
+
+/// The item of a game whose moves are told: those before its first fault, as far as words name moves. The only error is want of memory.
+#[tactic(auto, unfolding(crate::specs::Items::replay_item))]
+pub fn item_of_replay(alloc: Global, placed: &PlacedGame) -> Result<Item, NoMemory>
+    requires { placed.now.game.fault ≡ None → length placed.now.game.words ≤ 12000 }
+    ensures item { IfOk result (λ item. item ≡ replay_item placed.now) }
+    ensures asked { IfOk result (λ item. CanBeAsked Plies item) }
+{
+    let why = reason(item_of_game(alloc, placed)?);
+    let start = start_known(&placed.game);
+    let moves = moves_before(alloc, &placed.game)?;
+    Ok(Item::Replayed(ReplayedGame {
+        span: placed.span,
+        start,
+        moves,
+        why,
+    }))
+}
+
+/// Why an item is no game that can be read.
+fn reason(item: Item) -> Option<Unreadable>
+    ensures { result ≡ reason_of item }
+{
+    match item {
+        Item::UnreadableGame { why, .. } => Some(why),
+        _ => None,
+    }
+}
+
+/// Where a game starts, if that is known.
+fn start_known(game: &Game) -> Option<Position>
+    ensures { result ≡ start_if_known game.now.before_fault game.now.start }
+{
+    match game.before_fault {
+        Some(_) => Some(game.start),
+        None => None,
+    }
+}
+
+/// The moves of a game before its first fault.
+fn moves_before(alloc: Global, game: &Game) -> Result<Moves, NoMemory>
+    ensures { IfOk result (λ moves. moves ≡ moves_before_of game.now.before_fault game.now) }
+{
+    match game.before_fault {
+        Some(number) => {
+            let words = game.words.items();
+            let (before, _behind) = words.split_at(number.min(words.len()));
+            moves_of(alloc, &game.start, before)
+        }
+        None => Ok(Moves::new(alloc)),
     }
 }

@@ -74,10 +74,12 @@ impl Outcome {
     pub fn is_refused(&self) -> bool
         ensures { result ≡ is_refused_of self.now }
     {
-        matches!(
-            self,
-            Outcome::RefusedLine { .. } | Outcome::UnreadableGame { .. }
-        )
+        match self {
+            Outcome::RefusedLine { .. } => true,
+            Outcome::UnreadableGame { .. } => true,
+            Outcome::Replayed(game) => game.why.is_some(),
+            _ => false,
+        }
     }
 
     /// Whether it is a position that is dead.

@@ -34,6 +34,11 @@ enum cha_answer {
  * out, out_len      room for the output
  * used              afterwards how many bytes the output has; written in every case
  *
+ * Games of any length are judged in pieces: with the option --json the last line says "closed":true where the games behind the input are what
+ * they would be if the input were not there. So judge the first piece. If it is closed, go on with the next one alone, and add to its places
+ * and numbers those before it; if not, judge it again together with the next one. The lines are those of one run over the whole (proved;
+ * docs/LIBRARY.md).
+ *
  * Where the answer is CHA_NO_ROOM, nothing was written, and a call with *used bytes of room has enough. Options for threads change
  * nothing: one thread does the work.
  */

@@ -21,6 +21,7 @@ fn about_command(command: Command) -> &'static str {
         Command::Mates => {
             "lists the shortest mates by a side in positions in FEN: a block for each, and a summary"
         }
+        Command::Replay => "tells the moves of games in PGN, and the position after each",
         Command::Gen =>
             "makes games of numbers, judges them, and writes the summary; reads nothing",
     }

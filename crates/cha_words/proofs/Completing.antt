@@ -1,10 +1,10 @@
 -- Words that can be continued to an order.
 use Rattle.std.proofs.Common.{◌≡◌, ℕ, ◌==◌, List, [], ◌∷◌, codes, Option, Some, None, refl, ap, ◌∙◌, subst}
 use Rattle.cha_words.specs.declared.orders.Order.{Order}
-use Rattle.cha_words.specs.declared.orders.Order.TheVariants.{AdjudicateGames, JudgePositions, CheckCert, GenGames, ListMates}
+use Rattle.cha_words.specs.declared.orders.Order.TheVariants.{AdjudicateGames, JudgePositions, CheckCert, GenGames, ListMates, ReplayGames}
 use Rattle.cha_board.specs.declared.men.Color.TheVariants.{White}
 use Rattle.cha_words.specs.declared.table.Command.{Command}
-use Rattle.cha_words.specs.declared.table.Command.TheVariants.{Adjudicate, Position, Check, Gen, Mates}
+use Rattle.cha_words.specs.declared.table.Command.TheVariants.{Adjudicate, Position, Check, Gen, Mates, Replay}
 use Rattle.cha_words.specs.declared.table.Setting.{Setting}
 use Rattle.cha_words.specs.declared.table.Setting.TheVariants.{Budget, Workers, Depth, Entries, Certs, Json, San, Fens, FlaggedDraws}
 use Rattle.cha_words.specs.declared.table.Range.{Range}
@@ -78,6 +78,7 @@ by_said Gen g n (Seeded seed) e s h = (codes "1" ∷ [], GenGames (bounds n) see
 by_said Gen g n (Games seed count) e s h = ends Gen g n (Games seed count) (GenGames (bounds n) seed count) e s refl
 by_said Mates g n Nothing e s h = (codes "w" ∷ [], ListMates White n.workers n.depth (printing n), rw side_part (one_more Mates g (Some n) (Some (Sided White)) (codes "w") e (ap (λ t. say_all Mates (Some t) (codes "w" ∷ [])) s ∙ side_said)))
 by_said Mates g n (Sided side) e s h = ends Mates g n (Sided side) (ListMates side n.workers n.depth (printing n)) e s refl
+by_said Replay g n Nothing e s h = ends Replay g n Nothing (ReplayGames (printing n)) e s refl
 by_said c g n said e s h = absurd h
 
 pub given_goes : (c : Command) (g : Given) → Fits c g → CanGo (λ more. order_from c g (parts_awaiting None more))
@@ -139,6 +140,15 @@ has_number Mates Json = (1, refl)
 has_number Mates San = (1, refl)
 has_number Mates Fens = tt
 has_number Mates FlaggedDraws = tt
+has_number Replay Json = (1, refl)
+has_number Replay Budget = tt
+has_number Replay Workers = tt
+has_number Replay Depth = tt
+has_number Replay Entries = tt
+has_number Replay Certs = tt
+has_number Replay San = tt
+has_number Replay Fens = tt
+has_number Replay FlaggedDraws = tt
 
 pub has_own : (c : Command) (s : Setting) (r : Range) → range c s ≡ Some r → (n : ℕ) × (number r.least r.most (some_number s) ≡ Some n)
 has_own c s r e = subst (λ o. HasNumber o s) e (has_number c s)

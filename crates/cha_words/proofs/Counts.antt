@@ -5,7 +5,7 @@ use Rattle.cha_board.specs.declared.men.Color.{Color}
 use Rattle.cha_words.specs.declared.orders.Printing.{Printing}
 use Rattle.cha_words.specs.declared.orders.Order.TheVariants.{GenGames, ListMates}
 use Rattle.cha_words.specs.declared.table.Command.{Command}
-use Rattle.cha_words.specs.declared.table.Command.TheVariants.{Adjudicate, Position, Check, Gen, Mates}
+use Rattle.cha_words.specs.declared.table.Command.TheVariants.{Adjudicate, Position, Check, Gen, Mates, Replay}
 use Rattle.cha_words.specs.declared.table.Setting.TheVariants.{Workers, Depth}
 use Rattle.cha_words.specs.declared.table.Range.{Range}
 use Rattle.cha_words.specs.declared.given.Said.{Said}
@@ -34,6 +34,8 @@ games_of Check n Nothing b seed count e = cc
 games_of Check n s b seed count e = cc
 games_of Mates n (Sided side) b seed count e = cc
 games_of Mates n s b seed count e = cc
+games_of Replay n Nothing b seed count e = cc
+games_of Replay n s b seed count e = cc
 
 made_games : (c : Command) (n : Option Numbers) (s : Option Said) (b : Bounds) (seed count : ℕ) → made_of c n s ≡ Some (GenGames b seed count) → (c ≡ Gen) × (s ≡ Some (Games seed count))
 made_games c (Some n) (Some s) b seed count e = games_of c n s b seed count e
@@ -59,6 +61,8 @@ mates_of Check n Nothing side w d p e = cc
 mates_of Check n s side w d p e = cc
 mates_of Gen n (Games seed count) side w d p e = cc
 mates_of Gen n s side w d p e = cc
+mates_of Replay n Nothing side w d p e = cc
+mates_of Replay n s side w d p e = cc
 
 made_mates : (c : Command) (n : Option Numbers) (s : Option Said) (side : Color) (w d : ℕ) (p : Printing) → made_of c n s ≡ Some (ListMates side w d p) → OfMates c n w d
 made_mates c (Some n) (Some s) side w d p e = mates_of c n s side w d p e

@@ -4,9 +4,9 @@ use Rattle.cha_limits.specs.Bounds.{Bounds}
 use Rattle.cha_board.specs.declared.men.Color.{Color}
 use Rattle.cha_words.specs.declared.orders.Order.{Order}
 use Rattle.cha_words.specs.declared.orders.Printing.{Printing}
-use Rattle.cha_words.specs.declared.orders.Order.TheVariants.{AdjudicateGames, JudgePositions, CheckCert, GenGames, ListMates}
+use Rattle.cha_words.specs.declared.orders.Order.TheVariants.{AdjudicateGames, JudgePositions, CheckCert, GenGames, ListMates, ReplayGames}
 use Rattle.cha_words.specs.declared.table.Command.{Command}
-use Rattle.cha_words.specs.declared.table.Command.TheVariants.{Adjudicate, Position, Check, Gen, Mates}
+use Rattle.cha_words.specs.declared.table.Command.TheVariants.{Adjudicate, Position, Check, Gen, Mates, Replay}
 use Rattle.cha_words.specs.declared.table.Setting.{Setting}
 use Rattle.cha_words.specs.declared.table.Setting.TheVariants.{Budget, Workers, Depth, Entries, Certs, Json, San, Fens, FlaggedDraws}
 use Rattle.cha_words.specs.declared.table.Range.{Range}
@@ -76,13 +76,14 @@ unfolding order_from
 at_end c g n e = ap (λ o. made_of c o (Some g.said)) e
 
 unmade : (c : Command) (said : Said) (n : Numbers) → (c ≡ Adjudicate → said ≡ Nothing → ⊥) → (c ≡ Position → said ≡ Nothing → ⊥) → (c ≡ Check → said ≡ Nothing → ⊥) → ((seed count : ℕ) → c ≡ Gen → said ≡ Games seed count → ⊥)
-    → ((side : Color) → c ≡ Mates → said ≡ Sided side → ⊥) → made c n said ≡ None
-unmade Adjudicate Nothing n ha hp hc hg hm = absurd (ha refl refl)
-unmade Position Nothing n ha hp hc hg hm = absurd (hp refl refl)
-unmade Check Nothing n ha hp hc hg hm = absurd (hc refl refl)
-unmade Gen (Games seed count) n ha hp hc hg hm = absurd (hg seed count refl refl)
-unmade Mates (Sided side) n ha hp hc hg hm = absurd (hm side refl refl)
-unmade c said n ha hp hc hg hm = refl
+    → ((side : Color) → c ≡ Mates → said ≡ Sided side → ⊥) → (c ≡ Replay → said ≡ Nothing → ⊥) → made c n said ≡ None
+unmade Adjudicate Nothing n ha hp hc hg hm hr = absurd (ha refl refl)
+unmade Position Nothing n ha hp hc hg hm hr = absurd (hp refl refl)
+unmade Check Nothing n ha hp hc hg hm hr = absurd (hc refl refl)
+unmade Gen (Games seed count) n ha hp hc hg hm hr = absurd (hg seed count refl refl)
+unmade Mates (Sided side) n ha hp hc hg hm hr = absurd (hm side refl refl)
+unmade Replay Nothing n ha hp hc hg hm hr = absurd (hr refl refl)
+unmade c said n ha hp hc hg hm hr = refl
 
 module _ (c : Command) (g : Given) (n : Numbers) (is : numbers_from c g [] ≡ Some n) where
   each : Nine (chosen_from (range c Budget) g.budget []) (chosen_from (range c Workers) g.workers []) (chosen_from (range c Depth) g.depth []) (chosen_from (range c Entries) g.entries []) (chosen_from (range c Certs) g.certs []) (chosen_from (range c Json) g.json []) (chosen_from (range c San) g.san []) (chosen_from (range c Fens) g.fens []) (chosen_from (range c FlaggedDraws) g.flagged_draws []) n
@@ -130,10 +131,13 @@ module _ (c : Command) (g : Given) (n : Numbers) (is : numbers_from c g [] ≡ S
       let depth : d ≡ n.depth = of_some d n.depth (sym hd ∙ each.depth) in
       rw (at_end c g n is, e, s, workers, depth, printed p hp) refl
 
+  pub replays_made : (p : Printing) → c ≡ Replay → g.said ≡ Nothing → IfSome (numbers_from c g []) (λ n. p ≡ printing n) → Some (ReplayGames p) ≡ order_from c g []
+  replays_made p e s hp = rw (at_end c g n is, e, s, printed p hp) refl
+
   -- a command whose further words are not complete
   pub not_made : (c ≡ Adjudicate → g.said ≡ Nothing → ⊥) → (c ≡ Position → g.said ≡ Nothing → ⊥) → (c ≡ Check → g.said ≡ Nothing → ⊥) → ((seed count : ℕ) → c ≡ Gen → g.said ≡ Games seed count → ⊥)
-      → ((side : Color) → c ≡ Mates → g.said ≡ Sided side → ⊥) → None ≡ order_from c g []
-  not_made ha hp hc hg hm = rw (at_end c g n is) (sym (unmade c g.said n ha hp hc hg hm))
+      → ((side : Color) → c ≡ Mates → g.said ≡ Sided side → ⊥) → (c ≡ Replay → g.said ≡ Nothing → ⊥) → None ≡ order_from c g []
+  not_made ha hp hc hg hm hr = rw (at_end c g n is) (sym (unmade c g.said n ha hp hc hg hm hr))
 
 -- an option whose number never comes
 none_awaited : (c : Command) (g : Given) (s : Setting) (o : Option Range) → open_in c g s ≡ o → order_from c g (Value s [] ∷ []) ≡ None

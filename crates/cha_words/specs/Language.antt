@@ -10,9 +10,9 @@ use Rattle.cha_board.specs.declared.men.Color.TheVariants.{White, Black}
 use Rattle.cha_limits.specs.Bounds.{Bounds}
 use Rattle.cha_words.specs.declared.orders.Order.{Order}
 use Rattle.cha_words.specs.declared.orders.Printing.{Printing}
-use Rattle.cha_words.specs.declared.orders.Order.TheVariants.{AdjudicateGames, JudgePositions, CheckCert, GenGames, ListMates}
+use Rattle.cha_words.specs.declared.orders.Order.TheVariants.{AdjudicateGames, JudgePositions, CheckCert, GenGames, ListMates, ReplayGames}
 use Rattle.cha_words.specs.declared.table.Command.{Command}
-use Rattle.cha_words.specs.declared.table.Command.TheVariants.{Adjudicate, Position, Check, Gen, Mates}
+use Rattle.cha_words.specs.declared.table.Command.TheVariants.{Adjudicate, Position, Check, Gen, Mates, Replay}
 use Rattle.cha_words.specs.declared.table.Setting.{Setting}
 use Rattle.cha_words.specs.declared.table.Setting.TheVariants.{Budget, Workers, Depth, Entries, Certs, Json, San, Fens, FlaggedDraws}
 use Rattle.cha_words.specs.declared.table.Range.{Range}
@@ -38,7 +38,8 @@ command_named word =
     else (if bytes_eq word (codes "position") then Some Position
     else (if bytes_eq word (codes "check") then Some Check
     else (if bytes_eq word (codes "gen") then Some Gen
-    else (if bytes_eq word (codes "mates") then Some Mates else None))))
+    else (if bytes_eq word (codes "mates") then Some Mates
+    else (if bytes_eq word (codes "replay") then Some Replay else None)))))
 
 -- the option that a word names, letter by letter
 unfoldable pub setting_named : List ℕ → Option Setting
@@ -95,6 +96,8 @@ range Mates Depth = Some (from_to 1 6 4)
 range Mates Json = Some (from_to 0 1 0)
 range Mates San = Some (from_to 0 1 0)
 range Mates _ = None
+range Replay Json = Some (from_to 0 1 0)
+range Replay _ = None
 
 -- the table of the words that are no options: which comes next, by what such words have said
 abbrev pub next_argument : Command → Said → Option Argument
@@ -228,6 +231,7 @@ made Position n Nothing = Some (JudgePositions (bounds n) (printing n))
 made Check n Nothing = Some CheckCert
 made Gen n (Games seed count) = Some (GenGames (bounds n) seed count)
 made Mates n (Sided side) = Some (ListMates side n.workers n.depth (printing n))
+made Replay n Nothing = Some (ReplayGames (printing n))
 made _ n said = None
 
 -- the same where one of them may be refused
@@ -258,10 +262,11 @@ order_of (word ∷ words) = order_behind (command_named word) words
 abbrev pub order : List (String Global) → Option Order
 order words = order_of (map string_bytes words)
 
--- what an order lets a search of verdicts spend; a check and the shortest mates have none
+-- what an order lets a search of verdicts spend; a check, the shortest mates and the moves of games have none
 abbrev pub limits_in : Order → Option Bounds
 limits_in (AdjudicateGames spend draws printing) = Some spend
 limits_in (JudgePositions spend printing) = Some spend
 limits_in CheckCert = None
 limits_in (GenGames spend seed count) = Some spend
 limits_in (ListMates side workers depth printing) = None
+limits_in (ReplayGames printing) = None

@@ -2,7 +2,7 @@
 use Rattle.std.specs.Prelude.{◌≡◌, ℕ, ◌≤◌, List, [], ◌∷◌, filter_map, Option, Some, None, IsSome, MatchOption, ⊤}
 use Rattle.cha_words.specs.declared.orders.Order.{Order}
 use Rattle.cha_words.specs.declared.table.Command.{Command}
-use Rattle.cha_words.specs.declared.table.Command.TheVariants.{Check, Gen, Mates}
+use Rattle.cha_words.specs.declared.table.Command.TheVariants.{Check, Gen, Mates, Replay}
 use Rattle.cha_words.specs.declared.table.Setting.{Setting}
 use Rattle.cha_words.specs.declared.table.Setting.TheVariants.{Budget, Workers, Depth, Entries, Certs, Json, San, Fens, FlaggedDraws}
 use Rattle.cha_words.specs.declared.table.Range.{Range}
@@ -81,6 +81,7 @@ order_from command given parts = made_of command (numbers_from command given par
 abbrev pub IsSearch : Command → Type 0
 IsSearch Check = ⊥
 IsSearch Mates = ⊥
+IsSearch Replay = ⊥
 IsSearch _ = ⊤
 
 -- a number lies in a range

@@ -69,10 +69,15 @@ pub enum Order {
         /// How the report is printed.
         printing: Printing,
     },
+    /// `replay`: tell the moves of each game of the input, which is in PGN.
+    ReplayGames {
+        /// How they are printed.
+        printing: Printing,
+    },
 }
 
 impl Order {
-    /// What a search for verdicts may spend on a side. A check and the shortest mates need none.
+    /// What a search for verdicts may spend on a side. A check, the shortest mates and the moves of games need none.
     pub fn limits(&self) -> Option<Limits>
         ensures { result ≡ limits_in self.now }
     {
@@ -80,7 +85,7 @@ impl Order {
             Order::AdjudicateGames { limits, .. }
             | Order::JudgePositions { limits, .. }
             | Order::GenGames { limits, .. } => Some(*limits),
-            Order::CheckCert | Order::ListMates { .. } => None,
+            Order::CheckCert | Order::ListMates { .. } | Order::ReplayGames { .. } => None,
         }
     }
 }
@@ -94,6 +99,7 @@ impl Order {
 /// | `gen` | `--budget`, `--workers`, `--depth`, `--entries` | the seed, and then the number of games |
 /// | `check` | none | none |
 /// | `mates` | `--workers`, `--depth`, `--json`, `--san` | the side, `w` or `b` |
+/// | `replay` | `--json` | none |
 ///
 /// An option with a number is `--name N` in two words or `--name=N` in one, and `--certs`, `--json`, `--san`, `--fens` and
 /// `--flagged-draws` take no value. A number is 1 to 20 ASCII digits, leading zeros among them.
@@ -241,6 +247,9 @@ fn made(command: Command, given: Given) -> Option<Order>
             side,
             workers: chosen(command, given, Setting::Workers) as u32,
             depth: chosen(command, given, Setting::Depth) as u8,
+            printing: printed(command, given),
+        }),
+        (Command::Replay, Said::Nothing) => Some(Order::ReplayGames {
             printing: printed(command, given),
         }),
         _ => None,

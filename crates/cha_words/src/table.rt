@@ -21,14 +21,17 @@ pub enum Command {
     Gen,
     /// To list the shortest mates.
     Mates,
+    /// To tell the moves of games.
+    Replay,
 }
 
 /// Each command.
-pub const COMMANDS: [Command; 5] = [
+pub const COMMANDS: [Command; 6] = [
     Command::Adjudicate,
     Command::Position,
     Command::Check,
     Command::Mates,
+    Command::Replay,
     Command::Gen,
 ];
 
@@ -105,6 +108,8 @@ pub fn command_of(word: &str) -> Option<Command>
         Some(Command::Gen)
     } else if word == "mates" {
         Some(Command::Mates)
+    } else if word == "replay" {
+        Some(Command::Replay)
     } else {
         None
     }
@@ -121,6 +126,7 @@ pub fn command_name(command: Command) -> &'static str
         Command::Check => "check",
         Command::Gen => "gen",
         Command::Mates => "mates",
+        Command::Replay => "replay",
     }
 }
 
@@ -227,6 +233,10 @@ pub fn range_of(command: Command, setting: Setting) -> Option<Range>
             | Setting::Certs
             | Setting::Fens
             | Setting::FlaggedDraws => None,
+        },
+        Command::Replay => match setting {
+            Setting::Json => Some(from_to(0, 1, 0)),
+            _ => None,
         },
     }
 }

@@ -2,6 +2,7 @@ pub mod Findings
 pub mod Scans
 pub mod Games
 pub mod Mates
+pub mod Plies
 pub mod Blocks
 pub mod Totals
 pub mod Styles

@@ -5,17 +5,18 @@ ghost use Rattle.cha_outcome.specs.Outcomes.{IsPrintableOutcome};
 ghost use Rattle.flag_report.specs.Blocks.{label as label_of, body, block_text};
 ghost use Rattle.flag_report.specs.Findings.{line};
 ghost use Rattle.report_words.specs.LegalLines.{HasLegalLines};
-ghost use Rattle.report_words.specs.Reasons.{fen_fault_text, reason_text};
+ghost use Rattle.report_words.specs.Reasons.{fen_fault_text};
 
 use crate::findings::{put_count_line, put_fen, put_findings};
 use crate::forms::BlockForm;
 use crate::mates::put_mates;
+use crate::plies::{put_replay, put_unreadable};
 use crate::results::put_result;
 use crate::scans::put_scan_part;
 use cha_fen::FenFault;
 use cha_list::{NoMemory, Text};
-use cha_outcome::{Outcome, Unreadable};
-use report_words::{put_fen_fault, put_reason};
+use cha_outcome::Outcome;
+use report_words::put_fen_fault;
 use std::alloc::Global;
 
 /// The word in front of the number.
@@ -24,7 +25,9 @@ fn label(outcome: &Outcome) -> &'static [u8]
     ensures { result.now ≡ label_of outcome.now }
 {
     match outcome {
-        Outcome::JudgedGame { .. } | Outcome::UnreadableGame { .. } => b"game ",
+        Outcome::JudgedGame { .. } | Outcome::UnreadableGame { .. } | Outcome::Replayed(_) => {
+            b"game "
+        }
         Outcome::JudgedPosition { .. }
         | Outcome::ListedMates { .. }
         | Outcome::RefusedLine { .. } => b"position ",
@@ -51,6 +54,10 @@ fn label(outcome: &Outcome) -> &'static [u8]
 /// fen: 6k1/5ppp/8/8/8/8/5PPP/3R2K1 b - -
 /// plies: 2, lines: 1
 /// line: g8h8 d1d8
+///
+/// game 1
+/// fen: rnbqkbnr/pppppppp/8/8/8/8/PPPPPPPP/RNBQKBNR w KQkq -
+/// ply 1: e2e4 e4 rnbqkbnr/pppppppp/8/8/4P3/8/PPPP1PPP/RNBQKBNR b KQkq e3
 /// ```
 ///
 /// A game that ends in a dead position has a line more before the result, as `dead from: ply 1`. A line that is no position has
@@ -113,6 +120,7 @@ fn put_body(
         }
         Outcome::RefusedLine { fault, .. } => put_refused(*fault, text),
         Outcome::UnreadableGame { why, .. } => put_unreadable(alloc, why, text),
+        Outcome::Replayed(game) => put_replay(alloc, game, text),
     }
 }
 
@@ -123,14 +131,4 @@ fn put_refused(fault: FenFault, text: &mut Text) -> Result<(), NoMemory>
     text.append(b"refused: ")?;
     put_fen_fault(fault, text)?;
     text.append(b"\n")
-}
-
-/// Appends the line that says why a game cannot be read.
-fn put_unreadable(alloc: Global, why: &Unreadable, text: &mut Text) -> Result<(), NoMemory>
-    ensures { OnOk result (text.new ≡ text.old ++ line (codes "unreadable: " ++ reason_text why.now)) }
-{
-    text.append(b"unreadable: ")?;
-    put_reason(alloc, why, text)?;
-    text.append(b"\n")?;
-    Ok(())
 }

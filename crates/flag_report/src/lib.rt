@@ -1,7 +1,7 @@
 //! What the program prints of outcomes, of what was counted, and of certificates.
 //!
 //! `styles` has what is printed in each style, that in JSON by `json_report`, and `blocks` the style of blocks, by `forms`: `findings` what is found about a position, `scans`
-//! from where on a game was dead, `results` the result of a game, `mates` the shortest mates,
+//! from where on a game was dead, `results` the result of a game, `mates` the shortest mates, `plies` the moves of a game,
 //! and `totals` the last line. `cert_reports` has the lines on certificates that were checked. Each call that gives a text takes
 //! memory for it, and its only error is want of memory.
 #![tactic(auto)]
@@ -11,6 +11,7 @@ mod cert_reports;
 mod findings;
 mod forms;
 mod mates;
+mod plies;
 mod results;
 mod scans;
 mod styles;

@@ -10,7 +10,9 @@ use crate::forms::BlockForm;
 use crate::totals::put_totals;
 use cha_list::{NoMemory, Text};
 use cha_outcome::{Outcome, Totals};
-use json_report::{Extras, put_games_line, put_mates_line, put_outcome_line, put_positions_line};
+use json_report::{
+    Extras, put_games_line, put_mates_line, put_outcome_line, put_plies_line, put_positions_line,
+};
 use std::alloc::Global;
 
 /// How a report is printed.
@@ -33,6 +35,8 @@ pub enum Subject {
     Positions,
     /// Positions and their shortest mates.
     Mates,
+    /// Games and their moves.
+    Plies,
 }
 
 /// Appends what is printed of an outcome under its number.
@@ -69,6 +73,7 @@ fn put_last_json(
         Subject::Games => put_games_line(alloc, totals, closed, text),
         Subject::Positions => put_positions_line(alloc, totals, text),
         Subject::Mates => put_mates_line(alloc, totals, text),
+        Subject::Plies => put_plies_line(alloc, totals, closed, text),
     }
 }
 

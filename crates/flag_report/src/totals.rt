@@ -1,7 +1,7 @@
 //! The last line of the output.
 
 ghost use Rattle.std.specs.Prelude.{◌≡◌, ◌++◌, OnOk, IfOk};
-ghost use Rattle.flag_report.specs.Totals.{game_summary_text, position_summary_text, mates_summary_text, summary_text};
+ghost use Rattle.flag_report.specs.Totals.{game_summary_text, position_summary_text, mates_summary_text, plies_summary_text, summary_text};
 
 use crate::styles::Subject;
 use cha_list::{NoMemory, Text};
@@ -22,6 +22,7 @@ pub fn put_totals(
         Subject::Games => game_line(alloc, totals)?,
         Subject::Positions => position_line(alloc, totals)?,
         Subject::Mates => mates_line(alloc, totals)?,
+        Subject::Plies => plies_line(alloc, totals)?,
     };
     text.append(line.items())
 }
@@ -63,6 +64,18 @@ fn mates_line(alloc: Global, totals: &Totals) -> Result<Text, NoMemory>
     put_count(alloc, b"positions: ", totals.items, &mut text)?;
     put_count(alloc, b", refused: ", totals.refused, &mut text)?;
     put_count(alloc, b", found: ", totals.found, &mut text)?;
+    text.append(b"\n")?;
+    Ok(text)
+}
+
+/// The last line for games whose moves are told, as `games: 2, unreadable: 1`.
+#[tactic(auto, unfolding(crate::specs::Totals::plies_summary_text))]
+fn plies_line(alloc: Global, totals: &Totals) -> Result<Text, NoMemory>
+    ensures { IfOk result (λ text. text ≡ plies_summary_text totals.now) }
+{
+    let mut text = Text::new(alloc);
+    put_count(alloc, b"games: ", totals.items, &mut text)?;
+    put_count(alloc, b", unreadable: ", totals.refused, &mut text)?;
     text.append(b"\n")?;
     Ok(text)
 }

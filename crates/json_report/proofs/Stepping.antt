@@ -1,12 +1,14 @@
 -- The text of a value, token by token.
-use Rattle.std.proofs.Common.{◌≡◌, ℕ, Bool, true, false, List, [], ◌∷◌, ◌++◌, refl, sym, ap, ◌∙◌, append_assoc, append-nil}
-use Rattle.json.specs.Json.{Json, null, boolean, number, string, array, object, Items, no_items, item, Members, no_members, member}
+use Rattle.std.proofs.Common.{◌≡◌, ◌≤◌, ℕ, Bool, true, false, List, [], ◌∷◌, ◌++◌, Some, refl, sym, ap, ◌∙◌, append_assoc, append-nil}
+use Rattle.json.specs.Json.{Json, null, boolean, number, string, array, object, Items, no_items, item, Members, no_members, member, max_depth, document}
 use Rattle.json.specs.Token.{Token}
-use Rattle.json.specs.Tree.{json_tokens, items_tokens, members_tokens}
+use Rattle.json.specs.Tree.{json_tokens, items_tokens, members_tokens, depth}
 use Rattle.json.specs.Print as plainly
 use Rattle.json_text.specs.Texts.{text_from, token_text, json_text, IsPut}
+use Rattle.json_text.specs.Meant.{meant}
+use Rattle.json_text.proofs.Reading.{reads_back}
 use Rattle.json_text.specs.declared.writer.JsonText.{JsonText}
-use Rattle.json_report.specs.Spelled.{comma, key_text, value_text, items_text, members_text, IsValue, IsMember, closed_by, ended_by}
+use Rattle.json_report.specs.Spelled.{comma, key_text, value_text, items_text, members_text, IsValue, IsMember, Leads, ItemsLead, closed_by, ended_by}
 
 -- a bracket that opens an object, and members behind it
 pub opened : (old new : JsonText) (ms : Members) → IsPut old Token.begin_object new → closed_by new ms ≡ old.text ++ (comma old.after_value ++ value_text (object ms))
@@ -18,10 +20,26 @@ opened old new ms put = opened_by old.after_value old.text new.text new.after_va
     opened_by true t t' a' e f ms = rw (e, f) (append_assoc t (44 ∷ 123 ∷ []) (members_text false ms))
     opened_by false t t' a' e f ms = rw (e, f) (append_assoc t (123 ∷ []) (members_text false ms))
 
+-- what is written in one step and then in another
+infixr 10 ◌then◌
+pub ◌then◌ : {old between new : JsonText} {ms further more : Members} → Leads old ms between further → Leads between further new more → Leads old ms new more
+first then last = record { text = first.text ∙ last.text; readable = λ r. first.readable (last.readable r) }
+
+infixr 10 ◌before◌
+pub ◌before◌ : {old between new : JsonText} {js further more : Items} → ItemsLead old js between further → ItemsLead between further new more → ItemsLead old js new more
+first before last = record { text = first.text ∙ last.text; readable = λ r. first.readable (last.readable r) }
+
+-- nothing is written
+pub stays : (json : JsonText) (ms : Members) → Leads json ms json ms
+stays json ms = record { text = refl; readable = λ r. r }
+
 -- one member more
-pub next : (old new : JsonText) (name : List ℕ) (j : Json) (ms : Members) → IsMember old name j new → closed_by old (member name j ms) ≡ closed_by new ms
-unfolding closed_by
-next old new name j ms is = rw (is.text, is.after) (simp (append_assoc) refl)
+pub next : (old new : JsonText) (name : List ℕ) (j : Json) (ms : Members) → IsMember old name j new → Leads old (member name j ms) new ms
+next old new name j ms is = record { text = next_text old new name j ms is; readable = λ r. ((is.readable.0, r.0), (is.named, (is.readable.1, r.1))) }
+  where
+    next_text : (old new : JsonText) (name : List ℕ) (j : Json) (ms : Members) → IsMember old name j new → closed_by old (member name j ms) ≡ closed_by new ms
+    unfolding closed_by
+    next_text old new name j ms is = rw (is.text, is.after) (simp (append_assoc) refl)
 
 -- the bracket that closes it
 pub closed : (old new : JsonText) → IsPut old Token.end_object new → closed_by old no_members ≡ new.text
@@ -33,8 +51,12 @@ closed old new put = closed_after old.after_value old.text new.text put.text
     closed_after false t t' e = sym e
 
 -- a whole object
-pub whole : (old first last new : JsonText) (ms : Members) → IsPut old Token.begin_object first → closed_by first ms ≡ closed_by last no_members → IsPut last Token.end_object new → IsValue old (object ms) new
-whole old first last new ms begins through ends = record { text = sym (sym (opened old first ms begins) ∙ through ∙ closed last new ends); after = ends.after }
+pub whole : (old first last new : JsonText) (ms : Members) → IsPut old Token.begin_object first → Leads first ms last no_members → IsPut last Token.end_object new → IsValue old (object ms) new
+whole old first last new ms begins through ends = record {
+  text = sym (sym (opened old first ms begins) ∙ through.text ∙ closed last new ends);
+  after = ends.after;
+  readable = through.readable (tt, tt);
+}
 
 -- a bracket that opens an array, and items behind it
 pub array_opened : (old new : JsonText) (js : Items) → IsPut old Token.begin_array new → ended_by new js ≡ old.text ++ (comma old.after_value ++ value_text (array js))
@@ -46,24 +68,24 @@ array_opened old new js put = opened_by old.after_value old.text new.text new.af
     opened_by false t t' a' e f js = rw (e, f) (append_assoc t (91 ∷ []) (items_text false js))
 
 -- one item more
-pub next_item : (old new : JsonText) (j : Json) (js : Items) → IsValue old j new → ended_by old (item j js) ≡ ended_by new js
-next_item old new j js is = rw (is.text, is.after) (simp (append_assoc) refl)
+pub next_item : (old new : JsonText) (j : Json) (js : Items) → IsValue old j new → ItemsLead old (item j js) new js
+next_item old new j js is = record { text = rw (is.text, is.after) (simp (append_assoc) refl); readable = λ r. ((is.readable.0, r.0), (is.readable.1, r.1)) }
 
 -- a string is an item
 pub string_is : (old new : JsonText) (bytes : List ℕ) → IsPut old (Token.string bytes) new → IsValue old (string bytes) new
 string_is old new bytes put = string_by old.after_value old new bytes refl put
   where
     string_by : (a : Bool) (old new : JsonText) (bytes : List ℕ) → old.after_value ≡ a → IsPut old (Token.string bytes) new → IsValue old (string bytes) new
-    string_by true old new bytes e put = record { text = rw e (rw e at put.text); after = put.after }
-    string_by false old new bytes e put = record { text = rw e (rw e at put.text); after = put.after }
+    string_by true old new bytes e put = record { text = rw e (rw e at put.text); after = put.after; readable = (tt, put.writable) }
+    string_by false old new bytes e put = record { text = rw e (rw e at put.text); after = put.after; readable = (tt, put.writable) }
 
 -- so is a number
 pub number_is : (old new : JsonText) (digits : List ℕ) → IsPut old (Token.number digits) new → IsValue old (number digits) new
 number_is old new digits put = number_by old.after_value old new digits refl put
   where
     number_by : (a : Bool) (old new : JsonText) (digits : List ℕ) → old.after_value ≡ a → IsPut old (Token.number digits) new → IsValue old (number digits) new
-    number_by true old new digits e put = record { text = rw e (rw e at put.text); after = put.after }
-    number_by false old new digits e put = record { text = rw e (rw e at put.text); after = put.after }
+    number_by true old new digits e put = record { text = rw e (rw e at put.text); after = put.after; readable = (put.writable, tt) }
+    number_by false old new digits e put = record { text = rw e (rw e at put.text); after = put.after; readable = (put.writable, tt) }
 
 -- the bracket that closes it
 pub array_closed : (old new : JsonText) → IsPut old Token.end_array new → ended_by old no_items ≡ new.text
@@ -74,8 +96,12 @@ array_closed old new put = closed_after old.after_value old.text new.text put.te
     closed_after false t t' e = sym e
 
 -- a whole array
-pub whole_array : (old first last new : JsonText) (js : Items) → IsPut old Token.begin_array first → ended_by first js ≡ ended_by last no_items → IsPut last Token.end_array new → IsValue old (array js) new
-whole_array old first last new js begins through ends = record { text = sym (sym (array_opened old first js begins) ∙ through ∙ array_closed last new ends); after = ends.after }
+pub whole_array : (old first last new : JsonText) (js : Items) → IsPut old Token.begin_array first → ItemsLead first js last no_items → IsPut last Token.end_array new → IsValue old (array js) new
+whole_array old first last new js begins through ends = record {
+  text = sym (sym (array_opened old first js begins) ∙ through.text ∙ array_closed last new ends);
+  after = ends.after;
+  readable = through.readable (tt, tt);
+}
 
 -- a key and a value are a member
 pub keyed : (old between new : JsonText) (name : List ℕ) (j : Json) → IsPut old (Token.key name) between → IsValue between j new → IsMember old name j new
@@ -85,11 +111,11 @@ keyed old between new name j put is = keyed_by old.after_value old between new n
     keyed_by true old between new name j e put is =
         let text = rw e at put.text in
         let after = put.after in
-        record { text = is.text ∙ rw (text, after, e) (simp (append_assoc) refl); after = is.after }
+        record { text = is.text ∙ rw (text, after, e) (simp (append_assoc) refl); after = is.after; named = put.writable; readable = is.readable }
     keyed_by false old between new name j e put is =
         let text = rw e at put.text in
         let after = put.after in
-        record { text = is.text ∙ rw (text, after, e) (simp (append_assoc) refl); after = is.after }
+        record { text = is.text ∙ rw (text, after, e) (simp (append_assoc) refl); after = is.after; named = put.writable; readable = is.readable }
 
 -- the text of a value, as tokens
 mutual
@@ -141,3 +167,7 @@ spelled j = sym (ap (text_from false) (append-nil (json_tokens j))) ∙ spelled_
 -- a whole line
 pub lined : (first last : JsonText) (j : Json) (old between new : List ℕ) → first.text ≡ [] → first.after_value ≡ false → IsValue first j last → between ≡ old ++ last.text → new ≡ between ++ 10 ∷ [] → new ≡ old ++ (json_text j ++ 10 ∷ [])
 lined first last j old between new empty fresh is copied fed = rw (fed, copied, is.text, empty, fresh, spelled j) (append_assoc old (value_text j) (10 ∷ []))
+
+-- what was written of a whole text reads back, if it nests no deeper than the grammar allows
+pub reads_back_from : (first last : JsonText) (j : Json) → IsValue first j last → depth j ≤ max_depth → document (json_text j) ≡ Some (meant j)
+reads_back_from first last j is shallow = reads_back j is.readable.0 is.readable.1 shallow

@@ -1,6 +1,7 @@
 -- what public contracts say
 pub mod Lines
 pub mod Verdicts
+pub mod Plies
 pub mod Outcomes
 pub mod Summaries
 -- what loops and lemmas use

@@ -7,7 +7,7 @@ use Rattle.cha_fen.specs.Written.{fen_text}
 use Rattle.cha_moves.specs.Step.{Move}
 use Rattle.cha_outcome.specs.declared.items.PlayedGame.{PlayedGame}
 use Rattle.cha_outcome.specs.declared.outcomes.Outcome.{Outcome}
-use Rattle.cha_outcome.specs.declared.outcomes.Outcome.TheVariants.{JudgedPosition, JudgedGame, ListedMates, RefusedLine, UnreadableGame}
+use Rattle.cha_outcome.specs.declared.outcomes.Outcome.TheVariants.{JudgedPosition, JudgedGame, ListedMates, RefusedLine, UnreadableGame, Replayed}
 use Rattle.cha_outcome.specs.declared.rulings.Cause.{Cause}
 use Rattle.cha_outcome.specs.declared.rulings.Cause.TheVariants.{Mate511, Stalemate521, Dead522, Flag69, FlagOfMover69, Recorded, RecordedUndecided}
 use Rattle.cha_outcome.specs.declared.rulings.Judgment.{Judgment}
@@ -26,6 +26,7 @@ use Rattle.json.specs.Json.{Json, null, boolean, string, array, object, Items, n
 use Rattle.json_text.specs.Texts.{json_text}
 use Rattle.json_report.specs.declared.extras.Extras.{Extras}
 use Rattle.json_report.specs.Lines.{count, line_members}
+use Rattle.json_report.specs.Plies.{replay_members}
 use Rattle.json_report.specs.Verdicts.{verdict_json}
 
 -- the earliest ply that is shown dead, and the ply before it where nothing was shown about that one
@@ -84,22 +85,33 @@ mates_members q depth NoneWithin = member (codes "plies") null (member (codes "d
 mates_members q depth (Found plies lines more) =
     member (codes "plies") (count plies) (member (codes "lines") (array (line_items q lines)) (member (codes "more") (boolean more) no_members))
 
--- what is said of an outcome under a number
-unfoldable pub outcome_members : Extras → ℕ → Outcome → Members
-outcome_members extras number (JudgedPosition line q d status) =
-    member (codes "position") (count number) (member (codes "line") (count line) (finding_members extras q d status no_members))
-outcome_members extras number (JudgedGame game d scan status judgment) =
-    member (codes "game") (count number) (span_members game.span (finding_members extras game.last d status (result_members game scan judgment)))
-outcome_members extras number (ListedMates line q depth found) =
-    member (codes "position") (count number) (member (codes "line") (count line) (member (codes "fen") (string (fen_text q)) (mates_members q depth found)))
-outcome_members extras number (RefusedLine line fault) =
-    member (codes "position") (count number) (member (codes "line") (count line) (member (codes "refused") (string (fen_fault_text fault)) no_members))
-outcome_members extras number (UnreadableGame span why) =
-    member (codes "game") (count number) (span_members span (member (codes "unreadable") (string (reason_text why)) no_members))
+-- the members that say which item of its text an outcome is of, by its number in the report, before others
+abbrev pub line_place : ℕ → ℕ → Members → Members
+line_place number line more = member (codes "position") (count number) (member (codes "line") (count line) more)
+
+abbrev pub game_place : ℕ → Span → Members → Members
+game_place number span more = member (codes "game") (count number) (span_members span more)
+
+unfoldable pub place_members : ℕ → Outcome → Members → Members
+place_members number (JudgedPosition line q d status) more = line_place number line more
+place_members number (JudgedGame game d scan status judgment) more = game_place number game.span more
+place_members number (ListedMates line q depth found) more = line_place number line more
+place_members number (RefusedLine line fault) more = line_place number line more
+place_members number (UnreadableGame span why) more = game_place number span more
+place_members number (Replayed game) more = game_place number game.span more
+
+-- the members that say what is found
+unfoldable pub found_members : Extras → Outcome → Members
+found_members extras (JudgedPosition line q d status) = finding_members extras q d status no_members
+found_members extras (JudgedGame game d scan status judgment) = finding_members extras game.last d status (result_members game scan judgment)
+found_members extras (ListedMates line q depth found) = member (codes "fen") (string (fen_text q)) (mates_members q depth found)
+found_members extras (RefusedLine line fault) = member (codes "refused") (string (fen_fault_text fault)) no_members
+found_members extras (UnreadableGame span why) = member (codes "unreadable") (string (reason_text why)) no_members
+found_members extras (Replayed game) = replay_members game
 
 -- an outcome under a number
 abbrev pub outcome_json : Extras → ℕ → Outcome → Json
-outcome_json extras number o = object (outcome_members extras number o)
+outcome_json extras number o = object (place_members number o (found_members extras o))
 
 -- the line on an outcome
 abbrev pub outcome_line : Extras → ℕ → Outcome → List ℕ

@@ -21,6 +21,10 @@ positions_json s =
 unfoldable pub mates_json : Totals → Json
 mates_json s = object (member (codes "positions") (count s.items) (member (codes "refused") (count s.refused) (member (codes "found") (count s.found) no_members)))
 
+-- for games whose moves are told: also whether their text is closed
+unfoldable pub plies_json : Totals → Bool → Json
+plies_json s closed = object (member (codes "games") (count s.items) (member (codes "unreadable") (count s.refused) (member (codes "closed") (boolean closed) no_members)))
+
 -- the line that a value is
 abbrev pub json_line : Json → List ℕ
 json_line j = json_text j ++ 10 ∷ []

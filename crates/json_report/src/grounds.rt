@@ -2,7 +2,7 @@
 
 ghost use Rattle.std.specs.Prelude.{◌≡◌, OnOk, length};
 ghost use Rattle.json.specs.Json.{Members};
-ghost use Rattle.json_report.specs.Spelled.{closed_by};
+ghost use Rattle.json_report.specs.Spelled.{Leads};
 ghost use Rattle.json_report.specs.Verdicts.{ground_by, ground_of as ground_from, ground_members};
 
 use crate::members::{put_count, put_text};
@@ -54,7 +54,7 @@ pub fn put_ground(
     nodes: usize,
     json: &mut JsonText,
 ) -> Result<(), NoMemory>
-    ensures { OnOk result ((more : Members) → closed_by json.old (ground_members ground nodes more) ≡ closed_by json.new more) }
+    ensures { OnOk result ((more : Members) → Leads json.old (ground_members ground nodes more) json.new more) }
 {
     match ground {
         Ground::Sets => {

@@ -2,7 +2,7 @@
 //!
 //! `extras` has what lines may have beside what each has, `members` the members of an object whose values are plain, `lines` lines of
 //! moves, `grounds` what a certificate rests on, `verdicts` the verdict on a side, `results` the result of a game, `mates` the
-//! shortest mates, `outcomes` the line on an outcome, and `summaries` the last line.
+//! shortest mates, `plies` the moves of a game, `outcomes` the line on an outcome, and `summaries` the last line.
 #![tactic(auto)]
 
 mod extras;
@@ -11,6 +11,7 @@ mod lines;
 mod mates;
 mod members;
 mod outcomes;
+mod plies;
 mod results;
 mod summaries;
 mod verdicts;
@@ -18,4 +19,4 @@ mod verdicts;
 pub use extras::Extras;
 pub use grounds::Ground;
 pub use outcomes::put_outcome_line;
-pub use summaries::{put_games_line, put_mates_line, put_positions_line};
+pub use summaries::{put_games_line, put_mates_line, put_plies_line, put_positions_line};

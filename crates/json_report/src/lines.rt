@@ -5,7 +5,7 @@ ghost use Rattle.cha_moves.specs.Texts.{move_bytes};
 ghost use Rattle.json.specs.Json.{array, Members};
 ghost use Rattle.json_report.specs.Lines.{texts, words_of, fens_of, line_members};
 ghost use Rattle.cha_outcome.specs.LegalMoves.{AreLegal};
-ghost use Rattle.json_report.specs.Spelled.{IsMember, closed_by};
+ghost use Rattle.json_report.specs.Spelled.{IsMember, Leads};
 
 use cha_board::Position;
 use cha_fen::write;
@@ -80,7 +80,7 @@ pub fn put_line(
     json: &mut JsonText,
 ) -> Result<(), NoMemory>
     requires { AreLegal position.now moves.now }
-    ensures { OnOk result ((more : Members) → closed_by json.old (line_members position.now moves.now more) ≡ closed_by json.new more) }
+    ensures { OnOk result ((more : Members) → Leads json.old (line_members position.now moves.now more) json.new more) }
 {
     put_moves(moves, json)?;
     put_words(alloc, position, moves, json)?;

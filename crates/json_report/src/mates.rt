@@ -5,7 +5,7 @@ ghost use Rattle.json.specs.Json.{Members, no_members, array};
 ghost use Rattle.cha_outcome.specs.LegalMoves.{AreLegal};
 ghost use Rattle.report_words.specs.LegalLines.{AllLegal, HaveLegalLines};
 ghost use Rattle.json_report.specs.Outcomes.{line_json, line_items, mates_members};
-ghost use Rattle.json_report.specs.Spelled.{IsMember, IsValue, closed_by};
+ghost use Rattle.json_report.specs.Spelled.{IsMember, IsValue, Leads};
 
 use crate::lines::put_line;
 use crate::members::{put_count, put_null, put_truth};
@@ -61,7 +61,7 @@ pub fn put_mates(
     json: &mut JsonText,
 ) -> Result<(), NoMemory>
     requires { HaveLegalLines position.now shortest.now }
-    ensures { OnOk result (closed_by json.old (mates_members position.now depth shortest.now) ≡ closed_by json.new no_members) }
+    ensures { OnOk result (Leads json.old (mates_members position.now depth shortest.now) json.new no_members) }
 {
     match shortest {
         Shortest::NoneWithin => {

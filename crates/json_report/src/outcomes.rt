@@ -7,13 +7,14 @@ ghost use Rattle.json.specs.Json.{Members, no_members, member, string};
 ghost use Rattle.report_words.specs.Reasons.{fen_fault_text, reason_text};
 ghost use Rattle.report_words.specs.Words.{status_text};
 ghost use Rattle.json_report.specs.Lines.{count};
-ghost use Rattle.json_report.specs.Outcomes.{span_members, finding_members, outcome_json, outcome_line, outcome_members};
-ghost use Rattle.json_report.specs.Spelled.{IsMember, IsValue, closed_by};
+ghost use Rattle.json_report.specs.Outcomes.{span_members, finding_members, found_members, outcome_json, outcome_line, place_members};
+ghost use Rattle.json_report.specs.Spelled.{IsMember, IsValue, Leads, ReadsAs};
 ghost use Rattle.report_words.specs.LegalLines.{AreOfLegalMoves, HasLegalLines};
 
 use crate::extras::Extras;
 use crate::mates::put_mates;
 use crate::members::{put_count, put_text};
+use crate::plies::put_replay;
 use crate::results::put_results;
 use crate::verdicts::put_verdict;
 use cha_board::{Color, Position};
@@ -54,7 +55,7 @@ fn put_findings(
 ) -> Result<(), NoMemory>
     requires printable { ArePrintable decision.now }
     requires legal { AreOfLegalMoves position.now decision.now }
-    ensures { OnOk result ((more : Members) → closed_by json.old (finding_members extras position.now decision.now status more) ≡ closed_by json.new more) }
+    ensures { OnOk result ((more : Members) → Leads json.old (finding_members extras position.now decision.now status more) json.new more) }
 {
     put_fen(alloc, position, json)?;
     put_verdict(
@@ -81,7 +82,7 @@ fn put_findings(
 
 /// Writes the members that say where a game stands in its text.
 fn put_span(alloc: Global, span: Span, json: &mut JsonText) -> Result<(), NoMemory>
-    ensures { OnOk result ((more : Members) → closed_by json.old (span_members span more) ≡ closed_by json.new more) }
+    ensures { OnOk result ((more : Members) → Leads json.old (span_members span more) json.new more) }
 {
     json.key(b"bytes")?;
     json.begin_array()?;
@@ -112,7 +113,7 @@ fn put_unreadable(alloc: Global, why: &Unreadable, json: &mut JsonText) -> Resul
 
 /// Writes the members that say which line of the input a position is, by its number in the report.
 fn put_place(alloc: Global, number: u64, line: u64, json: &mut JsonText) -> Result<(), NoMemory>
-    ensures { OnOk result ((more : Members) → closed_by json.old (member (codes "position") (count number) (member (codes "line") (count line) more)) ≡ closed_by json.new more) }
+    ensures { OnOk result ((more : Members) → Leads json.old (member (codes "position") (count number) (member (codes "line") (count line) more)) json.new more) }
 {
     put_count(alloc, b"position", number, json)?;
     put_count(alloc, b"line", line, json)?;
@@ -121,36 +122,51 @@ fn put_place(alloc: Global, number: u64, line: u64, json: &mut JsonText) -> Resu
 
 /// Writes the members that say which game it is, by its number in the report.
 fn put_game(alloc: Global, number: u64, span: Span, json: &mut JsonText) -> Result<(), NoMemory>
-    ensures { OnOk result ((more : Members) → closed_by json.old (member (codes "game") (count number) (span_members span more)) ≡ closed_by json.new more) }
+    ensures { OnOk result ((more : Members) → Leads json.old (member (codes "game") (count number) (span_members span more)) json.new more) }
 {
     put_count(alloc, b"game", number, json)?;
     put_span(alloc, span, json)?;
     Ok(())
 }
 
-/// Writes what is said of an outcome under its number.
-fn put_said(
+/// Writes the members that say which item of its text an outcome is of, by its number in the report.
+#[tactic(auto, unfolding(crate::specs::Outcomes::place_members))]
+fn put_which(
+    alloc: Global,
+    number: u64,
+    outcome: &Outcome,
+    json: &mut JsonText,
+) -> Result<(), NoMemory>
+    ensures { OnOk result ((more : Members) → Leads json.old (place_members number outcome.now more) json.new more) }
+{
+    match outcome {
+        Outcome::JudgedPosition { line, .. } => put_place(alloc, number, *line, json),
+        Outcome::ListedMates { line, .. } => put_place(alloc, number, *line, json),
+        Outcome::RefusedLine { line, .. } => put_place(alloc, number, *line, json),
+        Outcome::JudgedGame { game, .. } => put_game(alloc, number, game.span, json),
+        Outcome::UnreadableGame { span, .. } => put_game(alloc, number, *span, json),
+        Outcome::Replayed(game) => put_game(alloc, number, game.span, json),
+    }
+}
+
+/// Writes the members that say what is found.
+fn put_found(
     alloc: Global,
     extras: Extras,
-    number: u64,
     outcome: &Outcome,
     json: &mut JsonText,
 ) -> Result<(), NoMemory>
     requires printable { IsPrintableOutcome outcome.now }
     requires legal { HasLegalLines outcome.now }
-    ensures { OnOk result (closed_by json.old (outcome_members extras number outcome.now) ≡ closed_by json.new no_members) }
+    ensures { OnOk result (Leads json.old (found_members extras outcome.now) json.new no_members) }
 {
     match outcome {
         Outcome::JudgedPosition {
-            line,
             position,
             decision,
             status,
-        } => {
-            put_place(alloc, number, *line, json)?;
-            put_findings(alloc, extras, position, decision, *status, json)?;
-            Ok(())
-        }
+            ..
+        } => put_findings(alloc, extras, position, decision, *status, json),
         Outcome::JudgedGame {
             game,
             decision,
@@ -158,32 +174,21 @@ fn put_said(
             status,
             judgment,
         } => {
-            put_game(alloc, number, game.span, json)?;
             put_findings(alloc, extras, &game.last, decision, *status, json)?;
-            put_results(alloc, game, scan, *judgment, json)?;
-            Ok(())
+            put_results(alloc, game, scan, *judgment, json)
         }
         Outcome::ListedMates {
-            line,
             position,
             depth,
             shortest,
+            ..
         } => {
-            put_place(alloc, number, *line, json)?;
             put_fen(alloc, position, json)?;
-            put_mates(alloc, position, *depth, shortest, json)?;
-            Ok(())
+            put_mates(alloc, position, *depth, shortest, json)
         }
-        Outcome::RefusedLine { line, fault } => {
-            put_place(alloc, number, *line, json)?;
-            put_refused(alloc, *fault, json)?;
-            Ok(())
-        }
-        Outcome::UnreadableGame { span, why } => {
-            put_game(alloc, number, *span, json)?;
-            put_unreadable(alloc, why, json)?;
-            Ok(())
-        }
+        Outcome::RefusedLine { fault, .. } => put_refused(alloc, *fault, json),
+        Outcome::UnreadableGame { why, .. } => put_unreadable(alloc, why, json),
+        Outcome::Replayed(game) => put_replay(alloc, game, json),
     }
 }
 
@@ -200,7 +205,8 @@ fn put_outcome(
     ensures { OnOk result (IsValue json.old (outcome_json extras number outcome.now) json.new) }
 {
     json.begin_object()?;
-    put_said(alloc, extras, number, outcome, json)?;
+    put_which(alloc, number, outcome, json)?;
+    put_found(alloc, extras, outcome, json)?;
     json.end_object()?;
     Ok(())
 }
@@ -210,11 +216,13 @@ fn put_outcome(
 /// ```text
 /// {"position":2,"line":4,"refused":"kings"}
 /// {"game":2,"bytes":[98,140],"line":7,"unreadable":"move 3 Nf6: no such move"}
+/// {"game":1,"bytes":[0,9],"line":1,"start":F,"plies":[{"ply":1,"move":"e2e4","san":"e4","fen":F}],"unreadable":null}
 /// ```
 ///
 /// The verdict on a side is an object with the key `verdict`, and behind it what was found: `winnable` with `plies`, `moves`, `san`
 /// and, by `extras`, `fens`; `unwinnable` with `by` (`sets`, `material`, `lone pieces` or `graph`), for a graph `nodes` and, by
-/// `extras`, `certificate`; `undecided` with `positions` and `depth`; or `skipped`. The only error is want of memory.
+/// `extras`, `certificate`; `undecided` with `positions` and `depth`; or `skipped`. What is written reads back as the value that is meant. The only error is
+/// want of memory.
 pub fn put_outcome_line(
     alloc: Global,
     extras: Extras,
@@ -224,7 +232,8 @@ pub fn put_outcome_line(
 ) -> Result<(), NoMemory>
     requires printable { IsPrintableOutcome outcome.now }
     requires legal { HasLegalLines outcome.now }
-    ensures { OnOk result (text.new ≡ text.old ++ outcome_line extras number outcome.now) }
+    ensures text { OnOk result (text.new ≡ text.old ++ outcome_line extras number outcome.now) }
+    ensures reads_back { OnOk result (ReadsAs (outcome_json extras number outcome.now)) }
 {
     let mut json = JsonText::new(alloc);
     put_outcome(alloc, extras, number, outcome, &mut json)?;

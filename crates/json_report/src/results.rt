@@ -4,7 +4,7 @@ ghost use Rattle.std.specs.Prelude.{◌≡◌, OnOk, codes};
 ghost use Rattle.json.specs.Json.{Members, no_members, string};
 ghost use Rattle.report_words.specs.Words.{mark_text};
 ghost use Rattle.json_report.specs.Outcomes.{article_json, edge_members, flag_json, result_members, scan_json};
-ghost use Rattle.json_report.specs.Spelled.{IsMember, closed_by};
+ghost use Rattle.json_report.specs.Spelled.{IsMember, Leads};
 
 use crate::members::{put_count, put_null, put_text, put_truth};
 use cha_board::Color;
@@ -17,8 +17,9 @@ use report_words::put_mark;
 use std::alloc::Global;
 
 /// Writes the member with the ply before the dead ones, where nothing was shown about it.
+#[tactic(auto, using(crate::proofs::Stepping::stays))]
 fn put_edge(alloc: Global, edge: Edge, ply: u32, json: &mut JsonText) -> Result<(), NoMemory>
-    ensures { OnOk result (closed_by json.old (edge_members edge ply) ≡ closed_by json.new no_members) }
+    ensures { OnOk result (Leads json.old (edge_members edge ply) json.new no_members) }
 {
     match edge {
         Edge::Start => Ok(()),
@@ -96,7 +97,7 @@ pub fn put_results(
     judgment: Judgment,
     json: &mut JsonText,
 ) -> Result<(), NoMemory>
-    ensures { OnOk result (closed_by json.old (result_members game.now scan.now judgment) ≡ closed_by json.new no_members) }
+    ensures { OnOk result (Leads json.old (result_members game.now scan.now judgment) json.new no_members) }
 {
     put_scan(alloc, scan, json)?;
     put_result(alloc, b"recorded", game.recorded, json)?;

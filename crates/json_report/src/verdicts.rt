@@ -8,7 +8,7 @@ ghost use Rattle.cha_verdict.specs.declared.verdicts.Verdict.TheVariants.{Winnab
 ghost use Rattle.json.specs.Json.{no_members, string};
 ghost use Rattle.cha_outcome.specs.LegalMoves.{AreLegal};
 ghost use Rattle.report_words.specs.LegalLines.{IsOfLegalMoves};
-ghost use Rattle.json_report.specs.Spelled.{IsMember, closed_by};
+ghost use Rattle.json_report.specs.Spelled.{IsMember, Leads};
 ghost use Rattle.json_report.specs.Verdicts.{cert_members, fen_members, verdict_json, verdict_members};
 
 use crate::extras::Extras;
@@ -25,6 +25,7 @@ use json_text::JsonText;
 use std::alloc::Global;
 
 /// Writes the positions after the moves of a line, where these are printed.
+#[tactic(auto, using(crate::proofs::Stepping::stays))]
 fn put_fens_if(
     alloc: Global,
     fens: bool,
@@ -33,7 +34,7 @@ fn put_fens_if(
     json: &mut JsonText,
 ) -> Result<(), NoMemory>
     requires { AreLegal position.now moves.now }
-    ensures { OnOk result (closed_by json.old (fen_members fens position.now moves.now) ≡ closed_by json.new no_members) }
+    ensures { OnOk result (Leads json.old (fen_members fens position.now moves.now) json.new no_members) }
 {
     if fens {
         put_fens(alloc, position, moves, json)?;
@@ -52,7 +53,7 @@ fn put_winnable(
     json: &mut JsonText,
 ) -> Result<(), NoMemory>
     requires { AreLegal position.now moves.now }
-    ensures { OnOk result (closed_by json.old (verdict_members extras position.now winner (Winnable moves.now)) ≡ closed_by json.new no_members) }
+    ensures { OnOk result (Leads json.old (verdict_members extras position.now winner (Winnable moves.now)) json.new no_members) }
 {
     let _winner = winner;
     put_text(b"verdict", b"winnable", json)?;
@@ -73,6 +74,7 @@ fn put_cert(alloc: Global, winner: Color, cert: &Cert, json: &mut JsonText) -> R
 }
 
 /// Writes a certificate, where certificates are printed.
+#[tactic(auto, using(crate::proofs::Stepping::stays))]
 fn put_cert_if(
     alloc: Global,
     certs: bool,
@@ -81,7 +83,7 @@ fn put_cert_if(
     json: &mut JsonText,
 ) -> Result<(), NoMemory>
     requires { IsPrintable (Unwinnable cert.now) }
-    ensures { OnOk result (closed_by json.old (cert_members certs winner cert.now) ≡ closed_by json.new no_members) }
+    ensures { OnOk result (Leads json.old (cert_members certs winner cert.now) json.new no_members) }
 {
     if certs {
         put_cert(alloc, winner, cert, json)?;
@@ -100,7 +102,7 @@ fn put_unwinnable(
     json: &mut JsonText,
 ) -> Result<(), NoMemory>
     requires { IsPrintable (Unwinnable cert.now) }
-    ensures { OnOk result (closed_by json.old (verdict_members extras position.now winner (Unwinnable cert.now)) ≡ closed_by json.new no_members) }
+    ensures { OnOk result (Leads json.old (verdict_members extras position.now winner (Unwinnable cert.now)) json.new no_members) }
 {
     let _position = position;
     put_text(b"verdict", b"unwinnable", json)?;
@@ -120,7 +122,7 @@ fn put_undecided(
     depth: u8,
     json: &mut JsonText,
 ) -> Result<(), NoMemory>
-    ensures { OnOk result (closed_by json.old (verdict_members extras position.now winner (Undecided units depth)) ≡ closed_by json.new no_members) }
+    ensures { OnOk result (Leads json.old (verdict_members extras position.now winner (Undecided units depth)) json.new no_members) }
 {
     let _position = position;
     let _asked = (extras, winner);
@@ -141,7 +143,7 @@ fn put_found(
 ) -> Result<(), NoMemory>
     requires printable { IsPrintable verdict.now }
     requires legal { IsOfLegalMoves position.now verdict.now }
-    ensures { OnOk result (closed_by json.old (verdict_members extras position.now winner verdict.now) ≡ closed_by json.new no_members) }
+    ensures { OnOk result (Leads json.old (verdict_members extras position.now winner verdict.now) json.new no_members) }
 {
     match verdict {
         Verdict::Winnable(moves) => {

@@ -6,9 +6,9 @@ use Rattle.json.specs.Lex.{token, comma, colon, string_token, lex, between}
 use Rattle.json.specs.Print as plainly
 use Rattle.json.proofs.Printed.Strings.{content-escape, lex-escape}
 use Rattle.json.proofs.Printed.Numbers.{lex-number, in_word-ended}
-use Rattle.json_text.specs.Escapes.{escaped, quoted}
-use Rattle.json_text.specs.Texts.{token_text, text_from}
-use Rattle.json_text.specs.Meant.{in_utf8, AreBytes}
+use Rattle.json_text.specs.Escapes.{escaped, quoted, AreBytes}
+use Rattle.json_text.specs.Texts.{token_text, text_from, IsWritable}
+use Rattle.json_text.specs.Meant.{in_utf8}
 use Rattle.json_text.proofs.Passing.{content-escaped, lex-escaped}
 
 -- a token with the characters of its bytes
@@ -24,19 +24,7 @@ token_meant (boolean b) = boolean b
 token_meant null = null
 token_meant bad = bad
 
--- what can be written: numbers that are numbers, strings of bytes
-abbrev pub IsWritable : Token → Type 0
-IsWritable (key name) = AreBytes name
-IsWritable (string bytes) = AreBytes bytes
-IsWritable begin_object = Unit {0}
-IsWritable end_object = Unit {0}
-IsWritable begin_array = Unit {0}
-IsWritable end_array = Unit {0}
-IsWritable (number digits) = plainly.IsNumber digits
-IsWritable (boolean b) = Unit {0}
-IsWritable null = Unit {0}
-IsWritable bad = ⊥
-
+-- tokens that can be read back
 abbrev pub AreWritable : List Token → Type 0
 AreWritable [] = Unit {0}
 AreWritable (t ∷ ts) = IsWritable t × AreWritable ts

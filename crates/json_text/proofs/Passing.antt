@@ -6,8 +6,8 @@ use Rattle.std.specs.Char.{digit_char, encode_utf8}
 use Rattle.json.specs.Text.{content, plain, prepend, code_unit}
 use Rattle.json.specs.Word.{is_operator, is_space}
 use Rattle.json.specs.Lex.{Lexeme, Mode, lex, lex_byte, between, in_string, operator, space, other}
-use Rattle.json_text.specs.Escapes.{is_plain, escaped_byte, escaped}
-use Rattle.json_text.specs.Meant.{in_utf8, AreBytes}
+use Rattle.json_text.specs.Escapes.{is_plain, escaped_byte, escaped, AreBytes}
+use Rattle.json_text.specs.Meant.{in_utf8}
 
 -- readers of a string take the escape of a byte for the character of its number, and stay in the string
 pub record Passes (x : ℕ) : Type 0 where

@@ -1,5 +1,5 @@
 -- How bytes stand in a string of JSON (RFC 8259, section 7).
-use Rattle.std.specs.Prelude.{ℕ, ◌/◌, ◌%◌, Bool, not, ◌&&◌, ◌==◌, nat_lt, nat_le, if◌then◌else◌, List, [], ◌∷◌, ◌++◌, flat_map}
+use Rattle.std.specs.Prelude.{ℕ, ◌<◌, ◌/◌, ◌%◌, Bool, not, ◌&&◌, ◌==◌, nat_lt, nat_le, if◌then◌else◌, List, [], ◌∷◌, ◌++◌, flat_map, ⊤}
 use Rattle.std.specs.Char.{digit_char}
 
 -- a byte that stands for itself: 0x20 to 0x7E, but for the quotation mark and the reverse solidus
@@ -16,3 +16,8 @@ escaped bytes = flat_map escaped_byte bytes
 -- a string, between its quotation marks
 abbrev pub quoted : List ℕ → List ℕ
 quoted bytes = 34 ∷ (escaped bytes ++ 34 ∷ [])
+
+-- a list of bytes
+abbrev pub AreBytes : List ℕ → Type 0
+AreBytes [] = ⊤
+AreBytes (b ∷ bytes) = (b < 256) × AreBytes bytes

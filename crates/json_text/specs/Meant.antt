@@ -1,8 +1,9 @@
 -- The value that a text means: each byte of a string is the character of its number (ISO 8859-1), and readers have it in UTF-8.
-use Rattle.std.specs.Prelude.{◌≡◌, ℕ, ◌<◌, ◌≤◌, List, [], ◌∷◌, flat_map, ⊤, Some}
+use Rattle.std.specs.Prelude.{◌≡◌, ℕ, ◌≤◌, List, flat_map, ⊤, Some}
 use Rattle.std.specs.Char.{encode_utf8}
 use Rattle.json.specs.Json.{Json, null, boolean, number, string, array, object, Items, no_items, item, Members, no_members, member, max_depth, document}
 use Rattle.json.specs.Tree.{HasNumbers, depth}
+use Rattle.json_text.specs.Escapes.{AreBytes}
 use Rattle.json_text.specs.Texts.{json_text}
 
 -- bytes as characters, in UTF-8
@@ -26,11 +27,6 @@ abbrev mutual
   pub members_meant : Members → Members
   members_meant no_members = no_members
   members_meant (member name j ms) = member (in_utf8 name) (meant j) (members_meant ms)
-
--- a list of bytes
-abbrev pub AreBytes : List ℕ → Type 0
-AreBytes [] = ⊤
-AreBytes (b ∷ bytes) = (b < 256) × AreBytes bytes
 
 -- the strings and keys of a value are bytes
 abbrev mutual

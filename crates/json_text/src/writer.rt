@@ -3,7 +3,7 @@
 ghost use Rattle.std.specs.Prelude.{◌≡◌, ◌<◌, ◌++◌, [], ◌∷◌, false, if◌then◌else◌, OnOk, decimal};
 ghost use Rattle.std.specs.Char.{digit_char};
 ghost use Rattle.json.specs.Token.{begin_object, end_object, begin_array, end_array, key as key_token, string as string_token, number as number_token, boolean as boolean_token, null as null_token};
-ghost use Rattle.json_text.specs.Escapes.{is_plain, escaped, escaped_byte, quoted};
+ghost use Rattle.json_text.specs.Escapes.{AreBytes, is_plain, escaped, escaped_byte, quoted};
 ghost use Rattle.json_text.specs.Texts.{IsPut};
 
 use cha_list::{NoMemory, Text};
@@ -59,7 +59,8 @@ fn put_byte(byte: u8, text: &mut Text) -> Result<(), NoMemory>
 
 /// Appends bytes as they stand in a string.
 fn put_bytes(bytes: &[u8], text: &mut Text) -> Result<(), NoMemory>
-    ensures { OnOk result (text.new ≡ text.old ++ escaped bytes.now) }
+    ensures text { OnOk result (text.new ≡ text.old ++ escaped bytes.now) }
+    ensures bytes { OnOk result (AreBytes bytes.now) }
 {
     for byte in bytes {
         put_byte(*byte, text)?;
@@ -69,7 +70,8 @@ fn put_bytes(bytes: &[u8], text: &mut Text) -> Result<(), NoMemory>
 
 /// Appends a string between its quotation marks.
 fn put_quoted(bytes: &[u8], text: &mut Text) -> Result<(), NoMemory>
-    ensures { OnOk result (text.new ≡ text.old ++ quoted bytes.now) }
+    ensures text { OnOk result (text.new ≡ text.old ++ quoted bytes.now) }
+    ensures bytes { OnOk result (AreBytes bytes.now) }
 {
     text.append(b"\"")?;
     put_bytes(bytes, text)?;
@@ -158,7 +160,8 @@ impl JsonText {
     {
         self.separate()?;
         self.after_value = true;
-        self.text.append_decimal(alloc, number)
+        self.text.append_decimal(alloc, number)?;
+        Ok(())
     }
 
     /// Writes `true` or `false`.

@@ -1,5 +1,5 @@
-use Rattle.cha_words.proofs.Ending.{whole, games_made, positions_made, check_made, games_generated, mates_made, not_made}
-use Rattle.cha_words.proofs.orders.made.Goals.{in_default-via-in-Adjudicate+in_default, in_default-via-in-Position+in_default, in_default-via-in-Check+in_default, in_default-via-in-Gen+in_default, in_default-via-in-Mates+in_default}
+use Rattle.cha_words.proofs.Ending.{whole, games_made, positions_made, check_made, games_generated, mates_made, replays_made, not_made}
+use Rattle.cha_words.proofs.orders.made.Goals.{in_default-via-in-Adjudicate+in_default, in_default-via-in-Position+in_default, in_default-via-in-Check+in_default, in_default-via-in-Gen+in_default, in_default-via-in-Mates+in_default, in_default-via-in-Replay+in_default}
 use Rattle.cha_words.proofs.orders.made.Goals as goal
 
 pub returns-in-Adjudicate-Nothing : goal.returns-in-Adjudicate-Nothing
@@ -27,13 +27,19 @@ returns-in-Mates-Sided c =
     let n = whole c.args.command c.args.given in
     mates_made c.args.command c.args.given n.0 n.1 c.in-Mates-Sided.side c.chosen.result c.chosen-in-Mates-Sided.result c.printed-in-Mates-Sided.result c.in-Mates-Sided.is-0 c.in-Mates-Sided.is-1 c.chosen.ensures.value c.chosen-in-Mates-Sided.ensures.value c.printed-in-Mates-Sided.ensures
 
+pub returns-in-Replay-Nothing : goal.returns-in-Replay-Nothing
+returns-in-Replay-Nothing c =
+    let n = whole c.args.command c.args.given in
+    replays_made c.args.command c.args.given n.0 n.1 c.printed-in-Replay-Nothing.result c.in-Replay-Nothing.is-0 c.in-Replay-Nothing.is-1 c.printed-in-Replay-Nothing.ensures
+
 pub returns-in_default : goal.returns-in_default
 returns-in_default c =
     let n = whole c.args.command c.args.given in
     elim c.in_default.branch [
-      | in_default-via-in-Adjudicate+in_default w ↦ let is = w.in_default.is-0 in not_made c.args.command c.args.given n.0 n.1 (λ e s. w.in_default.not-Nothing-1 s) (λ e s. cc) (λ e s. cc) (λ a b e s. cc) (λ a e s. cc)
-      | in_default-via-in-Position+in_default w ↦ let is = w.in_default.is-0 in not_made c.args.command c.args.given n.0 n.1 (λ e s. cc) (λ e s. w.in_default.not-Nothing-1 s) (λ e s. cc) (λ a b e s. cc) (λ a e s. cc)
-      | in_default-via-in-Check+in_default w ↦ let is = w.in_default.is-0 in not_made c.args.command c.args.given n.0 n.1 (λ e s. cc) (λ e s. cc) (λ e s. w.in_default.not-Nothing-1 s) (λ a b e s. cc) (λ a e s. cc)
-      | in_default-via-in-Gen+in_default w ↦ let is = w.in_default.is-0 in not_made c.args.command c.args.given n.0 n.1 (λ e s. cc) (λ e s. cc) (λ e s. cc) (λ a b e s. w.in_default.not-Games-1 a b s) (λ a e s. cc)
-      | in_default-via-in-Mates+in_default w ↦ let is = w.in_default.is-0 in not_made c.args.command c.args.given n.0 n.1 (λ e s. cc) (λ e s. cc) (λ e s. cc) (λ a b e s. cc) (λ a e s. w.in_default.not-Sided-1 a s)
+      | in_default-via-in-Adjudicate+in_default w ↦ let is = w.in_default.is-0 in not_made c.args.command c.args.given n.0 n.1 (λ e s. w.in_default.not-Nothing-1 s) (λ e s. cc) (λ e s. cc) (λ a b e s. cc) (λ a e s. cc) (λ e s. cc)
+      | in_default-via-in-Position+in_default w ↦ let is = w.in_default.is-0 in not_made c.args.command c.args.given n.0 n.1 (λ e s. cc) (λ e s. w.in_default.not-Nothing-1 s) (λ e s. cc) (λ a b e s. cc) (λ a e s. cc) (λ e s. cc)
+      | in_default-via-in-Check+in_default w ↦ let is = w.in_default.is-0 in not_made c.args.command c.args.given n.0 n.1 (λ e s. cc) (λ e s. cc) (λ e s. w.in_default.not-Nothing-1 s) (λ a b e s. cc) (λ a e s. cc) (λ e s. cc)
+      | in_default-via-in-Gen+in_default w ↦ let is = w.in_default.is-0 in not_made c.args.command c.args.given n.0 n.1 (λ e s. cc) (λ e s. cc) (λ e s. cc) (λ a b e s. w.in_default.not-Games-1 a b s) (λ a e s. cc) (λ e s. cc)
+      | in_default-via-in-Mates+in_default w ↦ let is = w.in_default.is-0 in not_made c.args.command c.args.given n.0 n.1 (λ e s. cc) (λ e s. cc) (λ e s. cc) (λ a b e s. cc) (λ a e s. w.in_default.not-Sided-1 a s) (λ e s. cc)
+      | in_default-via-in-Replay+in_default w ↦ let is = w.in_default.is-0 in not_made c.args.command c.args.given n.0 n.1 (λ e s. cc) (λ e s. cc) (λ e s. cc) (λ a b e s. cc) (λ a e s. cc) (λ e s. w.in_default.not-Nothing-1 s)
     ]

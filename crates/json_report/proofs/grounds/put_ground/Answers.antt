@@ -1,6 +1,5 @@
-use Rattle.std.proofs.Common.{◌∙◌}
 use Rattle.json_report.specs.Verdicts.{ground_members}
-use Rattle.json_report.proofs.Stepping.{next}
+use Rattle.json_report.proofs.Stepping.{◌then◌, next}
 use Rattle.json_report.proofs.grounds.put_ground.Goals as goal
 
 pub returns-in_ok-put_text-in-Sets : goal.returns-in_ok-put_text-in-Sets
@@ -17,4 +16,4 @@ returns-in_ok-put_text-in-LonePieces c = λ more. rw c.in-LonePieces.is (next _ 
 
 pub returns-in_ok-put_count-in-Graph : goal.returns-in_ok-put_count-in-Graph
 unfolding ground_members
-returns-in_ok-put_count-in-Graph c = λ more. rw c.in-Graph.is (next _ _ _ _ _ c.in_ok-put_text-in-Graph.ensures ∙ next _ _ _ _ _ c.in_ok-put_count-in-Graph.ensures)
+returns-in_ok-put_count-in-Graph c = λ more. rw c.in-Graph.is (next _ _ _ _ _ c.in_ok-put_text-in-Graph.ensures then next _ _ _ _ _ c.in_ok-put_count-in-Graph.ensures)

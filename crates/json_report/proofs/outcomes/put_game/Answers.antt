@@ -1,6 +1,5 @@
-use Rattle.std.proofs.Common.{◌∙◌}
-use Rattle.json_report.proofs.Stepping.{next}
+use Rattle.json_report.proofs.Stepping.{◌then◌, next}
 use Rattle.json_report.proofs.outcomes.put_game.Goals as goal
 
 pub returns : goal.returns
-returns c = λ more. next _ _ _ _ _ c.in_ok-put_count.ensures ∙ c.in_ok-put_span.ensures more
+returns c = λ more. next _ _ _ _ _ c.in_ok-put_count.ensures then c.in_ok-put_span.ensures more

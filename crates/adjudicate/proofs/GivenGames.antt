@@ -18,7 +18,7 @@ use Rattle.pgn_games.specs.declared.token_turns.Turn.{Turn}
 use Rattle.pgn_games.specs.declared.token_turns.Turn.TheVariants.{Stays, Ends, Begins}
 use Rattle.pgn_games.specs.Cutting.{cut, turn, place_after, onto, put}
 use Rattle.pgn_games.specs.Fields.{move_words, first_bad, is_cut, passes, says_chess, tag_value}
-use Rattle.cha_outcome.specs.Items.{game_item}
+use Rattle.cha_outcome.specs.declared.items.Item.{Item}
 use Rattle.pgn_games.specs.Games.{placed_games, placed_game_of, game_of, fault_of, fault_if, is_open, start_fault}
 
 -- a game without a fault has few words
@@ -106,11 +106,11 @@ given_few bytes n placed e = omega (arith, there (placed_games bytes) n placed e
     there (g ∷ gs) (suc n) placed e = omega (arith, there gs n placed e)
 
 -- the item of the game at a place
-pub item_at : (gs : List PlacedGame) (n : ℕ) (placed : PlacedGame) → slice_get gs n ≡ Some placed → slice_get (map game_item gs) n ≡ Some (game_item placed)
-item_at [] n placed e = cc
-item_at (g ∷ gs) zero placed e = let same : g ≡ placed = cc in ap (λ x. Some (game_item x)) same
-item_at (g ∷ gs) (suc n) placed e = item_at gs n placed e
+pub item_at : (item : PlacedGame → Item) (gs : List PlacedGame) (n : ℕ) (placed : PlacedGame) → slice_get gs n ≡ Some placed → slice_get (map item gs) n ≡ Some (item placed)
+item_at item [] n placed e = cc
+item_at item (g ∷ gs) zero placed e = let same : g ≡ placed = cc in ap (λ x. Some (item x)) same
+item_at item (g ∷ gs) (suc n) placed e = item_at item gs n placed e
 
 -- the first items are those of the first games
-pub items_first : (n : ℕ) (now before : List ℕ) → take n (placed_games now) ≡ take n (placed_games before) → take n (map game_item (placed_games now)) ≡ take n (map game_item (placed_games before))
-items_first n now before same = take-map game_item n (placed_games now) ∙ ap (map game_item) same ∙ sym (take-map game_item n (placed_games before))
+pub items_first : (item : PlacedGame → Item) (n : ℕ) (now before : List ℕ) → take n (placed_games now) ≡ take n (placed_games before) → take n (map item (placed_games now)) ≡ take n (map item (placed_games before))
+items_first item n now before same = take-map item n (placed_games now) ∙ ap (map item) same ∙ sym (take-map item n (placed_games before))

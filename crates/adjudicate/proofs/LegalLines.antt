@@ -17,10 +17,10 @@ use Rattle.helpmate_list.specs.declared.answers.Shortest.{Shortest}
 use Rattle.helpmate_list.specs.Shortest.{found_or, shortest_from, shortest}
 use Rattle.cha_outcome.specs.declared.questions.FlaggedDraws.{FlaggedDraws}
 use Rattle.cha_outcome.specs.declared.questions.Question.{Question}
-use Rattle.cha_outcome.specs.declared.questions.Question.TheVariants.{Verdicts, Mates}
+use Rattle.cha_outcome.specs.declared.questions.Question.TheVariants.{Verdicts, Mates, Plies}
 use Rattle.cha_outcome.specs.declared.outcomes.Outcome.{Outcome}
-use Rattle.cha_outcome.specs.declared.outcomes.Outcome.TheVariants.{JudgedPosition, JudgedGame, ListedMates, RefusedLine, UnreadableGame}
-use Rattle.cha_outcome.specs.Outcomes.{HasSoundVerdicts, HasShortestMates, IsSoundOutcome}
+use Rattle.cha_outcome.specs.declared.outcomes.Outcome.TheVariants.{JudgedPosition, JudgedGame, ListedMates, RefusedLine, UnreadableGame, Replayed}
+use Rattle.cha_outcome.specs.Outcomes.{HasSoundVerdicts, HasShortestMates, TellsMoves, IsSoundOutcome}
 use Rattle.cha_outcome.specs.LegalMoves.{AreLegal}
 use Rattle.report_words.specs.LegalLines.{AllLegal, IsOfLegalMoves, HaveLegalLines, HasLegalLines}
 
@@ -66,6 +66,7 @@ verdicts_legal limits draws (JudgedGame game d scan status judgment) h = (true_i
 verdicts_legal limits draws (ListedMates line q depth found) h = absurd h
 verdicts_legal limits draws (RefusedLine line fault) h = tt
 verdicts_legal limits draws (UnreadableGame span why) h = tt
+verdicts_legal limits draws (Replayed game) h = absurd h
 
 mates_legal : (side : Color) (depth : ℕ) (o : Outcome) → HasShortestMates side depth o → HasLegalLines o
 unfolding HasShortestMates shortest
@@ -74,7 +75,18 @@ mates_legal side depth (JudgedGame game d scan status judgment) h = absurd h
 mates_legal side depth (ListedMates line q within found) h = subst (HaveLegalLines q) (sym h.1) (shortest_legal (depth + 1) 0 q side)
 mates_legal side depth (RefusedLine line fault) h = tt
 mates_legal side depth (UnreadableGame span why) h = tt
+mates_legal side depth (Replayed game) h = absurd h
+
+told_legal : (o : Outcome) → TellsMoves o → HasLegalLines o
+unfolding TellsMoves
+told_legal (JudgedPosition line q d status) h = absurd h
+told_legal (JudgedGame game d scan status judgment) h = absurd h
+told_legal (ListedMates line q depth found) h = absurd h
+told_legal (RefusedLine line fault) h = absurd h
+told_legal (UnreadableGame span why) h = absurd h
+told_legal (Replayed game) h = h
 
 pub sound_is_legal : (question : Question) (o : Outcome) → IsSoundOutcome question o → HasLegalLines o
 sound_is_legal (Verdicts limits draws) o h = verdicts_legal limits draws o h
 sound_is_legal (Mates side depth) o h = mates_legal side depth o h
+sound_is_legal Plies o h = told_legal o h

@@ -23,7 +23,7 @@ use Rattle.adjudicate.specs.Statuses.{status_of_end}
 use Rattle.adjudicate.specs.Jobs.{Job}
 use Rattle.adjudicate.specs.Report.{Demand, demand_by, HasBlocks}
 use Rattle.adjudicate.specs.Runs.{Grew, outside, IsRunOf}
-use Rattle.adjudicate.specs.Readers.{items_by, settled_by, closed_by, IsAskedOf, job_on}
+use Rattle.adjudicate.specs.Readers.{ItemKind, items_by, settled_by, closed_by, IsAskedOf, job_on}
 use Rattle.adjudicate.proofs.RunEndings.{short_run, long_run}
 use Rattle.adjudicate.proofs.Progress.{WroteUpTo, nothing_written, one_more, cut_block, whole_blocks, finished, cut_summary, room}
 
@@ -71,22 +71,22 @@ pub room_at : (j : Job) (old now : Option (List ℕ)) (taken : List ℕ) (given 
 room_at j old now taken given s at few = room j (j.items taken) (drop given (j.items taken)) old now s at.written (omega (arith, at.number, few))
 
 -- what is said of items of one kind, where the kinds are the same
-pub same_first : (k k' : Bool) (n : ℕ) (x y : List ℕ) → k' ≡ k → take n (items_by k' x) ≡ take n (items_by k' y) → take n (items_by k x) ≡ take n (items_by k y)
+pub same_first : (k k' : ItemKind) (n : ℕ) (x y : List ℕ) → k' ≡ k → take n (items_by k' x) ≡ take n (items_by k' y) → take n (items_by k x) ≡ take n (items_by k y)
 same_first k k' n x y e h = subst (λ b. take n (items_by b x) ≡ take n (items_by b y)) e h
 
-pub same_item : (k k' : Bool) (x : List ℕ) (n : ℕ) (item : Item) → k' ≡ k → slice_get (items_by k' x) n ≡ Some item → slice_get (items_by k x) n ≡ Some item
+pub same_item : (k k' : ItemKind) (x : List ℕ) (n : ℕ) (item : Item) → k' ≡ k → slice_get (items_by k' x) n ≡ Some item → slice_get (items_by k x) n ≡ Some item
 same_item k k' x n item e h = subst (λ b. slice_get (items_by b x) n ≡ Some item) e h
 
-pub same_settled : (k k' : Bool) (x : List ℕ) (n : ℕ) → k' ≡ k → settled_by k' x ≤ n → settled_by k x ≤ n
+pub same_settled : (k k' : ItemKind) (x : List ℕ) (n : ℕ) → k' ≡ k → settled_by k' x ≤ n → settled_by k x ≤ n
 same_settled k k' x n e h = subst (λ b. settled_by b x ≤ n) e h
 
-pub same_count : (k k' : Bool) (x : List ℕ) (n : ℕ) → k' ≡ k → length (items_by k' x) ≤ n → length (items_by k x) ≤ n
+pub same_count : (k k' : ItemKind) (x : List ℕ) (n : ℕ) → k' ≡ k → length (items_by k' x) ≤ n → length (items_by k x) ≤ n
 same_count k k' x n e h = subst (λ b. length (items_by b x) ≤ n) e h
 
-pub same_closed : (k k' : Bool) (x : List ℕ) (b : Bool) → k' ≡ k → b ≡ closed_by k' x → b ≡ closed_by k x
+pub same_closed : (k k' : ItemKind) (x : List ℕ) (b : Bool) → k' ≡ k → b ≡ closed_by k' x → b ≡ closed_by k x
 same_closed k k' x b e h = subst (λ t. b ≡ closed_by t x) e h
 
-pub still_asked : (k k' : Bool) (question question' : Question) → k' ≡ k → question' ≡ question → IsAskedOf k question → IsAskedOf k' question'
+pub still_asked : (k k' : ItemKind) (question question' : Question) → k' ≡ k → question' ≡ question → IsAskedOf k question → IsAskedOf k' question'
 still_asked k k' question question' e same h = subst (λ b. IsAskedOf b question') (sym e) (subst (λ q. IsAskedOf k q) (sym same) h)
 
 pub same_answers : (question question' : Question) (item : Item) (o : Outcome) → question' ≡ question → Answers question' item o → Answers question item o
@@ -103,11 +103,11 @@ pub gathered : (a b c : Option (List ℕ)) (x y z : List ℕ) → Gathers a b x 
 gathered a b c x y z one two =
     (one.0 ++ two.0, Consumes-trans a b c one.0 two.0 one.1 two.1, two.2 ∙ ap (λ t. t ++ two.0) one.2 ∙ append_assoc x one.0 two.0)
 
-abbrev pub of_job : Bool → Question → Form → Demand
+abbrev pub of_job : ItemKind → Question → Form → Demand
 of_job k question form = demand_by (Some (job_on k question form))
 
 -- How a run ends, where so many items were judged: what was taken is no more than an input may have, but where it was too long.
-module _ (k : Bool) (question : Question) (form : Form) (old now : Option (List ℕ)) (g g' : ℕ) (taken : List ℕ) (given : ℕ) (s : Totals) (at : IsAt (job_on k question form) old now taken given s)
+module _ (k : ItemKind) (question : Question) (form : Form) (old now : Option (List ℕ)) (g g' : ℕ) (taken : List ℕ) (given : ℕ) (s : Totals) (at : IsAt (job_on k question form) old now taken given s)
     (left left' : Option (List ℕ)) (f f' : ℕ) (consumed : Consumes left left' taken) (source_later : f ≤ f') where
   -- so far whole blocks were written
   whole : (least : ℕ) → least ≤ given → Grew old now (HasBlocks (job_on k question form) least taken)

@@ -10,17 +10,17 @@ use Rattle.cha_outcome.specs.declared.questions.FlaggedDraws.{FlaggedDraws}
 use Rattle.cha_outcome.specs.declared.questions.FlaggedDraws.TheVariants.{Stand, Examined}
 use Rattle.cha_outcome.specs.declared.questions.Question.{Question}
 use Rattle.cha_outcome.specs.declared.questions.Question.TheVariants as questions
-use Rattle.cha_outcome.specs.Items.{line_item, game_item}
+use Rattle.cha_outcome.specs.Items.{line_item, game_item, replay_item}
 use Rattle.cha_outcome.specs.Totals.{totals_of}
 use Rattle.flag_report.specs.declared.forms.Notation.TheVariants.{Coordinates, San}
 use Rattle.flag_report.specs.declared.styles.Style.{Style}
 use Rattle.flag_report.specs.declared.styles.Style.TheVariants.{Blocks, Json, SummaryAlone}
 use Rattle.flag_report.specs.declared.styles.Subject.{Subject}
-use Rattle.flag_report.specs.declared.styles.Subject.TheVariants.{Games, Positions, Mates}
+use Rattle.flag_report.specs.declared.styles.Subject.TheVariants.{Games, Positions, Mates, Plies}
 use Rattle.flag_report.specs.Styles.{summary}
 use Rattle.cha_words.specs.declared.orders.Order.{Order}
 use Rattle.cha_words.specs.declared.orders.Printing.{Printing}
-use Rattle.cha_words.specs.declared.orders.Order.TheVariants.{AdjudicateGames, JudgePositions, CheckCert, GenGames, ListMates}
+use Rattle.cha_words.specs.declared.orders.Order.TheVariants.{AdjudicateGames, JudgePositions, CheckCert, GenGames, ListMates, ReplayGames}
 
 -- the items of a text of positions: its lines that count, in order
 abbrev pub position_items : List ℕ → List Item
@@ -29,6 +29,10 @@ position_items bytes = map (λ line. line_item line.number line.text) (text_line
 -- the items of a text of games, in order
 abbrev pub game_items : List ℕ → List Item
 game_items bytes = map game_item (placed_games bytes)
+
+-- the items of a text of games whose moves are told, in order
+abbrev pub replay_items : List ℕ → List Item
+replay_items bytes = map replay_item (placed_games bytes)
 
 -- A report on items: whether the input is read, which items it has, how many of them are settled in a front of it, what is asked about
 -- each, whether its text is closed, how the report is printed, and what it is about.
@@ -41,12 +45,15 @@ pub record Job : Type 0 where
   pub style : Style
   pub subject : Subject
 
--- a job on games as they come, and on lines as they come
+-- a job on games as they come, on lines as they come, and on games whose moves are told as they come
 abbrev pub on_games : Question → Style → Job
 on_games question style = record { reads = true; items = game_items; settled = settled_games; question = question; closed = is_closed; style = style; subject = Games }
 
 abbrev pub on_lines : Question → Style → Subject → Job
 on_lines question style subject = record { reads = true; items = position_items; settled = settled_lines; question = question; closed = λ _. true; style = style; subject = subject }
+
+abbrev pub on_replays : Question → Style → Job
+on_replays question style = record { reads = true; items = replay_items; settled = settled_games; question = question; closed = is_closed; style = style; subject = Plies }
 
 -- a job on games that are made of a seed, whose blocks are not printed
 abbrev pub on_made : Question → ℕ → ℕ → Job
@@ -69,6 +76,7 @@ job (JudgePositions limits printing) = Some (on_lines (questions.Verdicts limits
 job CheckCert = None
 job (GenGames limits seed count) = Some (on_made (questions.Verdicts limits Stand) seed count)
 job (ListMates side workers depth printing) = Some (on_lines (questions.Mates side depth) (style_of printing) Mates)
+job (ReplayGames printing) = Some (on_replays questions.Plies (style_of printing))
 
 -- what is printed at the end of a job on an input with these outcomes
 abbrev pub last : Job → List ℕ → List Outcome → List ℕ

@@ -5,59 +5,79 @@ use Rattle.text_lines.specs.Lines.{settled_lines}
 use Rattle.pgn_games.specs.Settling.{settled_games}
 use Rattle.cha_outcome.specs.declared.items.Item.{Item}
 use Rattle.cha_outcome.specs.declared.questions.Question.{Question}
-use Rattle.cha_outcome.specs.declared.questions.Question.TheVariants.{Verdicts, Mates}
+use Rattle.cha_outcome.specs.declared.questions.Question.TheVariants.{Verdicts, Mates, Plies}
 use Rattle.adjudicate.specs.declared.readers.ItemReader.{ItemReader}
-use Rattle.adjudicate.specs.declared.readers.ItemReader.TheVariants.{Games, Lines}
+use Rattle.adjudicate.specs.declared.readers.ItemReader.TheVariants.{Games, Lines, Replays}
 use Rattle.adjudicate.specs.declared.reports.Form.{Form}
-use Rattle.adjudicate.specs.Jobs.{Job, game_items, position_items}
+use Rattle.adjudicate.specs.Jobs.{Job, game_items, position_items, replay_items}
 use Rattle.adjudicate.specs.Runs.{most_bytes}
 
--- it gives games, and not lines
-abbrev pub is_of_games : ItemReader → Bool
-is_of_games (Games reader) = true
-is_of_games (Lines reader) = false
+-- the kinds of items
+pub data ItemKind : Type 0 where
+  GameItems : ItemKind
+  LineItems : ItemKind
+  ReplayItems : ItemKind
+
+-- the kind of items that it gives
+abbrev pub kind_of : ItemReader → ItemKind
+kind_of (Games reader) = GameItems
+kind_of (Lines reader) = LineItems
+kind_of (Replays reader) = ReplayItems
 
 -- the bytes that it has taken
 abbrev pub taken_by : ItemReader → List ℕ
 taken_by (Games reader) = reader.taken
 taken_by (Lines reader) = reader.taken
+taken_by (Replays reader) = reader.taken
 
 -- how many items it has given
 abbrev pub given_by : ItemReader → ℕ
 given_by (Games reader) = reader.given
 given_by (Lines reader) = reader.given
+given_by (Replays reader) = reader.given
 
 -- it has taken all that there is
 abbrev pub has_ended : ItemReader → Bool
 has_ended (Games reader) = reader.ended
 has_ended (Lines reader) = reader.ended
+has_ended (Replays reader) = reader.ended
 
 -- it can give more: no call has failed, and no more was taken than an input may have
 abbrev pub CanGoOn : ItemReader → Type 0
 CanGoOn (Games reader) = (reader.failed ≡ false) × (length reader.taken ≤ most_bytes)
 CanGoOn (Lines reader) = (reader.failed ≡ false) × (length reader.taken ≤ most_bytes)
+CanGoOn (Replays reader) = (reader.failed ≡ false) × (length reader.taken ≤ most_bytes)
 
--- the items of bytes, and how many of them are settled, where they are games or lines
-abbrev pub items_by : Bool → List ℕ → List Item
-items_by true = game_items
-items_by false = position_items
+-- the items of a kind that bytes have, and how many of them are settled
+abbrev pub items_by : ItemKind → List ℕ → List Item
+items_by GameItems = game_items
+items_by LineItems = position_items
+items_by ReplayItems = replay_items
 
-abbrev pub settled_by : Bool → List ℕ → ℕ
-settled_by true = settled_games
-settled_by false = settled_lines
+abbrev pub settled_by : ItemKind → List ℕ → ℕ
+settled_by GameItems = settled_games
+settled_by LineItems = settled_lines
+settled_by ReplayItems = settled_games
 
 -- whether their text is closed: lines always are
-abbrev pub closed_by : Bool → List ℕ → Bool
-closed_by true = is_closed
-closed_by false = λ _. true
+abbrev pub closed_by : ItemKind → List ℕ → Bool
+closed_by GameItems = is_closed
+closed_by LineItems = λ _. true
+closed_by ReplayItems = is_closed
 
 -- a question is asked about such items
-abbrev pub IsAskedOf : Bool → Question → Type 0
-IsAskedOf true (Verdicts limits draws) = ⊤
-IsAskedOf true (Mates side depth) = ⊥
-IsAskedOf false question = ⊤
+abbrev pub IsAskedOf : ItemKind → Question → Type 0
+IsAskedOf GameItems (Verdicts limits draws) = ⊤
+IsAskedOf GameItems (Mates side depth) = ⊥
+IsAskedOf GameItems Plies = ⊥
+IsAskedOf LineItems (Verdicts limits draws) = ⊤
+IsAskedOf LineItems (Mates side depth) = ⊤
+IsAskedOf LineItems Plies = ⊥
+IsAskedOf ReplayItems (Verdicts limits draws) = ⊥
+IsAskedOf ReplayItems (Mates side depth) = ⊥
+IsAskedOf ReplayItems Plies = ⊤
 
 -- the job on such items
-abbrev pub job_on : Bool → Question → Form → Job
-job_on of_games question form =
-    record { reads = true; items = items_by of_games; settled = settled_by of_games; question = question; closed = closed_by of_games; style = form.style; subject = form.subject }
+abbrev pub job_on : ItemKind → Question → Form → Job
+job_on kind question form =
+    record { reads = true; items = items_by kind; settled = settled_by kind; question = question; closed = closed_by kind; style = form.style; subject = form.subject }

@@ -11,10 +11,10 @@ ghost use Rattle.adjudicate.specs.Runs.{IsRun, outside};
 
 use crate::checking::check_cert;
 use crate::endings::Status;
-use crate::jobs::{report_games, report_lines, report_made};
+use crate::jobs::{report_games, report_lines, report_made, report_replays};
 use crate::reports::Form;
 use cert_par::Checker;
-use cha_judge::{MatesJudge, VerdictsJudge};
+use cha_judge::{MatesJudge, PliesJudge, VerdictsJudge};
 use cha_outcome::FlaggedDraws;
 use cha_outside::{Sink, Source};
 use cha_words::{Order, Printing};
@@ -108,11 +108,12 @@ pub fn carry_out<C: Crew + Drop, S: Source, K: Sink>(
         }
         Order::CheckCert => unreachable!(),
         Order::ListMates { .. } => unreachable!(),
+        Order::ReplayGames { .. } => unreachable!(),
     }
 }
 
 /// Reads a source to its end, and writes what an order asks for that needs no search for verdicts: the answer on a certificate,
-/// or the shortest mates of each line.
+/// the shortest mates of each line, or the moves of each game.
 pub fn carry_out_plain<P: Spread + Drop, C: Checker, S: Source, K: Sink>(
     alloc: Global,
     order: &Order,
@@ -146,6 +147,9 @@ pub fn carry_out_plain<P: Spread + Drop, C: Checker, S: Source, K: Sink>(
                 subject: Subject::Mates,
             };
             report_lines(alloc, form, &mut judge, source, sink)
+        }
+        Order::ReplayGames { printing } => {
+            report_replays(alloc, style_of(*printing), &mut PliesJudge, source, sink)
         }
         Order::AdjudicateGames { .. } => unreachable!(),
         Order::JudgePositions { .. } => unreachable!(),

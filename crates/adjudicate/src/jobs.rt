@@ -1,8 +1,8 @@
 //! The jobs that orders are: where their items come from.
 
-ghost use Rattle.std.specs.Prelude.{◌≡◌, ◌≤◌, ℕ, List, Option, Some, true};
-ghost use Rattle.adjudicate.specs.Jobs.{on_games, on_lines, on_made};
-ghost use Rattle.adjudicate.specs.Readers.{IsAskedOf};
+ghost use Rattle.std.specs.Prelude.{◌≡◌, ◌≤◌, ℕ, List, Option, Some};
+ghost use Rattle.adjudicate.specs.Jobs.{on_games, on_lines, on_made, on_replays};
+ghost use Rattle.adjudicate.specs.Readers.{IsAskedOf, GameItems, LineItems, ReplayItems};
 ghost use Rattle.adjudicate.specs.Report.{demand_by};
 ghost use Rattle.adjudicate.specs.Runs.{IsRunOf, outside};
 ghost use Rattle.adjudicate.specs.Steps.{made_status};
@@ -27,7 +27,7 @@ pub fn report_games<J: Judge, S: Source, K: Sink>(
     sink: &mut K,
 ) -> Status
     requires ready { J.ready judge.old }
-    requires asked { IsAskedOf true (J.question judge.old) }
+    requires asked { IsAskedOf GameItems (J.question judge.old) }
     ensures { IsRunOf (demand_by (Some (on_games (J.question judge.old) style))) result (outside (S.left source.old) (S.faults source.old) (K.written sink.old) (K.faults sink.old)) (outside (S.left source.new) (S.faults source.new) (K.written sink.new) (K.faults sink.new)) }
 {
     let Ok(reader) = Reader::new(alloc) else {
@@ -48,11 +48,34 @@ pub fn report_lines<J: Judge, S: Source, K: Sink>(
     source: &mut S,
     sink: &mut K,
 ) -> Status
-    requires { J.ready judge.old }
+    requires ready { J.ready judge.old }
+    requires asked { IsAskedOf LineItems (J.question judge.old) }
     ensures { IsRunOf (demand_by (Some (on_lines (J.question judge.old) form.style form.subject))) result (outside (S.left source.old) (S.faults source.old) (K.written sink.old) (K.faults sink.old)) (outside (S.left source.new) (S.faults source.new) (K.written sink.new) (K.faults sink.new)) }
 {
     let reader = LineReader::new(alloc);
     write_report(alloc, form, ItemReader::Lines(reader), judge, source, sink)
+}
+
+/// Writes the moves of the games of a source, of each as soon as it has come.
+pub fn report_replays<J: Judge, S: Source, K: Sink>(
+    alloc: Global,
+    style: Style,
+    judge: &mut J,
+    source: &mut S,
+    sink: &mut K,
+) -> Status
+    requires ready { J.ready judge.old }
+    requires asked { IsAskedOf ReplayItems (J.question judge.old) }
+    ensures { IsRunOf (demand_by (Some (on_replays (J.question judge.old) style))) result (outside (S.left source.old) (S.faults source.old) (K.written sink.old) (K.faults sink.old)) (outside (S.left source.new) (S.faults source.new) (K.written sink.new) (K.faults sink.new)) }
+{
+    let Ok(reader) = Reader::new(alloc) else {
+        return Status::NoMemory;
+    };
+    let form = Form {
+        style,
+        subject: Subject::Plies,
+    };
+    write_report(alloc, form, ItemReader::Replays(reader), judge, source, sink)
 }
 
 /// Makes so many games of a seed, and writes the summary of the report on them alone. Nothing is read.
@@ -65,7 +88,7 @@ pub fn report_made<J: Judge, K: Sink>(
 ) -> Status
     requires count { (1 ≤ count) × (count ≤ 1000) }
     requires ready { J.ready judge.old }
-    requires asked { IsAskedOf true (J.question judge.old) }
+    requires asked { IsAskedOf GameItems (J.question judge.old) }
     ensures { (left : Option (List ℕ)) (faults : ℕ) → IsRunOf (demand_by (Some (on_made (J.question judge.old) seed count))) result (outside left faults (K.written sink.old) (K.faults sink.old)) (outside left faults (K.written sink.new) (K.faults sink.new)) }
 {
     let Ok(text) = games_text(alloc, seed, count) else {

@@ -8,7 +8,7 @@ ghost use Rattle.cha_outcome.specs.Outcomes.{IsPrintableOutcome};
 ghost use Rattle.cha_outcome.specs.Totals.{counted, HasRoom};
 ghost use Rattle.report_words.specs.LegalLines.{HasLegalLines};
 ghost use Rattle.flag_report.specs.Styles.{block, summary as summary_of};
-ghost use Rattle.adjudicate.specs.Readers.{taken_by, given_by, has_ended, is_of_games, CanGoOn, IsAskedOf, job_on};
+ghost use Rattle.adjudicate.specs.Readers.{taken_by, given_by, has_ended, kind_of, CanGoOn, IsAskedOf, job_on};
 ghost use Rattle.adjudicate.specs.Report.{demand_by};
 ghost use Rattle.adjudicate.specs.Runs.{IsRunOf, outside};
 
@@ -42,11 +42,11 @@ pub fn write_report<J: Judge, S: Source, K: Sink>(
     sink: &mut K,
 ) -> Status
     requires ready { J.ready judge.old }
-    requires asked { IsAskedOf (is_of_games reader) (J.question judge.old) }
+    requires asked { IsAskedOf (kind_of reader) (J.question judge.old) }
     requires goes_on { CanGoOn reader }
     requires first { given_by reader ≡ 0 }
     requires ended { has_ended reader ≡ true → IsAtEnd (S.left source.old) }
-    ensures { (left : Option (List ℕ)) (faults : ℕ) → Consumes left (S.left source.old) (taken_by reader) → faults ≤ S.faults source.old → IsRunOf (demand_by (Some (job_on (is_of_games reader) (J.question judge.old) form))) result (outside left faults (K.written sink.old) (K.faults sink.old)) (outside (S.left source.new) (S.faults source.new) (K.written sink.new) (K.faults sink.new)) }
+    ensures { (left : Option (List ℕ)) (faults : ℕ) → Consumes left (S.left source.old) (taken_by reader) → faults ≤ S.faults source.old → IsRunOf (demand_by (Some (job_on (kind_of reader) (J.question judge.old) form))) result (outside left faults (K.written sink.old) (K.faults sink.old)) (outside (S.left source.new) (S.faults source.new) (K.written sink.new) (K.faults sink.new)) }
 {
     let mut items = reader;
     let mut totals = Totals::new();

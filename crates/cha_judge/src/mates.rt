@@ -50,6 +50,7 @@ impl<P: Spread> Judge for MatesJudge<P> {
             Item::RefusedLine { line, fault } => Ok(Outcome::RefusedLine { line, fault }),
             Item::UnreadableGame { span, why } => Ok(Outcome::UnreadableGame { span, why }),
             Item::Played(_) => unreachable!(),
+            Item::Replayed(_) => unreachable!(),
         }
     }
 }

@@ -45,6 +45,7 @@ impl<C: Crew> Judge for VerdictsJudge<C> {
             Item::Played(game) => judge_game(alloc, game, &self.limits, self.draws, &mut self.crew),
             Item::RefusedLine { line, fault } => Ok(Outcome::RefusedLine { line, fault }),
             Item::UnreadableGame { span, why } => Ok(Outcome::UnreadableGame { span, why }),
+            Item::Replayed(_) => unreachable!(),
         }
     }
 }

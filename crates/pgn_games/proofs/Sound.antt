@@ -37,7 +37,7 @@ none_added (u ∷ ts) t some = by_test (is_bad u.token) (none_added ts t) some
     by_test false h some = ap (λ us. u ∷ us) (h some)
 
 -- outside variations
-all_sound : (told : List Placed) → is_some (first_bad told) ≡ false → sound_words told ≡ move_words told
+pub all_sound : (told : List Placed) → is_some (first_bad told) ≡ false → sound_words told ≡ move_words told
 unfolding first_bad sound_words move_words
 all_sound told none = ap (filter_map (λ t. move_word t.token)) (all_before (outside 0 told) none)
 

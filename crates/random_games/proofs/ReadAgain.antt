@@ -1,5 +1,5 @@
 -- The games of a text that was made are the games that were made.
-use Rattle.std.proofs.Common.{◌≡◌, ℕ, zero, suc, ◌+◌, ◌<◌, ◌≤◌, ◌^◌, ◌%◌, Bool, true, false, nat_lt, List, [], ◌∷◌, ◌++◌, Option, Some, None, length, take, map, refl, ap, ◌∙◌, arith}
+use Rattle.std.proofs.Common.{◌≡◌, ℕ, zero, suc, ◌+◌, ◌<◌, ◌≤◌, ◌^◌, ◌%◌, Bool, true, false, nat_lt, List, [], ◌∷◌, ◌++◌, Option, Some, None, is_some, length, take, map, refl, ap, ◌∙◌, arith}
 use Rattle.std.specs.Prelude.{codes, decimal}
 use Rattle.std.specs.List.{list_all, Contains}
 use Rattle.std.proofs.lemmas.List.{take_all, length-append}
@@ -25,8 +25,9 @@ use Rattle.pgn_games.specs.declared.marks.ResultMark.{ResultMark}
 use Rattle.pgn_games.specs.declared.played.Game.{Game}
 use Rattle.pgn_games.specs.declared.token_turns.Place.TheVariants.{Before}
 use Rattle.pgn_games.specs.Cutting.{cut}
-use Rattle.pgn_games.specs.Fields.{tag_value, recorded_in, move_words, says_forfeit, speaks_of, says_flag_fell, passes}
-use Rattle.pgn_games.specs.Games.{opening, start_of, start_fault, fault_of, game_of, games}
+use Rattle.pgn_games.specs.Fields.{tag_value, recorded_in, move_words, sound_words, says_forfeit, speaks_of, says_flag_fell, passes}
+use Rattle.pgn_games.specs.Games.{opening, start_of, start_fault, fault_of, has_bad_tag, words_before_fault, game_of, games}
+use Rattle.pgn_games.proofs.Sound.{all_sound}
 use Rattle.random_games.specs.Games.{MadeGame, seeded, drawn, onward, made_from, made_game, made_games}
 use Rattle.random_games.specs.Made.{result_text, termination_text, tag_line, tags_text, game_text, texts_from, made}
 use Rattle.random_games.specs.AsRead.{result_of, is_forfeit, as_read}
@@ -38,7 +39,7 @@ use Rattle.random_games.proofs.SpelledWords.{is_move_word}
 
 -- a game by its parts
 abbrev game_with : Board → ResultMark → Bool → List (List ℕ) → Option GameFault → Game
-game_with start recorded forfeit words fault = record { start = start; recorded = recorded; forfeit = forfeit; flag_fell = forfeit; words = words; fault = fault }
+game_with start recorded forfeit words fault = record { start = start; recorded = recorded; forfeit = forfeit; flag_fell = forfeit; words = words; before_fault = Some (length words); fault = fault }
 
 says_ending : (standing : Standing) → says_forfeit (termination_text standing) ≡ is_forfeit standing
 unfolding says_forfeit
@@ -67,6 +68,16 @@ no_fault slice ws mark termination h few =
     let small = not_many (length ws) few in
     rw (bad, closed, uncut, variant, position, words, small) refl
 
+all_before : (slice : List Placed) (ws : List (List ℕ)) (mark : ResultMark) (termination : List ℕ) → Says slice ws mark termination → length ws ≤ 12000 → words_before_fault slice ≡ Some (length ws)
+unfolding words_before_fault has_bad_tag start_fault
+all_before slice ws mark termination h few =
+    let position = h.no_position in
+    let variant = h.no_variant in
+    let uncut = h.uncut in
+    let sound : sound_words slice ≡ ws = all_sound slice (ap is_some h.none_bad) ∙ h.words in
+    let whole : take 12000 ws ≡ ws = take_all 12000 ws few in
+    rw (uncut, variant, position, sound, whole) refl
+
 game_is : (slice : List Placed) (ws : List (List ℕ)) (mark : ResultMark) (termination : List ℕ) (forfeit : Bool) → Says slice ws mark termination → length ws ≤ 12000 → says_forfeit termination ≡ forfeit → says_flag_fell termination ≡ forfeit
     → game_of slice ≡ game_with opening mark forfeit ws None
 unfolding game_of start_of
@@ -77,7 +88,7 @@ game_is slice ws mark termination forfeit h few ends flag =
     let all : words ≡ ws = ap (take 12001) h.words ∙ take_all 12001 ws (omega (arith, few)) in
     let told = tag_value (codes "Termination") slice in
     let both : (passes says_forfeit told ≡ forfeit) × (passes says_flag_fell told ≡ forfeit) = (ap (passes says_forfeit) h.ending ∙ ends, ap (passes says_flag_fell) h.ending ∙ flag) in
-    rw (h.no_position, h.recorded, both.0, both.1, all, no_fault slice ws mark termination h few) refl
+    rw (h.no_position, h.recorded, both.0, both.1, all, all_before slice ws mark termination h few, no_fault slice ws mark termination h few) refl
 
 -- the words of a game that was made
 pub record HasWords (game : MadeGame) (plies : ℕ) : Type 0 where

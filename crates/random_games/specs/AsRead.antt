@@ -1,5 +1,5 @@
 -- What a game that was made says when it is read again.
-use Rattle.std.specs.Prelude.{Bool, true, false, None}
+use Rattle.std.specs.Prelude.{Bool, true, false, length, Some, None}
 use Rattle.cha_board.specs.declared.men.Color.{Color}
 use Rattle.cha_board.specs.Men.{other_color}
 use Rattle.cha_moves.specs.Standings.{standing_of}
@@ -32,5 +32,6 @@ as_read game = record {
   forfeit = is_forfeit (standing_of game.last);
   flag_fell = is_forfeit (standing_of game.last);
   words = game.words;
+  before_fault = Some (length game.words);
   fault = None;
 }

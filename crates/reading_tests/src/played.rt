@@ -58,12 +58,14 @@ fn game_of(alloc: Global, words: &str, times: usize) -> Result<Game, NoMemory> {
             kept.push(text_of(alloc, word.as_bytes())?)?;
         }
     }
+    let before_fault = Some(kept.items().len().min(12_000));
     Ok(Game {
         start: Position::start(),
         recorded: ResultMark::Unknown,
         forfeit: false,
         flag_fell: false,
         words: kept,
+        before_fault,
         fault: None,
     })
 }

@@ -1,5 +1,6 @@
 use Rattle.std.proofs.Common.{◌+◌, ◌*◌, ◌<◌, ◌≤◌, length, Some, sym, ap, ◌∙◌, arith}
 use Rattle.pgn_games.specs.Games.{placed_games}
+use Rattle.cha_outcome.specs.Items.{game_item}
 use Rattle.adjudicate.proofs.GivenGames.{few_words, given_few, item_at, items_first}
 use Rattle.adjudicate.proofs.ReportLoop.{not_more}
 use Rattle.adjudicate.proofs.readers.next_game.Goals as goal
@@ -8,7 +9,7 @@ pub item_of_game-requires : goal.item_of_game-requires
 item_of_game-requires g c = few_words c.next.new.self.taken c.args.reader.now.given c.in-Ok-Some.game (rw c.in-Ok-Some.field-0-is at c.in-Ok-Some.ensures.game)
 
 pub returns-in-Ok-clause-item : goal.returns-in-Ok-clause-item
-returns-in-Ok-clause-item g c = item_at (placed_games c.next.new.self.taken) c.args.reader.now.given c.in-Ok-Some.game (rw c.in-Ok-Some.field-0-is at c.in-Ok-Some.ensures.game) ∙ ap Some (sym c.in-Ok.ensures.item)
+returns-in-Ok-clause-item g c = item_at game_item (placed_games c.next.new.self.taken) c.args.reader.now.given c.in-Ok-Some.game (rw c.in-Ok-Some.field-0-is at c.in-Ok-Some.ensures.game) ∙ ap Some (sym c.in-Ok.ensures.item)
 
 pub returns-in-Ok-clause-given : goal.returns-in-Ok-clause-given
 returns-in-Ok-clause-given g c =
@@ -17,13 +18,13 @@ returns-in-Ok-clause-given g c =
     (rw c.in-Ok-Some.field-0-is at c.in-Ok-Some.ensures.given, omega (arith, there, few))
 
 pub returns-in-Ok-clause-first : goal.returns-in-Ok-clause-first
-returns-in-Ok-clause-first g c = items_first _ _ _ c.next.ensures.first
+returns-in-Ok-clause-first g c = items_first game_item _ _ _ c.next.ensures.first
 
 pub returns-in-Ok-Some-clause-first : goal.returns-in-Ok-Some-clause-first
-returns-in-Ok-Some-clause-first g c = items_first _ _ _ c.next.ensures.first
+returns-in-Ok-Some-clause-first g c = items_first game_item _ _ _ c.next.ensures.first
 
 pub returns-in-Ok-None-clause-first : goal.returns-in-Ok-None-clause-first
-returns-in-Ok-None-clause-first g c = items_first _ _ _ c.next.ensures.first
+returns-in-Ok-None-clause-first g c = items_first game_item _ _ _ c.next.ensures.first
 
 pub returns-clause-first : goal.returns-clause-first
-returns-clause-first g c = items_first _ _ _ c.next.ensures.first
+returns-clause-first g c = items_first game_item _ _ _ c.next.ensures.first

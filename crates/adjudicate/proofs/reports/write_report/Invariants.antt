@@ -1,15 +1,15 @@
 use Rattle.std.proofs.Common.{◌≡◌, ◌-◌, ◌≤◌, true}
 use Rattle.std.specs.Io.KnownBytes.{IsAtEnd}
 use Rattle.cha_outside.specs.Gathering.{Gathers}
-use Rattle.adjudicate.specs.Readers.{taken_by, given_by, has_ended, is_of_games, CanGoOn, job_on}
+use Rattle.adjudicate.specs.Readers.{taken_by, given_by, has_ended, kind_of, CanGoOn, job_on}
 use Rattle.adjudicate.proofs.ReportLoop.{IsAt}
 use Rattle.adjudicate.proofs.reports.write_report.Given as goal
 
 -- the items given so far were judged, and what is printed of them was written
 abbrev pub invariant-loop-found : goal.invariant-loop-found
 invariant-loop-found g l = record {
-  at : IsAt (job_on (is_of_games l.fn.reader) (g.J.Judge.question l.fn.judge) l.form) (g.K.Sink.written l.fn.sink) (g.K.Sink.written l.sink) (taken_by l.items) (given_by l.items) l.totals;
-  kind : is_of_games l.items ≡ is_of_games l.fn.reader;
+  at : IsAt (job_on (kind_of l.fn.reader) (g.J.Judge.question l.fn.judge) l.form) (g.K.Sink.written l.fn.sink) (g.K.Sink.written l.sink) (taken_by l.items) (given_by l.items) l.totals;
+  kind : kind_of l.items ≡ kind_of l.fn.reader;
   question : g.J.Judge.question l.judge ≡ g.J.Judge.question l.fn.judge;
   took : Gathers (g.S.Source.left l.fn.source) (g.S.Source.left l.source) (taken_by l.fn.reader) (taken_by l.items);
   end : has_ended l.items ≡ true → IsAtEnd (g.S.Source.left l.source);

@@ -1,0 +1,20 @@
+use Rattle.std.proofs.Common.{Some, refl, arith}
+use Rattle.std.proofs.KnownBytes.{Consumes-nil}
+use Rattle.adjudicate.specs.Jobs.{on_replays}
+use Rattle.adjudicate.proofs.RunEndings.{not_begun_by}
+use Rattle.adjudicate.proofs.jobs.report_replays.Goals as goal
+
+pub returns-in_default : goal.returns-in_default
+returns-in_default g c = not_begun_by (Some (on_replays _ _)) _ _ _ _
+
+pub write_report-requires-clause-goes_on : goal.write_report-requires-clause-goes_on
+write_report-requires-clause-goes_on g c = rw c.in-Ok.ensures (refl, omega arith)
+
+pub write_report-requires-clause-first : goal.write_report-requires-clause-first
+write_report-requires-clause-first g c = rw c.in-Ok.ensures refl
+
+pub write_report-requires-clause-ended : goal.write_report-requires-clause-ended
+write_report-requires-clause-ended g c = rw c.in-Ok.ensures (λ e. cc)
+
+pub returns : goal.returns
+returns g c = c.write_report.ensures _ _ (rw c.in-Ok.ensures (Consumes-nil _)) (omega arith)

@@ -1,0 +1,29 @@
+//! The moves of games.
+
+use crate::judges::Judge;
+use cha_list::NoMemory;
+use cha_outcome::{Item, Outcome};
+use std::alloc::Global;
+
+/// Who tells the moves of games. Nothing is judged.
+#[derive(Clone, Copy, Debug, PartialEq, Eq)]
+pub struct PliesJudge;
+
+impl Judge for PliesJudge {
+    ghost use Rattle.std.specs.Prelude.{⊤};
+    ghost use Rattle.cha_outcome.specs.declared.questions.Question.TheVariants.{Plies};
+
+    ghost ready = { λ _. ⊤ };
+
+    ghost question = { λ _. Plies };
+
+    fn judge(&mut self, _alloc: Global, item: Item) -> Result<Outcome, NoMemory> {
+        match item {
+            Item::Replayed(game) => Ok(Outcome::Replayed(game)),
+            Item::Position { .. } => unreachable!(),
+            Item::RefusedLine { .. } => unreachable!(),
+            Item::Played(_) => unreachable!(),
+            Item::UnreadableGame { .. } => unreachable!(),
+        }
+    }
+}

@@ -1,0 +1,4 @@
+pub mod TokenKinds
+pub mod Standing
+pub mod Boundaries
+pub mod Overs

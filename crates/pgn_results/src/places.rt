@@ -1,6 +1,6 @@
 //! Where a game tells its result.
 
-ghost use Rattle.std.specs.Prelude.{◌≡◌, List, ℕ};
+ghost use Rattle.std.specs.Prelude.{◌≡◌, List, ℕ, false};
 ghost use Rattle.pgn_games.specs.declared.marks.ResultMark.{ResultMark};
 ghost use Rattle.pgn_results.specs.Places.{with_places};
 ghost use Rattle.pgn_results.specs.Replacing.{is_result_tag as is_result_tag_of, is_result_at, with_mark};
@@ -25,6 +25,7 @@ pub struct ResultPlaces {
 }
 
 /// Whether a token is a tag pair `Result`. The name counts with its case.
+#[tactic(auto, unfolding(pgn_games::specs::Fields::value_named))]
 fn is_result_tag(token: &Token) -> bool
     ensures { result ≡ is_result_tag_of token.now }
 {
@@ -42,6 +43,7 @@ fn ends_game(depth: usize, token: &Token) -> bool
 }
 
 /// Where the game of these tokens tells its result.
+#[tactic(auto, unfolding(crate::specs::Replacing::with_mark))]
 pub fn result_places(tokens: &[Placed]) -> ResultPlaces
     ensures { (mark : ResultMark) → (bytes : List ℕ) → with_mark false 0 mark tokens.now bytes ≡ with_places mark result bytes }
 {

@@ -1,6 +1,6 @@
 //! A tag pair with another value.
 
-ghost use Rattle.std.specs.Prelude.{◌≡◌, ◌++◌, OnOk};
+ghost use Rattle.std.specs.Prelude.{◌≡◌, ◌++◌, OnOk, false};
 ghost use Rattle.pgn_results.specs.Replacing.{mark_text, past_value as past_value_of, with_value};
 
 use cha_list::{NoMemory, Text};

@@ -1,6 +1,6 @@
 //! The text of a game with another result.
 
-ghost use Rattle.std.specs.Prelude.{◌≡◌, ◌==◌, ◌||◌, ◌++◌, OnOk, IfOk, take, drop};
+ghost use Rattle.std.specs.Prelude.{◌≡◌, ◌==◌, ◌||◌, ◌++◌, OnOk, IfOk, take, drop, false};
 ghost use Rattle.pgn_lex.specs.declared.classes.PgnClass.TheVariants.{WordByte};
 ghost use Rattle.pgn_lex.specs.Classes.{in_pgn_class};
 ghost use Rattle.pgn_lex.specs.Tokens.{tokens};

@@ -2,3 +2,5 @@ pub mod TokenKinds
 pub mod Standing
 pub mod Boundaries
 pub mod Overs
+pub mod PieceSorts
+pub mod Found

@@ -4,3 +4,4 @@ pub mod Boundaries
 pub mod Overs
 pub mod PieceSorts
 pub mod Found
+pub mod TagChanges

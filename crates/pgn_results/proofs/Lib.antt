@@ -5,3 +5,4 @@ pub mod Overs
 pub mod PieceSorts
 pub mod Found
 pub mod TagChanges
+pub mod TagReplaced

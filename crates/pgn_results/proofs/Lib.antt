@@ -6,3 +6,5 @@ pub mod PieceSorts
 pub mod Found
 pub mod TagChanges
 pub mod TagReplaced
+pub mod StageRooms
+pub mod TokenReplaced

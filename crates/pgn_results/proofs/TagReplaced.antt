@@ -73,7 +73,7 @@ no_mark : (b : ℕ) → b ≡ 91 → ((b == 239) ≡ false) × ((b == 187) ≡ f
 no_mark b e = rw e (refl, refl, refl)
 
 -- the tokens from a piece on
-piece_kinds : (at line : ℕ) (first : Bool) (b : ℕ) (bs : List ℕ) (token : Token) (more : ℕ) → piece first b bs ≡ spoken_piece token more
+pub piece_kinds : (at line : ℕ) (first : Bool) (b : ℕ) (bs : List ℕ) (token : Token) (more : ℕ) → piece first b bs ≡ spoken_piece token more
     → kinds (tokens_after 0 at line first (b ∷ bs)) ≡ token ∷ kinds (tokens_after more (at + 1) (line_after line b) (not (in_class InLine b)) bs)
 unfolding tokens_after
 piece_kinds at line first b bs token more e = rw e refl

@@ -2,6 +2,7 @@
 use Rattle.std.specs.Bool.{⊤}
 use Rattle.std.proofs.Common.{◌≡◌, ℕ, zero, suc, ◌+◌, ◌==◌, Bool, true, false, not, ◌&&◌, ◌||◌, if◌then◌else◌, List, [], ◌∷◌, ◌++◌, refl, sym, ap, ◌∙◌, arith, append_assoc}
 use Rattle.std.specs.List.{fold}
+use Rattle.std.proofs.lemmas.Bool.{eqb-true}
 use Rattle.std.proofs.lemmas.List.Sums.{fold_push}
 use Rattle.cha_list.specs.declared.classes.Class.TheVariants.{Blank, InLine, Digit}
 use Rattle.cha_list.specs.Bytes.{in_class}
@@ -79,6 +80,33 @@ row StarRead = (refl, refl, refl, λ e. refl)
 row EnterRead = (refl, refl, refl, λ e. refl)
 row LeaveRead = (refl, refl, refl, λ e. refl)
 row BadRead = (refl, refl, refl, λ e. refl)
+
+pub most_room : (stage : Stage) → not (room stage == 0) ≡ true → (room stage == 1) ≡ false → (room stage == 2) ≡ true
+most_room Start e f = refl
+most_room MarkBegun e f = refl
+most_room MarkGrown e f = refl
+most_room Marked e f = refl
+most_room Between e f = refl
+most_room RestOfLine e f = cc
+most_room InComment e f = cc
+most_room AfterDollar e f = cc
+most_room InNumber e f = cc
+most_room InWord e f = cc
+most_room InTag e f = cc
+most_room InName e f = cc
+most_room AfterName e f = cc
+most_room InValue e f = cc
+most_room AfterBackslash e f = cc
+most_room AfterValue e f = cc
+most_room TagRead e f = refl
+most_room Spoilt e f = cc
+most_room StarRead e f = refl
+most_room EnterRead e f = refl
+most_room LeaveRead e f = refl
+most_room BadRead e f = refl
+
+pub some_room : (n : ℕ) → (n == 2) ≡ true → not (n == 0) ≡ true
+some_room n e = let is : n ≡ 2 = eqb-true n 2 e in rw is refl
 
 -- a byte with which a word would go on
 abbrev lean : ℕ → Bool

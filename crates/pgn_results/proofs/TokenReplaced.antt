@@ -2,6 +2,9 @@
 use Rattle.std.proofs.Common.{◌≡◌, ◌⊎◌, inl, inr, ℕ, zero, suc, ◌+◌, ◌-◌, ◌==◌, Bool, true, false, not, ◌&&◌, ◌||◌, if◌then◌else◌, is_some, List, [], ◌∷◌, ◌++◌, Option, Some, None, length, take, drop, refl, sym, ap, ◌∙◌, subst, arith, length-append, append_assoc}
 use Rattle.std.specs.Prelude.{codes}
 use Rattle.std.specs.List.{prefix_len, list_all}
+use Rattle.std.specs.Str.{bytes_eq}
+use Rattle.std.proofs.lemmas.Bool.{eqb-true}
+use Rattle.std.proofs.lemmas.Bool.Decides.{nat_tests}
 use Rattle.cha_list.specs.declared.classes.Class.TheVariants.{InLine}
 use Rattle.cha_list.specs.Bytes.{in_class}
 use Rattle.pgn_lex.specs.declared.classes.PgnClass.TheVariants.{WordByte}
@@ -25,7 +28,7 @@ use Rattle.pgn_results.proofs.PieceSorts.{star_piece, word_piece_is}
 use Rattle.pgn_results.proofs.Boundaries.{boundary}
 use Rattle.pgn_results.proofs.Found.{Found, found}
 use Rattle.pgn_results.proofs.TagReplaced.{take_front, drop_front, piece_kinds}
-use Rattle.pgn_results.proofs.StageRooms.{room, is_over, over_is, row, front_leans}
+use Rattle.pgn_results.proofs.StageRooms.{room, is_over, over_is, row, most_room, some_room, front_leans}
 
 -- the token of a result
 abbrev pub mark_token : ResultMark → Token
@@ -130,3 +133,102 @@ mark_kinds WhiteWins at line first bs e = word_kinds at line first 49 (45 ∷ 48
 mark_kinds BlackWins at line first bs e = word_kinds at line first 48 (45 ∷ 49 ∷ []) bs (inl refl) refl refl e refl
 mark_kinds Draw at line first bs e = word_kinds at line first 49 (47 ∷ 50 ∷ 45 ∷ 49 ∷ 47 ∷ 50 ∷ []) bs (inr refl) refl refl e refl
 mark_kinds Unknown at line first bs e = star_kinds at line first bs
+
+-- the text of a result and what follows it, with a space only where a word byte follows
+space_no_word : in_pgn_class WordByte 32 ≡ false
+unfolding in_pgn_class
+space_no_word = refl
+
+then_by : (leaning begins : Bool) (mark : ResultMark) (at line : ℕ) (first : Bool) (bs : List ℕ) → leans (mark_text mark) ≡ leaning → begins_word bs ≡ begins
+    → kinds (tokens_after 0 at line first (if leaning && begins then mark_text mark ++ 32 ∷ bs else mark_text mark ++ bs)) ≡ mark_token mark ∷ Rest bs
+unfolding in_pgn_class
+then_by true true mark at line first bs e f = mark_kinds mark at line first (32 ∷ bs) space_no_word ∙ ap (λ ks. mark_token mark ∷ ks) (space_kinds 0 0 false bs)
+then_by true false mark at line first bs e f = mark_kinds mark at line first bs f
+then_by false begins WhiteWins at line first bs e f = cc
+then_by false begins BlackWins at line first bs e f = cc
+then_by false begins Draw at line first bs e f = cc
+then_by false begins Unknown at line first bs e f = star_kinds at line first bs
+
+then_kinds : (mark : ResultMark) (at line : ℕ) (first : Bool) (bs : List ℕ) → kinds (tokens_after 0 at line first (apart (mark_text mark) bs)) ≡ mark_token mark ∷ Rest bs
+then_kinds mark at line first bs = then_by (leans (mark_text mark)) (begins_word bs) mark at line first bs refl refl
+
+-- its first byte
+abbrev head : ResultMark → ℕ
+head WhiteWins = 49
+head BlackWins = 48
+head Draw = 49
+head Unknown = 42
+
+headed_by : (v : Bool) (x : ℕ) (xs bs : List ℕ) → (ys : List ℕ) × ((if v then (x ∷ xs) ++ 32 ∷ bs else (x ∷ xs) ++ bs) ≡ x ∷ ys)
+headed_by true x xs bs = (xs ++ 32 ∷ bs, refl)
+headed_by false x xs bs = (xs ++ bs, refl)
+
+headed : (mark : ResultMark) (bs : List ℕ) → (ys : List ℕ) × (apart (mark_text mark) bs ≡ head mark ∷ ys)
+headed WhiteWins bs = headed_by (leans (mark_text WhiteWins) && begins_word bs) 49 (45 ∷ 48 ∷ []) bs
+headed BlackWins bs = headed_by (leans (mark_text BlackWins) && begins_word bs) 48 (45 ∷ 49 ∷ []) bs
+headed Draw bs = headed_by (leans (mark_text Draw) && begins_word bs) 49 (47 ∷ 50 ∷ 45 ∷ 49 ∷ 47 ∷ 50 ∷ []) bs
+headed Unknown bs = headed_by (leans (mark_text Unknown) && begins_word bs) 42 [] bs
+
+-- it begins a piece where no word is open
+head_over : (mark : ResultMark) (stage : Stage) → not (room stage == 0) ≡ true → (in_pgn_class WordByte (head mark) ≡ true → (room stage == 1) ≡ false) → next_stage stage (head mark) ≡ Over
+unfolding in_pgn_class
+head_over WhiteWins stage e f = over_is (next_stage stage 49) ((row stage).2 ∙ most_room stage e (f refl))
+head_over BlackWins stage e f = over_is (next_stage stage 48) ((row stage).1 ∙ most_room stage e (f refl))
+head_over Draw stage e f = over_is (next_stage stage 49) ((row stage).2 ∙ most_room stage e (f refl))
+head_over Unknown stage e f = over_is (next_stage stage 42) ((row stage).0 ∙ e)
+
+space_over : (stage : Stage) → not (room stage == 0) ≡ true → next_stage stage 32 ≡ Over
+space_over stage e = over_is (next_stage stage 32) ((row stage).3 e)
+
+-- where it is put, the text before it is read as before
+abbrev Puts : ResultMark → List ℕ → List ℕ → List ℕ → Type 0
+Puts mark front bs whole = (ws : List Placed) × (tokens whole ≡ tokens front ++ ws) × (kinds ws ≡ mark_token mark ∷ Rest bs)
+
+no_lean : (n : ℕ) (v w : Bool) → (n == 1) ≡ v → (n ≡ 1 → w ≡ true) → w ≡ false → (n == 1) ≡ false
+no_lean n false w d e f = d
+no_lean n true w d e f = let g : w ≡ true = e (eqb-true n 1 d) in let no : true ≡ false = sym g ∙ f in cc
+
+left_false : (v w : Bool) → (v && w) ≡ false → w ≡ true → v ≡ false
+left_false true true e f = cc
+left_false true false e f = cc
+left_false false w e f = refl
+
+puts_by : (v : Bool) (mark : ResultMark) (front bs : List ℕ) → not (room (machine front).stage == 0) ≡ true → (leans front && begins_word (apart (mark_text mark) bs)) ≡ v
+    → Puts mark front bs (if v then front ++ 32 ∷ apart (mark_text mark) bs else front ++ apart (mark_text mark) bs)
+puts_by true mark front bs n e =
+    let m : Machine = machine front in
+    let inner = apart (mark_text mark) bs in
+    (
+      tokens_after 0 m.at m.line m.first (32 ∷ inner),
+      boundary front 32 inner (space_over m.stage n),
+      space_kinds m.at m.line m.first inner ∙ then_kinds mark 0 0 false bs,
+    )
+puts_by false mark front bs n e =
+    let m : Machine = machine front in
+    let inner = apart (mark_text mark) bs in
+    let h = headed mark bs in
+    let over : next_stage m.stage (head mark) ≡ Over =
+    head_over mark m.stage n (λ word.
+      no_lean (room m.stage) (room m.stage == 1) (leans front) refl (front_leans front)
+      (left_false (leans front) (begins_word inner) e (ap begins_word h.1 ∙ word))) in
+    (
+      tokens_after 0 m.at m.line m.first inner,
+      ap (λ xs. tokens (front ++ xs)) h.1 ∙ boundary front (head mark) h.0 over ∙ ap (λ xs. tokens front ++ tokens_after 0 m.at m.line m.first xs) (sym h.1),
+      then_kinds mark m.at m.line m.first bs,
+    )
+
+-- the result that stood there
+abbrev Old : Bool → ℕ → List ℕ → Type 0
+Old first b bs =
+    ((b ≡ 42) ⊎ ((b ≡ 48) ⊎ (b ≡ 49)))
+    × ((at line : ℕ) → kinds (tokens_after (piece first b bs).more at line (not (in_class InLine b)) bs) ≡ Rest (drop (piece first b bs).more bs))
+
+old_star : (first : Bool) (b : ℕ) (bs : List ℕ) → (piece first b bs).token ≡ Some Star → Old first b bs
+unfolding in_class
+old_star first b bs e =
+    let s = star_piece first b bs e in
+    (inl s.0, λ at line. rw (s.1, s.0) (kinds_anywhere 0 at line 0 0 false bs))
+
+first_digit : (b : ℕ) (xs : List ℕ) → is_some (mark_of (Word (b ∷ xs))) ≡ true → (b ≡ 48) ⊎ (b ≡ 49)
+unfolding mark_of
+first_digit b xs e = grind (arith, nat_tests)

@@ -232,3 +232,69 @@ old_star first b bs e =
 first_digit : (b : ℕ) (xs : List ℕ) → is_some (mark_of (Word (b ∷ xs))) ≡ true → (b ≡ 48) ⊎ (b ≡ 49)
 unfolding mark_of
 first_digit b xs e = grind (arith, nat_tests)
+
+word_said : (v : Bool) (word word' : List ℕ) → (if v then None else Some (Word word)) ≡ Some (Word word') → word' ≡ word
+word_said true word word' e = cc
+word_said false word word' e = cc
+
+word_told : (word word' : List ℕ) → word_token word ≡ Some (Word word') → word' ≡ word
+unfolding word_token
+word_told word word' e = word_said _ word word' e
+
+old_word : (first : Bool) (b : ℕ) (bs word : List ℕ) → (piece first b bs).token ≡ Some (Word word) → is_some (mark_of (Word word)) ≡ true → Old first b bs
+unfolding word_piece
+old_word first b bs word e marks =
+    let p = word_piece_is first b bs word e in
+    let n = prefix_len (in_pgn_class WordByte) bs in
+    let told : word ≡ b ∷ take 254 (take n bs) = word_told (take 255 (b ∷ take n bs)) word (ap (λ (p : Piece). p.token) (sym p.1) ∙ e) in
+    (
+      inr (first_digit b (take 254 (take n bs)) (ap (λ w. is_some (mark_of (Word w))) (sym told) ∙ marks)),
+      λ at line.
+        ap (λ k. kinds (tokens_after k at line (not (in_class InLine b)) bs)) (ap (λ (p : Piece). p.more) p.1)
+        ∙ ap (λ x. kinds (tokens_after n at line (not x) bs)) (word_in_line b p.0)
+        ∙ word_passed bs at line ∙ ap (λ k. Rest (drop k bs)) (ap (λ (p : Piece). p.more) (sym p.1)),
+    )
+
+old : (first : Bool) (b : ℕ) (bs : List ℕ) (token : Token) → (piece first b bs).token ≡ Some token → is_some (mark_of token) ≡ true → Old first b bs
+unfolding mark_of
+old first b bs (Tag name value cut) e marks = cc
+old first b bs BadTag e marks = cc
+old first b bs (Word word) e marks = old_word first b bs word e marks
+old first b bs Star e marks = old_star first b bs e
+old first b bs Enter e marks = cc
+old first b bs Leave e marks = cc
+old first b bs Bad e marks = cc
+old first b bs Unclosed e marks = cc
+
+no_mark : (b : ℕ) → (b ≡ 42) ⊎ ((b ≡ 48) ⊎ (b ≡ 49)) → ((b == 239) ≡ false) × ((b == 187) ≡ false) × ((b == 191) ≡ false)
+no_mark b (inl e) = rw e (refl, refl, refl)
+no_mark b (inr (inl e)) = rw e (refl, refl, refl)
+no_mark b (inr (inr e)) = rw e (refl, refl, refl)
+
+free : (stage : Stage) (b : ℕ) → (b ≡ 42) ⊎ ((b ≡ 48) ⊎ (b ≡ 49)) → next_stage stage b ≡ Over → not (room stage == 0) ≡ true
+free stage b (inl e) over = sym (row stage).0 ∙ ap (λ x. is_over (next_stage stage x)) (sym e) ∙ ap is_over over
+free stage b (inr (inl e)) over = some_room (room stage) (sym (row stage).1 ∙ ap (λ x. is_over (next_stage stage x)) (sym e) ∙ ap is_over over)
+free stage b (inr (inr e)) over = some_room (room stage) (sym (row stage).2 ∙ ap (λ x. is_over (next_stage stage x)) (sym e) ∙ ap is_over over)
+
+drop_behind : (xs : List ℕ) (b : ℕ) (bs : List ℕ) (k n : ℕ) → k ≡ length xs + 1 + n → drop k (xs ++ b ∷ bs) ≡ drop n bs
+drop_behind [] b bs k n e = let f : k ≡ suc n = omega (arith, e) in rw f refl
+drop_behind (x ∷ xs) b bs k n e = let f : k ≡ suc (length xs + 1 + n) = omega (arith, e) in rw f (drop_behind xs b bs (length xs + 1 + n) n refl)
+
+pub token_replaced : (mark : ResultMark) (bytes : List ℕ) (us : List Placed) (t : Placed) (vs : List Placed) → tokens bytes ≡ us ++ t ∷ vs → is_some (mark_of t.token) ≡ true
+    → (ws : List Placed) × (tokens (with_token mark t.offset t.end bytes) ≡ us ++ ws) × (kinds ws ≡ mark_token mark ∷ kinds vs)
+token_replaced mark bytes us t vs e marks =
+    let f : Found bytes us t vs = found bytes us t vs e (λ first b r g. no_mark b (old first b r t.token g marks).0) in
+    let m : Machine = machine f.front in
+    let p : Piece = piece m.first f.b f.rest in
+    let was = old m.first f.b f.rest t.token f.token_is marks in
+    let bs = drop p.more f.rest in
+    let puts = puts_by (leans f.front && begins_word (apart (mark_text mark) bs)) mark f.front bs (free m.stage f.b was.0 f.over) refl in
+    let before : take t.offset bytes ≡ f.front = ap (λ n. take n bytes) f.offset_is ∙ ap (take (length f.front)) f.bytes_are ∙ take_front f.front (f.b ∷ f.rest) in
+    let after : drop t.end bytes ≡ bs = ap (drop t.end) f.bytes_are ∙ drop_behind f.front f.b f.rest t.end p.more f.end_is in
+    let whole : with_token mark t.offset t.end bytes ≡ apart f.front (apart (mark_text mark) bs) =
+    ap (λ xs. apart xs (apart (mark_text mark) (drop t.end bytes))) before ∙ ap (λ xs. apart f.front (apart (mark_text mark) xs)) after in
+    (
+      puts.0,
+      ap tokens whole ∙ puts.1 ∙ ap (λ xs. xs ++ puts.0) (sym f.us_are),
+      puts.2 ∙ ap (λ ks. mark_token mark ∷ ks) (sym (ap kinds f.vs_are ∙ was.1 (m.at + 1) (line_after m.line f.b))),
+    )

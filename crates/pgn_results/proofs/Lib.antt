@@ -8,3 +8,4 @@ pub mod TagChanges
 pub mod TagReplaced
 pub mod StageRooms
 pub mod TokenReplaced
+pub mod Marked

@@ -9,3 +9,4 @@ pub mod TagReplaced
 pub mod StageRooms
 pub mod TokenReplaced
 pub mod Marked
+pub mod Normal

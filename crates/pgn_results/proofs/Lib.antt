@@ -10,3 +10,4 @@ pub mod StageRooms
 pub mod TokenReplaced
 pub mod Marked
 pub mod Normal
+pub mod SameFields

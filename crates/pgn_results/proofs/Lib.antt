@@ -11,3 +11,4 @@ pub mod TokenReplaced
 pub mod Marked
 pub mod Normal
 pub mod SameFields
+pub mod SameGames

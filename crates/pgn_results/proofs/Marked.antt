@@ -77,8 +77,8 @@ game_by true tagged depth mark bytes us t ts ks d e later =
     rw d (x.0, x.1, x.2 ∙ ap (λ xs. mark_token mark ∷ xs) (kinds_append ts ks))
 game_by false tagged depth mark bytes us t ts ks d e (ws, f, g) =
     rw d (tag_by (is_result_tag t.token && not tagged) mark (with_mark (tagged || is_result_tag t.token) (depth_after depth t.token) mark ts bytes) us t ws
-      (marked_kinds (tagged || is_result_tag t.token) (depth_after depth t.token) mark ts ++ kinds ks)
-      (left_true (is_result_tag t.token) (not tagged)) (f ∙ append_assoc us (t ∷ []) ws) g)
+    (marked_kinds (tagged || is_result_tag t.token) (depth_after depth t.token) mark ts ++ kinds ks)
+    (left_true (is_result_tag t.token) (not tagged)) (f ∙ append_assoc us (t ∷ []) ws) g)
 
 game_reads : (tagged : Bool) (depth : ℕ) (mark : ResultMark) (bytes : List ℕ) (us ts ks : List Placed) → tokens bytes ≡ us ++ (ts ++ ks)
     → Reads (with_mark tagged depth mark ts bytes) us (marked_kinds tagged depth mark ts ++ kinds ks)

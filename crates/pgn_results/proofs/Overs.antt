@@ -118,8 +118,8 @@ going_on a b bs now p e q =
     subst (Off n) (sym whole) (
     All-append (λ (t : Placed). t.offset ≡ n → ⊥) (settled_tokens a) _ (before_off n (settled_tokens a) (settled_before a))
     (All-append (λ (t : Placed). t.offset ≡ n → ⊥) (placed m.start (m'.at + left.more) m'.start_line left.token) _
-      (placed_off n m.start (m'.at + left.more) m'.start_line left.token (omega (arith, strict a p, at_is)))
-      (from_off n _ (subst (λ k. From (k + 1) (tokens_after left.more (m.at + 1) m'.line m'.first bs)) at_is (after_from left.more (m.at + 1) m'.line m'.first bs))))
+    (placed_off n m.start (m'.at + left.more) m'.start_line left.token (omega (arith, strict a p, at_is)))
+    (from_off n _ (subst (λ k. From (k + 1) (tokens_after left.more (m.at + 1) m'.line m'.first bs)) at_is (after_from left.more (m.at + 1) m'.line m'.first bs))))
     )
 
 plain_over : (next : Next) (a : List ℕ) (b : ℕ) (bs : List ℕ) (us : List Placed) (t : Placed) (vs : List Placed) → is_plain (machine a).stage ≡ true → next_stage (machine a).stage b ≡ next

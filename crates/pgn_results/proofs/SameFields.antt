@@ -29,11 +29,11 @@ says mark bad unclosed cut variant fen termination words = record {
   flag_fell = passes says_flag_fell termination;
   words = take 12001 words;
   fault = option_map placeless_fault (
-  option_or (if bad then Some (BadToken 0) else None) (
-  option_or (fault_if unclosed Unclosed) (
-  option_or (fault_if cut ValueTooLong) (
-  option_or (fault_if (passes (λ value. not (says_chess value)) variant) Variant) (
-  option_or (start_fault fen) (fault_if (nat_lt 12000 (length words)) TooManyPlies))))));
+      option_or (if bad then Some (BadToken 0) else None) (
+      option_or (fault_if unclosed Unclosed) (
+      option_or (fault_if cut ValueTooLong) (
+      option_or (fault_if (passes (λ value. not (says_chess value)) variant) Variant) (
+      option_or (start_fault fen) (fault_if (nat_lt 12000 (length words)) TooManyPlies))))));
 }
 
 fault_by : (o : Option ℕ) (rest : Option GameFault) → option_map placeless_fault (option_or (option_map BadToken o) rest) ≡ option_map placeless_fault (option_or (if is_some o then Some (BadToken 0) else None) rest)

@@ -101,10 +101,9 @@ tag_replaced mark bytes us t vs name value cut e is =
     ap (λ b. piece m.first b rest') inv.0 ∙ bracket_by m.first rest' ∙ reads_changed mark rest' t' alters.0 ∙ ap (λ n. spoken_piece (Tag n (mark_text mark) false) (length rest' - length t'.rest)) tag.2 in
     let old : kinds vs ≡ kinds (tokens_after 0 0 0 false t'.rest) =
     ap kinds f.vs_are ∙ ap (λ n. kinds (tokens_after n (m.at + 1) (line_after m.line f.b) (not (in_class InLine f.b)) f.rest)) (ap (λ (p : Piece). p.more) inv.1 ∙ tag.3)
-    ∙ behind_tag f.rest t'.rest (m.at + 1) (line_after m.line f.b) (not (in_class InLine f.b)) alters.1 in
-    (
+    ∙ behind_tag f.rest t'.rest (m.at + 1) (line_after m.line f.b) (not (in_class InLine f.b)) alters.1 in (
       ws,
       ap tokens bytes' ∙ boundary f.front f.b rest' f.over ∙ ap (λ xs. xs ++ ws) (sym f.us_are),
       piece_kinds m.at m.line m.first f.b rest' (Tag name (mark_text mark) false) (length rest' - length t'.rest) p'
-      ∙ ap (λ ks. Tag name (mark_text mark) false ∷ ks) (behind_tag rest' t'.rest (m.at + 1) (line_after m.line f.b) (not (in_class InLine f.b)) again.1 ∙ sym old),
+          ∙ ap (λ ks. Tag name (mark_text mark) false ∷ ks) (behind_tag rest' t'.rest (m.at + 1) (line_after m.line f.b) (not (in_class InLine f.b)) again.1 ∙ sym old),
     )

@@ -119,11 +119,11 @@ word_kinds at line first b xs bs digit l all none is =
     let p : piece first b (xs ++ bs) ≡ spoken_piece (Word (b ∷ xs)) (prefix_len (in_pgn_class WordByte) (xs ++ bs)) =
     digit_piece first b (xs ++ bs) digit
     ∙ ap (λ (o : Option Token). record { more = prefix_len (in_pgn_class WordByte) (xs ++ bs); token = o })
-      (ap (λ k. word_token (take 255 (b ∷ take k (xs ++ bs)))) n ∙ ap (λ ys. word_token (take 255 (b ∷ ys))) (take_front xs bs) ∙ is) in
+    (ap (λ k. word_token (take 255 (b ∷ take k (xs ++ bs)))) n ∙ ap (λ ys. word_token (take 255 (b ∷ ys))) (take_front xs bs) ∙ is) in
     piece_kinds at line first b (xs ++ bs) (Word (b ∷ xs)) (prefix_len (in_pgn_class WordByte) (xs ++ bs)) p
     ∙ ap (λ ks. Word (b ∷ xs) ∷ ks) (
-      ap (λ x. kinds (tokens_after (prefix_len (in_pgn_class WordByte) (xs ++ bs)) (at + 1) (line_after line b) (not x) (xs ++ bs))) l
-      ∙ word_passed (xs ++ bs) (at + 1) (line_after line b) ∙ ap (λ k. Rest (drop k (xs ++ bs))) n ∙ ap Rest (drop_front xs bs)
+    ap (λ x. kinds (tokens_after (prefix_len (in_pgn_class WordByte) (xs ++ bs)) (at + 1) (line_after line b) (not x) (xs ++ bs))) l
+    ∙ word_passed (xs ++ bs) (at + 1) (line_after line b) ∙ ap (λ k. Rest (drop k (xs ++ bs))) n ∙ ap Rest (drop_front xs bs)
     )
 
 -- the text of a result, and what follows it
@@ -197,8 +197,7 @@ puts_by : (v : Bool) (mark : ResultMark) (front bs : List ℕ) → not (room (ma
     → Puts mark front bs (if v then front ++ 32 ∷ apart (mark_text mark) bs else front ++ apart (mark_text mark) bs)
 puts_by true mark front bs n e =
     let m : Machine = machine front in
-    let inner = apart (mark_text mark) bs in
-    (
+    let inner = apart (mark_text mark) bs in (
       tokens_after 0 m.at m.line m.first (32 ∷ inner),
       boundary front 32 inner (space_over m.stage n),
       space_kinds m.at m.line m.first inner ∙ then_kinds mark 0 0 false bs,
@@ -209,9 +208,8 @@ puts_by false mark front bs n e =
     let h = headed mark bs in
     let over : next_stage m.stage (head mark) ≡ Over =
     head_over mark m.stage n (λ word.
-      no_lean (room m.stage) (room m.stage == 1) (leans front) refl (front_leans front)
-      (left_false (leans front) (begins_word inner) e (ap begins_word h.1 ∙ word))) in
-    (
+    no_lean (room m.stage) (room m.stage == 1) (leans front) refl (front_leans front)
+    (left_false (leans front) (begins_word inner) e (ap begins_word h.1 ∙ word))) in (
       tokens_after 0 m.at m.line m.first inner,
       ap (λ xs. tokens (front ++ xs)) h.1 ∙ boundary front (head mark) h.0 over ∙ ap (λ xs. tokens front ++ tokens_after 0 m.at m.line m.first xs) (sym h.1),
       then_kinds mark m.at m.line m.first bs,
@@ -246,13 +244,12 @@ unfolding word_piece
 old_word first b bs word e marks =
     let p = word_piece_is first b bs word e in
     let n = prefix_len (in_pgn_class WordByte) bs in
-    let told : word ≡ b ∷ take 254 (take n bs) = word_told (take 255 (b ∷ take n bs)) word (ap (λ (p : Piece). p.token) (sym p.1) ∙ e) in
-    (
+    let told : word ≡ b ∷ take 254 (take n bs) = word_told (take 255 (b ∷ take n bs)) word (ap (λ (p : Piece). p.token) (sym p.1) ∙ e) in (
       inr (first_digit b (take 254 (take n bs)) (ap (λ w. is_some (mark_of (Word w))) (sym told) ∙ marks)),
       λ at line.
-        ap (λ k. kinds (tokens_after k at line (not (in_class InLine b)) bs)) (ap (λ (p : Piece). p.more) p.1)
-        ∙ ap (λ x. kinds (tokens_after n at line (not x) bs)) (word_in_line b p.0)
-        ∙ word_passed bs at line ∙ ap (λ k. Rest (drop k bs)) (ap (λ (p : Piece). p.more) (sym p.1)),
+          ap (λ k. kinds (tokens_after k at line (not (in_class InLine b)) bs)) (ap (λ (p : Piece). p.more) p.1)
+          ∙ ap (λ x. kinds (tokens_after n at line (not x) bs)) (word_in_line b p.0)
+          ∙ word_passed bs at line ∙ ap (λ k. Rest (drop k bs)) (ap (λ (p : Piece). p.more) (sym p.1)),
     )
 
 old : (first : Bool) (b : ℕ) (bs : List ℕ) (token : Token) → (piece first b bs).token ≡ Some token → is_some (mark_of token) ≡ true → Old first b bs
@@ -292,8 +289,7 @@ token_replaced mark bytes us t vs e marks =
     let before : take t.offset bytes ≡ f.front = ap (λ n. take n bytes) f.offset_is ∙ ap (take (length f.front)) f.bytes_are ∙ take_front f.front (f.b ∷ f.rest) in
     let after : drop t.end bytes ≡ bs = ap (drop t.end) f.bytes_are ∙ drop_behind f.front f.b f.rest t.end p.more f.end_is in
     let whole : with_token mark t.offset t.end bytes ≡ apart f.front (apart (mark_text mark) bs) =
-    ap (λ xs. apart xs (apart (mark_text mark) (drop t.end bytes))) before ∙ ap (λ xs. apart f.front (apart (mark_text mark) xs)) after in
-    (
+    ap (λ xs. apart xs (apart (mark_text mark) (drop t.end bytes))) before ∙ ap (λ xs. apart f.front (apart (mark_text mark) xs)) after in (
       puts.0,
       ap tokens whole ∙ puts.1 ∙ ap (λ xs. xs ++ puts.0) (sym f.us_are),
       puts.2 ∙ ap (λ ks. mark_token mark ∷ ks) (sym (ap kinds f.vs_are ∙ was.1 (m.at + 1) (line_after m.line f.b))),

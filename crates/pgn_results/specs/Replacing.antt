@@ -68,4 +68,4 @@ with_mark tagged depth mark [] bytes = bytes
 with_mark tagged depth mark (t ∷ ts) bytes =
     if is_result_at depth t.token then with_token mark t.offset t.end bytes
     else with_tag_if (is_result_tag t.token && not tagged) mark t.offset
-      (with_mark (tagged || is_result_tag t.token) (depth_after depth t.token) mark ts bytes)
+    (with_mark (tagged || is_result_tag t.token) (depth_after depth t.token) mark ts bytes)

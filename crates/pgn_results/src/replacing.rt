@@ -71,7 +71,12 @@ fn join_apart(alloc: Global, front: &[u8], back: &[u8]) -> Result<Text, NoMemory
 }
 
 /// A text with a result in place of a token.
-fn with_token(alloc: Global, mark: ResultMark, token: Extent, bytes: &[u8]) -> Result<Text, NoMemory>
+fn with_token(
+    alloc: Global,
+    mark: ResultMark,
+    token: Extent,
+    bytes: &[u8],
+) -> Result<Text, NoMemory>
     ensures { IfOk result (λ text. text ≡ with_token_of mark token.start token.end bytes.now) }
 {
     let mut told = Text::new(alloc);
@@ -81,7 +86,12 @@ fn with_token(alloc: Global, mark: ResultMark, token: Extent, bytes: &[u8]) -> R
 }
 
 /// A text with a result in place of a token, if there is one.
-fn with_token_there(alloc: Global, mark: ResultMark, token: Option<Extent>, bytes: &[u8]) -> Result<Text, NoMemory>
+fn with_token_there(
+    alloc: Global,
+    mark: ResultMark,
+    token: Option<Extent>,
+    bytes: &[u8],
+) -> Result<Text, NoMemory>
     ensures { IfOk result (λ text. text ≡ with_token_there mark token bytes.now) }
 {
     match token {
@@ -91,7 +101,12 @@ fn with_token_there(alloc: Global, mark: ResultMark, token: Option<Extent>, byte
 }
 
 /// Appends a text with a result as the value of a tag pair, if there is one.
-fn put_with_tag(mark: ResultMark, tag: Option<u64>, bytes: &[u8], text: &mut Text) -> Result<(), NoMemory>
+fn put_with_tag(
+    mark: ResultMark,
+    tag: Option<u64>,
+    bytes: &[u8],
+    text: &mut Text,
+) -> Result<(), NoMemory>
     ensures { OnOk result (text.new ≡ text.old ++ with_tag_there mark tag bytes.now) }
 {
     match tag {

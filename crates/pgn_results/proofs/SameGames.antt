@@ -16,9 +16,9 @@ use Rattle.pgn_games.specs.Cutting.{mark_of, depth_after, cut}
 use Rattle.pgn_games.specs.Fields.{outside, value_named, tag_value, recorded_in, move_words, first_bad, is_cut}
 use Rattle.pgn_games.specs.Games.{is_open, fault_if, fault_of, game_of, games}
 use Rattle.pgn_games.proofs.EachToken.{none_lost}
-use Rattle.pgn_results.specs.Replacing.{mark_text, is_result_tag, is_result_at}
+use Rattle.pgn_results.specs.Replacing.{mark_text, is_result_tag, is_result_at, has_result}
 use Rattle.pgn_results.specs.Correcting.{corrected_games, corrected}
-use Rattle.pgn_results.specs.Kept.{told_with, told, has_result, told_games, OnlyReadable}
+use Rattle.pgn_results.specs.Kept.{told_with, told, told_games, OnlyReadable}
 use Rattle.pgn_results.proofs.TokenKinds.{kinds, kinds_append}
 use Rattle.pgn_results.proofs.TokenReplaced.{mark_token}
 use Rattle.pgn_results.proofs.Marked.{retold, marked_kinds, expected, joined, all_read}

@@ -1,17 +1,10 @@
 -- A text whose games have other results.
-use Rattle.std.specs.Prelude.{◌≡◌, ℕ, Bool, true, false, List, [], ◌∷◌, map, Option, Some, None, ⊤}
-use Rattle.std.specs.Option.{option_map}
-use Rattle.std.specs.List.{list_any}
+use Rattle.std.specs.Prelude.{ℕ, false, List, [], ◌∷◌, Option, Some, None}
 use Rattle.pgn_lex.specs.declared.kinds.Placed.{Placed}
 use Rattle.pgn_lex.specs.Tokens.{tokens}
-use Rattle.pgn_games.specs.declared.faults.GameFault.{GameFault}
 use Rattle.pgn_games.specs.declared.marks.ResultMark.{ResultMark}
-use Rattle.pgn_games.specs.declared.played.Game.{Game}
 use Rattle.pgn_games.specs.declared.token_turns.Place.TheVariants.{Before}
-use Rattle.pgn_games.specs.Cutting.{mark_of, cut}
-use Rattle.pgn_games.specs.Fields.{outside}
-use Rattle.pgn_games.specs.Games.{game_of}
-use Rattle.pgn_games.specs.Moving.{moved_fault}
+use Rattle.pgn_games.specs.Cutting.{cut}
 use Rattle.pgn_results.specs.Replacing.{with_mark}
 
 -- a text in which those of these games that a mark is given to have it as their result

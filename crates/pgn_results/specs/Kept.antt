@@ -1,15 +1,13 @@
 -- What games keep where their results are changed.
-use Rattle.std.specs.Prelude.{◌≡◌, ℕ, Bool, true, false, if◌then◌else◌, List, [], ◌∷◌, map, Option, Some, None, is_some, ⊤}
+use Rattle.std.specs.Prelude.{◌≡◌, if◌then◌else◌, List, [], ◌∷◌, Option, Some, None, ⊤}
 use Rattle.std.specs.Option.{option_map}
-use Rattle.std.specs.List.{list_any}
 use Rattle.pgn_lex.specs.declared.kinds.Placed.{Placed}
 use Rattle.pgn_games.specs.declared.faults.GameFault.{GameFault}
 use Rattle.pgn_games.specs.declared.faults.GameFault.TheVariants.{BadToken}
 use Rattle.pgn_games.specs.declared.marks.ResultMark.{ResultMark}
 use Rattle.pgn_games.specs.declared.played.Game.{Game}
-use Rattle.pgn_games.specs.Cutting.{mark_of}
-use Rattle.pgn_games.specs.Fields.{outside}
 use Rattle.pgn_games.specs.Games.{game_of}
+use Rattle.pgn_results.specs.Replacing.{has_result}
 
 -- a fault, but for where it stands
 abbrev pub placeless_fault : GameFault → GameFault
@@ -30,10 +28,6 @@ told_with mark game = record {
 -- what a game says, but for where its fault stands
 abbrev pub told : Game → Game
 told game = told_with game.recorded game
-
--- a result ends these tokens
-unfoldable pub has_result : List Placed → Bool
-has_result slice = list_any (λ t. is_some (mark_of t.token)) (outside 0 slice)
 
 -- what the games of these tokens say with the marks that are given to them: a game that no result ends keeps what it has, which is none
 unfoldable pub told_games : List (List Placed) → List (Option ResultMark) → List Game

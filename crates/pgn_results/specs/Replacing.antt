@@ -1,14 +1,15 @@
 -- A result in place of the one that a game's text tells.
-use Rattle.std.specs.Prelude.{ℕ, zero, ◌==◌, Bool, true, false, not, ◌&&◌, ◌||◌, if◌then◌else◌, List, [], ◌∷◌, ◌++◌, take, drop, Option, Some, None, is_some, codes}
-use Rattle.std.specs.List.{fold}
+use Rattle.std.specs.Prelude.{ℕ, ◌==◌, Bool, true, false, not, ◌&&◌, ◌||◌, if◌then◌else◌, List, [], ◌∷◌, ◌++◌, take, drop, Option, Some, None, is_some, codes}
+use Rattle.std.specs.List.{fold, list_any}
 use Rattle.pgn_lex.specs.declared.classes.PgnClass.TheVariants.{WordByte}
 use Rattle.pgn_lex.specs.Classes.{in_pgn_class}
 use Rattle.pgn_lex.specs.declared.kinds.Token.{Token}
 use Rattle.pgn_lex.specs.declared.kinds.Placed.{Placed}
+use Rattle.pgn_lex.specs.Tokens.{tokens}
 use Rattle.pgn_games.specs.declared.marks.ResultMark.{ResultMark}
 use Rattle.pgn_games.specs.declared.marks.ResultMark.TheVariants.{WhiteWins, BlackWins, Draw, Unknown}
 use Rattle.pgn_games.specs.Cutting.{mark_of, depth_after}
-use Rattle.pgn_games.specs.Fields.{value_named}
+use Rattle.pgn_games.specs.Fields.{outside, value_named}
 
 -- the bytes that tell a result (PGN standard, 8.1.1.7 and 8.2.6)
 abbrev pub mark_text : ResultMark → List ℕ
@@ -69,3 +70,22 @@ with_mark tagged depth mark (t ∷ ts) bytes =
     if is_result_at depth t.token then with_token mark t.offset t.end bytes
     else with_tag_if (is_result_tag t.token && not tagged) mark t.offset
     (with_mark (tagged || is_result_tag t.token) (depth_after depth t.token) mark ts bytes)
+
+-- a result outside variations stands among these tokens
+unfoldable pub has_result : List Placed → Bool
+has_result slice = list_any (λ t. is_some (mark_of t.token)) (outside 0 slice)
+
+-- a result is told by a word
+abbrev pub is_word : ResultMark → Bool
+is_word WhiteWins = true
+is_word BlackWins = true
+is_word Draw = true
+is_word Unknown = false
+
+-- the space that follows a game with another result, where the next byte would go on with its word
+abbrev pub space_behind : ResultMark → List Placed → List ℕ → List ℕ
+space_behind mark slice behind = if has_result slice && (is_word mark && begins_word behind) then 32 ∷ [] else []
+
+-- the bytes of one game with another result, from its first token to its last, where these follow
+abbrev pub game_with_mark : ResultMark → List ℕ → List ℕ → List ℕ
+game_with_mark mark game behind = with_mark false 0 mark (tokens game) game ++ space_behind mark (tokens game) behind

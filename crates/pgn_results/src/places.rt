@@ -1,9 +1,9 @@
 //! Where a game tells its result.
 
-ghost use Rattle.std.specs.Prelude.{◌≡◌, List, ℕ, false};
+ghost use Rattle.std.specs.Prelude.{◌≡◌, List, ℕ, false, is_some};
 ghost use Rattle.pgn_games.specs.declared.marks.ResultMark.{ResultMark};
 ghost use Rattle.pgn_results.specs.Places.{with_places};
-ghost use Rattle.pgn_results.specs.Replacing.{is_result_tag as is_result_tag_of, is_result_at, with_mark};
+ghost use Rattle.pgn_results.specs.Replacing.{is_result_tag as is_result_tag_of, is_result_at, has_result, with_mark};
 
 use pgn_games::{deeper, mark};
 use pgn_lex::{Placed, Token};
@@ -43,9 +43,10 @@ fn ends_game(depth: usize, token: &Token) -> bool
 }
 
 /// Where the game of these tokens tells its result.
-#[tactic(auto, unfolding(crate::specs::Replacing::with_mark))]
+#[tactic(auto, unfolding(crate::specs::Replacing::with_mark, crate::specs::Replacing::has_result, pgn_games::specs::Fields::outside))]
 pub fn result_places(tokens: &[Placed]) -> ResultPlaces
-    ensures { (mark : ResultMark) → (bytes : List ℕ) → with_mark false 0 mark tokens.now bytes ≡ with_places mark result bytes }
+    ensures places { (mark : ResultMark) → (bytes : List ℕ) → with_mark false 0 mark tokens.now bytes ≡ with_places mark result bytes }
+    ensures ends { is_some result.token ≡ has_result tokens.now }
 {
     let mut tag = None;
     let mut depth = 0;

@@ -1,11 +1,10 @@
 //! The text of a game with another result.
 
-ghost use Rattle.std.specs.Prelude.{◌≡◌, ◌==◌, ◌||◌, ◌++◌, OnOk, IfOk, take, drop, false};
+ghost use Rattle.std.specs.Prelude.{◌≡◌, ◌==◌, ◌||◌, ◌++◌, OnOk, IfOk, take, drop};
 ghost use Rattle.pgn_lex.specs.declared.classes.PgnClass.TheVariants.{WordByte};
 ghost use Rattle.pgn_lex.specs.Classes.{in_pgn_class};
-ghost use Rattle.pgn_lex.specs.Tokens.{tokens};
 ghost use Rattle.pgn_results.specs.Places.{with_token_there, with_tag_there};
-ghost use Rattle.pgn_results.specs.Replacing.{mark_text, leans as leans_of, begins_word as begins_word_of, apart, with_token as with_token_of, with_tag as with_tag_of, with_mark};
+ghost use Rattle.pgn_results.specs.Replacing.{leans as leans_of, begins_word as begins_word_of, apart, with_token as with_token_of, is_word as is_word_of, game_with_mark};
 
 use crate::places::{Extent, result_places};
 use crate::quotes::{put_mark, put_with_value};
@@ -118,10 +117,24 @@ fn put_with_tag(
     }
 }
 
-/// Appends the bytes of a game with another result, and what stands behind it.
+/// Whether a result is told by a word.
+fn is_word(mark: ResultMark) -> bool
+    ensures { result ≡ is_word_of mark }
+{
+    match mark {
+        ResultMark::WhiteWins => true,
+        ResultMark::BlackWins => true,
+        ResultMark::Draw => true,
+        ResultMark::Unknown => false,
+    }
+}
+
+/// Appends the bytes of a game with another result.
 ///
-/// `game` has the bytes of one game, from its first token to its last, and `behind` those behind it. The value of its first tag pair
-/// `Result` and the result that ends it are replaced; where one of them is missing, only the other is. The only error is want of memory.
+/// `game` has the bytes of one game, from its first token to its last, and `behind` begins with the byte that follows, if there is one;
+/// it is not appended. The value of the first tag pair `Result` is replaced, and the result that ends the game; where one of them is
+/// missing, only the other is. All other bytes stay. A space is put beside a result only where a star was and a word touches it, as in
+/// `e4*`. The only error is want of memory.
 pub fn put_with_mark(
     alloc: Global,
     mark: ResultMark,
@@ -129,12 +142,14 @@ pub fn put_with_mark(
     behind: &[u8],
     text: &mut Text,
 ) -> Result<(), NoMemory>
-    ensures { OnOk result (text.new ≡ text.old ++ with_mark false 0 mark (tokens game.now) (game.now ++ behind.now)) }
+    ensures { OnOk result (text.new ≡ text.old ++ game_with_mark mark game.now behind.now) }
 {
     let tokens = tokens_of(alloc, game)?;
     let places = result_places(tokens.as_slice());
-    let mut whole = text_of(alloc, game)?;
-    whole.append(behind)?;
-    let ended = with_token_there(alloc, mark, places.token, whole.items())?;
-    put_with_tag(mark, places.tag, ended.items(), text)
+    let ended = with_token_there(alloc, mark, places.token, game)?;
+    put_with_tag(mark, places.tag, ended.items(), text)?;
+    if places.token.is_some() && is_word(mark) && begins_word(behind) {
+        text.append(b" ")?;
+    }
+    Ok(())
 }

@@ -15,19 +15,21 @@ use Rattle.pgn_games.specs.declared.token_turns.Place.TheVariants.{Before, Tags,
 use Rattle.pgn_games.specs.declared.token_turns.Turn.{Turn}
 use Rattle.pgn_games.specs.declared.token_turns.Turn.TheVariants.{Stays, Ends, Begins}
 use Rattle.pgn_games.specs.Cutting.{mark_of, depth_after, turn, place_after, onto, put, cut}
-use Rattle.pgn_games.specs.Fields.{outside, depth_at_end, value_named, tag_value, move_word, move_words, is_bad, bad_offset, first_bad, is_unclosed, is_cut, says_forfeit, says_flag_fell, says_chess, passes}
-use Rattle.pgn_games.specs.Games.{is_open, start_of, start_fault, fault_if, fault_of, game_of}
+use Rattle.pgn_games.specs.Fields.{outside, depth_at_end, value_named, tag_value, move_word, move_words, is_bad, bad_offset, first_bad, before_bad, sound_words, is_unclosed, is_cut, says_forfeit, says_flag_fell, says_chess, passes}
+use Rattle.pgn_games.specs.Games.{is_open, start_of, start_fault, fault_if, fault_of, has_bad_tag, words_before_fault, game_of}
 use Rattle.pgn_games.proofs.Cuts.{cut_step}
 use Rattle.pgn_results.specs.Kept.{placeless_fault, told_with}
 
 -- what a game says, from what its tokens do
-abbrev pub says : ResultMark → Bool → Bool → Bool → Option (List ℕ) → Option (List ℕ) → Option (List ℕ) → List (List ℕ) → Game
-says mark bad unclosed cut variant fen termination words = record {
+abbrev pub says : ResultMark → Bool → Bool → Bool → Option (List ℕ) → Option (List ℕ) → Option (List ℕ) → List (List ℕ) → List (List ℕ) → Game
+says mark bad unclosed cut variant fen termination words sound = record {
   start = start_of fen;
   recorded = mark;
   forfeit = passes says_forfeit termination;
   flag_fell = passes says_flag_fell termination;
   words = take 12001 words;
+  before_fault =
+      if cut || passes (λ value. not (says_chess value)) variant || is_some (start_fault fen) then None else Some (length (take 12000 sound));
   fault = option_map placeless_fault (
       option_or (if bad then Some (BadToken 0) else None) (
       option_or (fault_if unclosed Unclosed) (
@@ -41,8 +43,8 @@ fault_by None rest = refl
 fault_by (Some x) rest = refl
 
 pub said : (mark : ResultMark) (ts : List Placed) → told_with mark (game_of ts)
-    ≡ says mark (is_some (first_bad ts)) (is_open ts) (list_any (λ (t : Placed). is_cut t.token) ts) (tag_value (codes "Variant") ts) (tag_value (codes "FEN") ts) (tag_value (codes "Termination") ts) (move_words ts)
-unfolding game_of fault_of
+    ≡ says mark (is_some (first_bad ts)) (is_open ts) (list_any (λ (t : Placed). is_cut t.token) ts) (tag_value (codes "Variant") ts) (tag_value (codes "FEN") ts) (tag_value (codes "Termination") ts) (move_words ts) (sound_words ts)
+unfolding game_of fault_of words_before_fault has_bad_tag
 said mark ts = rw (fault_by (first_bad ts) _) refl
 
 -- a token without its place, after a change
@@ -101,6 +103,23 @@ module _ (f : Token → Token) where
       → move_words (map (plain f) ts) ≡ move_words ts
   unfolding move_words
   words_plain same_depth same ts = ap (filter_map (λ (t : Placed). move_word t.token)) (outside_plain same_depth 0 ts) ∙ same_tokens move_word same (outside 0 ts)
+
+  before_plain : ((token : Token) → is_bad (f token) ≡ is_bad token) → (ts : List Placed) → before_bad (map (plain f) ts) ≡ map (plain f) (before_bad ts)
+  unfolding before_bad
+  before_plain same [] = refl
+  before_plain same (t ∷ ts) = ap (λ b. if b then [] else plain f t ∷ before_bad (map (plain f) ts)) (same t.token) ∙ by_test (is_bad t.token) (before_plain same ts)
+    where
+      by_test : (bad : Bool) → before_bad (map (plain f) ts) ≡ map (plain f) (before_bad ts) → (if bad then [] else plain f t ∷ before_bad (map (plain f) ts)) ≡ map (plain f) (if bad then [] else t ∷ before_bad ts)
+      by_test true e = refl
+      by_test false e = ap (λ us. plain f t ∷ us) e
+
+  pub sound_plain : ((depth : ℕ) (token : Token) → depth_after depth (f token) ≡ depth_after depth token) → ((token : Token) → is_bad (f token) ≡ is_bad token)
+      → ((token : Token) → move_word (f token) ≡ move_word token) → (ts : List Placed) → sound_words (map (plain f) ts) ≡ sound_words ts
+  unfolding sound_words
+  sound_plain same_depth same_bad same ts =
+      ap (λ us. filter_map (λ (t : Placed). move_word t.token) (before_bad us)) (outside_plain same_depth 0 ts)
+      ∙ ap (filter_map (λ (t : Placed). move_word t.token)) (before_plain same_bad (outside 0 ts))
+      ∙ same_tokens move_word same (before_bad (outside 0 ts))
 
   pub open_plain : ((depth : ℕ) (token : Token) → depth_after depth (f token) ≡ depth_after depth token) → ((token : Token) → is_unclosed (f token) ≡ is_unclosed token) → (ts : List Placed)
       → is_open (map (plain f) ts) ≡ is_open ts

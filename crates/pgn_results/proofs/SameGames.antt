@@ -13,7 +13,7 @@ use Rattle.pgn_games.specs.declared.marks.ResultMark.TheVariants.{WhiteWins, Bla
 use Rattle.pgn_games.specs.declared.played.Game.{Game}
 use Rattle.pgn_games.specs.declared.token_turns.Place.TheVariants.{Before}
 use Rattle.pgn_games.specs.Cutting.{mark_of, depth_after, cut}
-use Rattle.pgn_games.specs.Fields.{outside, value_named, tag_value, recorded_in, move_words, first_bad, is_cut}
+use Rattle.pgn_games.specs.Fields.{outside, value_named, tag_value, recorded_in, move_words, sound_words, first_bad, is_cut}
 use Rattle.pgn_games.specs.Games.{is_open, fault_if, fault_of, game_of, games}
 use Rattle.pgn_games.proofs.EachToken.{none_lost}
 use Rattle.pgn_results.specs.Replacing.{mark_text, is_result_tag, is_result_at, has_result}
@@ -23,7 +23,7 @@ use Rattle.pgn_results.proofs.TokenKinds.{kinds, kinds_append}
 use Rattle.pgn_results.proofs.TokenReplaced.{mark_token}
 use Rattle.pgn_results.proofs.Marked.{retold, marked_kinds, expected, joined, all_read}
 use Rattle.pgn_results.proofs.Normal.{normal, normal_depth, normal_bad, normal_unclosed, normal_word, normal_value, normal_turn, marked_normal, expected_normal}
-use Rattle.pgn_results.proofs.SameFields.{says, said, plain, same_tokens, outside_plain, tag_plain, bad_plain, words_plain, open_plain, cut_plain}
+use Rattle.pgn_results.proofs.SameFields.{says, said, plain, same_tokens, outside_plain, tag_plain, bad_plain, words_plain, sound_plain, open_plain, cut_plain}
 
 -- a token without its place
 abbrev bare : Token → Placed
@@ -58,7 +58,8 @@ same_said mark xs ys e cut_same =
     let fen = bridge (tag_value (codes "FEN")) (tag_plain normal (codes "FEN") (λ k. normal_value (codes "FEN") k refl)) xs ys p in
     let termination = bridge (tag_value (codes "Termination")) (tag_plain normal (codes "Termination") (λ k. normal_value (codes "Termination") k refl)) xs ys p in
     let words = bridge move_words (words_plain normal normal_depth normal_word) xs ys p in
-    said mark xs ∙ (rw (bad, unclosed, cut_same, variant, fen, termination, words) refl) ∙ sym (said mark ys)
+    let sound = bridge sound_words (sound_plain normal normal_depth normal_bad normal_word) xs ys p in
+    said mark xs ∙ (rw (bad, unclosed, cut_same, variant, fen, termination, words, sound) refl) ∙ sym (said mark ys)
 
 -- the first result outside variations
 first_mark : ℕ → List Placed → Option ResultMark

@@ -22,6 +22,7 @@ told_with mark game = record {
   forfeit = game.forfeit;
   flag_fell = game.flag_fell;
   words = game.words;
+  before_fault = game.before_fault;
   fault = option_map placeless_fault game.fault;
 }
 

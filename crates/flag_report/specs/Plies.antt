@@ -4,17 +4,15 @@ use Rattle.cha_board.specs.Board.{Board}
 use Rattle.cha_fen.specs.Written.{fen_text}
 use Rattle.cha_moves.specs.Step.{Move}
 use Rattle.cha_moves.specs.Moves.{after}
-use Rattle.cha_moves.specs.Texts.{move_bytes}
-use Rattle.cha_san.specs.Writing.{san_text}
 use Rattle.cha_outcome.specs.declared.items.ReplayedGame.{ReplayedGame}
 use Rattle.cha_outcome.specs.declared.unreadable.Unreadable.{Unreadable}
 use Rattle.report_words.specs.Counts.{count_text}
 use Rattle.report_words.specs.Reasons.{reason_text}
-use Rattle.flag_report.specs.Findings.{line, fen_line}
+use Rattle.flag_report.specs.Findings.{line, moves_text, words_text, fen_line}
 
 -- a move in a position, under its number: in both notations, and the position after it
 unfoldable pub ply_text : ℕ → Board → Move → List ℕ
-ply_text number q m = line (count_text (codes "ply ") number ++ codes ": " ++ move_bytes m ++ codes " " ++ san_text q m ++ codes " " ++ fen_text (after q m))
+ply_text number q m = line (count_text (codes "ply ") number ++ codes ":" ++ moves_text (m ∷ []) ++ words_text q (m ∷ []) ++ codes " " ++ fen_text (after q m))
 
 -- moves that are made one after the other, numbered from here on
 unfoldable pub ply_texts : ℕ → Board → List Move → List ℕ

@@ -5,13 +5,13 @@ ghost use Rattle.cha_moves.specs.Moves.{legal};
 ghost use Rattle.cha_outcome.specs.LegalMoves.{AreLegal, AreLegalFrom};
 ghost use Rattle.flag_report.specs.Plies.{ply_text, ply_texts, moves_part, unreadable_line, why_part, replay_text};
 
-use crate::findings::put_fen;
+use crate::findings::{put_fen, put_notated};
+use crate::forms::Notation;
 use cha_board::Position;
 use cha_fen::write;
 use cha_list::{NoMemory, Text};
-use cha_moves::{Move, after, move_text};
+use cha_moves::{Move, after};
 use cha_outcome::{ReplayedGame, Unreadable};
-use cha_san::san;
 use report_words::{put_count, put_reason};
 use std::alloc::Global;
 
@@ -27,13 +27,11 @@ fn put_ply(
     requires { Contains (legal position.now) m }
     ensures { OnOk result (text.new ≡ text.old ++ ply_text number position.now m) }
 {
-    let word = san(alloc, position, m)?;
     let fen = write(alloc, &after(position, m))?;
     put_count(alloc, b"ply ", number, text)?;
-    text.append(b": ")?;
-    text.append(move_text(m).as_bytes())?;
-    text.append(b" ")?;
-    text.append(word.items())?;
+    text.append(b":")?;
+    put_notated(alloc, Notation::Coordinates, position, &[m], text)?;
+    put_notated(alloc, Notation::San, position, &[m], text)?;
     text.append(b" ")?;
     text.append(fen.items())?;
     text.append(b"\n")?;

@@ -1,10 +1,11 @@
 -- How deep the lines of a report nest.
-use Rattle.std.proofs.Common.{◌≡◌, ◌≤◌, ℕ, zero, suc, ◌+◌, max, Bool, true, false, List, [], ◌∷◌, Option, Some, None, refl, arith}
+use Rattle.std.proofs.Common.{◌≤◌, ℕ, ◌+◌, Bool, true, false, List, [], ◌∷◌, length, map, Option, Some, None, arith}
 use Rattle.cha_board.specs.declared.men.Color.{Color}
 use Rattle.cha_board.specs.declared.men.Color.TheVariants.{White, Black}
 use Rattle.cha_board.specs.Board.{Board}
 use Rattle.cha_moves.specs.Step.{Move}
 use Rattle.cha_moves.specs.Moves.{after}
+use Rattle.cha_moves.specs.Texts.{move_bytes}
 use Rattle.cha_outcome.specs.declared.items.PlayedGame.{PlayedGame}
 use Rattle.cha_outcome.specs.declared.items.ReplayedGame.{ReplayedGame}
 use Rattle.cha_outcome.specs.declared.outcomes.Outcome.{Outcome}
@@ -24,161 +25,136 @@ use Rattle.cha_verdict.specs.declared.verdicts.Verdict.TheVariants.{Winnable, Un
 use Rattle.cha_cert.specs.declared.nodes.Node.{Node}
 use Rattle.helpmate_list.specs.declared.answers.Shortest.{Shortest}
 use Rattle.helpmate_list.specs.declared.answers.Shortest.TheVariants.{NoneWithin, Found}
-use Rattle.pgn_games.specs.declared.played.Span.{Span}
-use Rattle.json.specs.Json.{Json, string, array, object, Items, no_items, item, Members, no_members, member, max_depth}
+use Rattle.json.specs.Json.{Members, no_members, max_depth}
 use Rattle.json.specs.Tree.{depth, items_depth, members_depth}
 use Rattle.json_report.specs.declared.extras.Extras.{Extras}
 use Rattle.json_report.specs.declared.grounds.Ground.{Ground}
 use Rattle.json_report.specs.declared.grounds.Ground.TheVariants.{Sets, Material, LonePieces, Graph}
-use Rattle.json_report.specs.Lines.{texts, line_members}
+use Rattle.json_report.specs.Lines.{texts, words_of, fens_of, line_members}
 use Rattle.json_report.specs.Summaries.{games_json, positions_json, mates_json, plies_json}
 use Rattle.cha_outcome.specs.declared.totals.Totals.{Totals}
-use Rattle.json_report.specs.Verdicts.{ground_of, ground_members, cert_members, fen_members, verdict_members, verdict_json}
+use Rattle.json_report.specs.Verdicts.{ground_of, ground_members, cert_members, fen_members, verdict_members}
 use Rattle.json_report.specs.Plies.{ply_items, start_json, plies_from, why_json, replay_members}
-use Rattle.json_report.specs.Outcomes.{edge_members, scan_json, article_json, flag_json, span_members, finding_members, result_members, line_items, mates_members, place_members, found_members, outcome_json}
+use Rattle.json_report.specs.Outcomes.{edge_members, scan_json, article_json, flag_json, finding_members, result_members, line_items, mates_members, place_members, found_members, outcome_json}
 
--- members and items that nest no deeper than this
-abbrev Shallow : Members → Type 0
-Shallow ms = members_depth ms ≤ 4
+-- texts do not nest
+flat : (ts : List (List ℕ)) → items_depth (texts ts) ≤ 0
+flat [] = omega arith
+flat (t ∷ ts) = let rest = flat ts in omega (arith, rest)
 
-abbrev Flat : Items → Type 0
-Flat js = items_depth js ≤ 0
+line_low : (q : Board) (ms : List Move) (more : Members) → members_depth more ≤ 1 → members_depth (line_members q ms more) ≤ 1
+line_low q ms more h = let moves = flat (map move_bytes ms) in let words = flat (words_of q ms) in omega (arith, moves, words, h)
 
-max_below : (a b k : ℕ) → a ≤ k → b ≤ k → max a b ≤ k
-max_below a b k h g = omega (arith, h, g)
-
-one_more : (name : List ℕ) (j : Json) (ms : Members) → depth j ≤ 4 → Shallow ms → Shallow (member name j ms)
-one_more name j ms h g = max_below (depth j) (members_depth ms) 4 h g
-
-texts_flat : (ts : List (List ℕ)) → Flat (texts ts)
-texts_flat [] = omega arith
-texts_flat (t ∷ ts) = max_below 0 (items_depth (texts ts)) 0 (omega arith) (texts_flat ts)
-
--- the same of members that nest no deeper than two
-abbrev Low : Members → Type 0
-Low ms = members_depth ms ≤ 1
-
-low_more : (name : List ℕ) (j : Json) (ms : Members) → depth j ≤ 1 → Low ms → Low (member name j ms)
-low_more name j ms h g = max_below (depth j) (members_depth ms) 1 h g
-
-texts_low : (ts : List (List ℕ)) → depth (array (texts ts)) ≤ 1
-texts_low ts = let flat = texts_flat ts in omega (arith, flat)
-
-line_low : (q : Board) (ms : List Move) (more : Members) → Low more → Low (line_members q ms more)
-line_low q ms more h = low_more _ _ _ (texts_low _) (low_more _ _ _ (texts_low _) h)
-
-fens_low : (fens : Bool) (q : Board) (ms : List Move) → Low (fen_members fens q ms)
-fens_low true q ms = low_more _ _ _ (texts_low _) (omega arith)
+fens_low : (fens : Bool) (q : Board) (ms : List Move) → members_depth (fen_members fens q ms) ≤ 1
+fens_low true q ms = let rest = flat (fens_of q ms) in omega (arith, rest)
 fens_low false q ms = omega arith
 
-certs_low : (certs : Bool) (winner : Color) (cert : List Node) → Low (cert_members certs winner cert)
+certs_low : (certs : Bool) (winner : Color) (cert : List Node) → members_depth (cert_members certs winner cert) ≤ 1
 certs_low true winner cert = omega arith
 certs_low false winner cert = omega arith
 
-grounds_low : (ground : Ground) (nodes : ℕ) (more : Members) → Low more → Low (ground_members ground nodes more)
+grounds_low : (ground : Ground) (nodes : ℕ) (more : Members) → members_depth more ≤ 1 → members_depth (ground_members ground nodes more) ≤ 1
 unfolding ground_members
-grounds_low Sets nodes more h = low_more _ _ _ (omega arith) h
-grounds_low Material nodes more h = low_more _ _ _ (omega arith) h
-grounds_low LonePieces nodes more h = low_more _ _ _ (omega arith) h
-grounds_low Graph nodes more h = low_more _ _ _ (omega arith) (low_more _ _ _ (omega arith) h)
+grounds_low Sets nodes more h = omega (arith, h)
+grounds_low Material nodes more h = omega (arith, h)
+grounds_low LonePieces nodes more h = omega (arith, h)
+grounds_low Graph nodes more h = omega (arith, h)
 
-verdict_low : (extras : Extras) (q : Board) (winner : Color) (v : Verdict) → Low (verdict_members extras q winner v)
+-- the verdict on a side
+verdict_low : (extras : Extras) (q : Board) (winner : Color) (v : Verdict) → members_depth (verdict_members extras q winner v) ≤ 1
 unfolding verdict_members
-verdict_low extras q winner (Winnable moves) = low_more _ _ _ (omega arith) (low_more _ _ _ (omega arith) (line_low q moves _ (fens_low extras.fens q moves)))
-verdict_low extras q winner (Unwinnable cert) = low_more _ _ _ (omega arith) (grounds_low (ground_of cert) _ _ (certs_low extras.certs winner cert))
-verdict_low extras q winner (Undecided units depth) = omega arith
+verdict_low extras q winner (Winnable moves) = let line = line_low q moves (fen_members extras.fens q moves) (fens_low extras.fens q moves) in omega (arith, line)
+verdict_low extras q winner (Unwinnable cert) = let ground = grounds_low (ground_of cert) (length cert) (cert_members extras.certs winner cert) (certs_low extras.certs winner cert) in omega (arith, ground)
+verdict_low extras q winner (Undecided units plies) = omega arith
 verdict_low extras q winner Skipped = omega arith
 
-verdict_shallow : (extras : Extras) (q : Board) (winner : Color) (v : Verdict) → depth (verdict_json extras q winner v) ≤ 4
-verdict_shallow extras q winner v = let low = verdict_low extras q winner v in omega (arith, low)
-
-edge_low : (edge : Edge) (ply : ℕ) → Low (edge_members edge ply)
+edge_low : (edge : Edge) (ply : ℕ) → members_depth (edge_members edge ply) ≤ 0
 edge_low Start ply = omega arith
 edge_low Live ply = omega arith
 edge_low Unclear ply = omega arith
 
-scan_shallow : (scan : Option Scan) → depth (scan_json scan) ≤ 4
+scan_low : (scan : Option Scan) → depth (scan_json scan) ≤ 1
 unfolding scan_json
-scan_shallow None = omega arith
-scan_shallow (Some scan) = let low = low_more _ _ _ (omega arith) (edge_low scan.edge scan.ply) in omega (arith, low)
+scan_low None = omega arith
+scan_low (Some scan) = let edge = edge_low scan.edge scan.ply in omega (arith, edge)
 
-article_shallow : (cause : Cause) → depth (article_json cause) ≤ 4
+article_low : (cause : Cause) → depth (article_json cause) ≤ 0
 unfolding article_json
-article_shallow Mate511 = omega arith
-article_shallow Stalemate521 = omega arith
-article_shallow Dead522 = omega arith
-article_shallow Flag69 = omega arith
-article_shallow FlagOfMover69 = omega arith
-article_shallow Recorded = omega arith
-article_shallow RecordedUndecided = omega arith
+article_low Mate511 = omega arith
+article_low Stalemate521 = omega arith
+article_low Dead522 = omega arith
+article_low Flag69 = omega arith
+article_low FlagOfMover69 = omega arith
+article_low Recorded = omega arith
+article_low RecordedUndecided = omega arith
 
-flag_shallow : (flag : Option Color) → depth (flag_json flag) ≤ 4
+flag_low : (flag : Option Color) → depth (flag_json flag) ≤ 0
 unfolding flag_json
-flag_shallow None = omega arith
-flag_shallow (Some White) = omega arith
-flag_shallow (Some Black) = omega arith
+flag_low None = omega arith
+flag_low (Some White) = omega arith
+flag_low (Some Black) = omega arith
 
-findings_shallow : (extras : Extras) (q : Board) (d : Decision) (status : PositionStatus) (more : Members) → Shallow more → Shallow (finding_members extras q d status more)
-findings_shallow extras q d status more h =
-    one_more _ _ _ (omega arith) (one_more _ _ _ (verdict_shallow extras q White d.white) (one_more _ _ _ (verdict_shallow extras q Black d.black) (one_more _ _ _ (omega arith) h)))
+findings_low : (extras : Extras) (q : Board) (d : Decision) (status : PositionStatus) (more : Members) → members_depth more ≤ 3 → members_depth (finding_members extras q d status more) ≤ 3
+findings_low extras q d status more h = let white = verdict_low extras q White d.white in let black = verdict_low extras q Black d.black in omega (arith, white, black, h)
 
-results_shallow : (game : PlayedGame) (scan : Option Scan) (judgment : Judgment) → Shallow (result_members game scan judgment)
-results_shallow game scan judgment =
-    one_more _ _ _ (scan_shallow scan) (one_more _ _ _ (omega arith) (one_more _ _ _ (omega arith) (one_more _ _ _ (omega arith)
-    (one_more _ _ _ (article_shallow judgment.cause) (one_more _ _ _ (omega arith) (one_more _ _ _ (flag_shallow (fallen_flag game judgment.cause)) (omega arith)))))))
+results_low : (game : PlayedGame) (scan : Option Scan) (judgment : Judgment) → members_depth (result_members game scan judgment) ≤ 3
+results_low game scan judgment =
+    let dead = scan_low scan in let article = article_low judgment.cause in let flag = flag_low (fallen_flag game judgment.cause) in omega (arith, dead, article, flag)
 
-lines_shallow : (q : Board) (lines : List (List Move)) → items_depth (line_items q lines) ≤ 2
-lines_shallow q [] = omega arith
-lines_shallow q (ms ∷ lines) = let low = line_low q ms no_members (omega arith) in max_below _ _ 2 (omega (arith, low)) (lines_shallow q lines)
+-- the shortest mates
+lines_low : (q : Board) (lines : List (List Move)) → items_depth (line_items q lines) ≤ 2
+lines_low q [] = omega arith
+lines_low q (ms ∷ lines) = let line = line_low q ms no_members (omega arith) in let rest = lines_low q lines in omega (arith, line, rest)
 
-mates_shallow : (q : Board) (depth : ℕ) (found : Shortest) → Shallow (mates_members q depth found)
+mates_low : (q : Board) (within : ℕ) (found : Shortest) → members_depth (mates_members q within found) ≤ 3
 unfolding mates_members
-mates_shallow q depth NoneWithin = omega arith
-mates_shallow q depth (Found plies lines more) = let low = lines_shallow q lines in one_more _ _ _ (omega arith) (one_more _ _ _ (omega (arith, low)) (omega arith))
+mates_low q within NoneWithin = omega arith
+mates_low q within (Found plies lines more) = let low = lines_low q lines in omega (arith, low)
 
-plies_shallow : (n : ℕ) (q : Board) (ms : List Move) → items_depth (ply_items n q ms) ≤ 1
-plies_shallow n q [] = omega arith
-plies_shallow n q (m ∷ ms) = max_below _ _ 1 (omega arith) (plies_shallow (n + 1) (after q m) ms)
+-- the moves of a game
+plies_low : (n : ℕ) (q : Board) (ms : List Move) → items_depth (ply_items n q ms) ≤ 1
+plies_low n q [] = omega arith
+plies_low n q (m ∷ ms) = let rest = plies_low (n + 1) (after q m) ms in omega (arith, rest)
 
-from_shallow : (start : Option Board) (ms : List Move) → depth (array (plies_from start ms)) ≤ 4
+from_low : (start : Option Board) (ms : List Move) → items_depth (plies_from start ms) ≤ 1
 unfolding plies_from
-from_shallow None ms = omega arith
-from_shallow (Some q) ms = let low = plies_shallow 1 q ms in omega (arith, low)
+from_low None ms = omega arith
+from_low (Some q) ms = plies_low 1 q ms
 
-start_shallow : (start : Option Board) → depth (start_json start) ≤ 4
+start_low : (start : Option Board) → depth (start_json start) ≤ 0
 unfolding start_json
-start_shallow None = omega arith
-start_shallow (Some q) = omega arith
+start_low None = omega arith
+start_low (Some q) = omega arith
 
-why_shallow : (why : Option Unreadable) → depth (why_json why) ≤ 4
+why_low : (why : Option Unreadable) → depth (why_json why) ≤ 0
 unfolding why_json
-why_shallow None = omega arith
-why_shallow (Some why) = omega arith
+why_low None = omega arith
+why_low (Some why) = omega arith
 
-replay_shallow : (game : ReplayedGame) → Shallow (replay_members game)
-replay_shallow game = one_more _ _ _ (start_shallow game.start) (one_more _ _ _ (from_shallow game.start game.moves) (one_more _ _ _ (why_shallow game.why) (omega arith)))
+replay_low : (game : ReplayedGame) → members_depth (replay_members game) ≤ 3
+replay_low game = let start = start_low game.start in let plies = from_low game.start game.moves in let why = why_low game.why in omega (arith, start, plies, why)
 
-found_shallow : (extras : Extras) (o : Outcome) → Shallow (found_members extras o)
+found_low : (extras : Extras) (o : Outcome) → members_depth (found_members extras o) ≤ 3
 unfolding found_members
-found_shallow extras (JudgedPosition line q d status) = findings_shallow extras q d status no_members (omega arith)
-found_shallow extras (JudgedGame game d scan status judgment) = findings_shallow extras game.last d status _ (results_shallow game scan judgment)
-found_shallow extras (ListedMates line q depth found) = one_more _ _ _ (omega arith) (mates_shallow q depth found)
-found_shallow extras (RefusedLine line fault) = omega arith
-found_shallow extras (UnreadableGame span why) = omega arith
-found_shallow extras (Replayed game) = replay_shallow game
+found_low extras (JudgedPosition line q d status) = findings_low extras q d status no_members (omega arith)
+found_low extras (JudgedGame game d scan status judgment) = findings_low extras game.last d status (result_members game scan judgment) (results_low game scan judgment)
+found_low extras (ListedMates line q within found) = let mates = mates_low q within found in omega (arith, mates)
+found_low extras (RefusedLine line fault) = omega arith
+found_low extras (UnreadableGame span why) = omega arith
+found_low extras (Replayed game) = replay_low game
 
-place_shallow : (number : ℕ) (o : Outcome) (more : Members) → Shallow more → Shallow (place_members number o more)
+place_low : (number : ℕ) (o : Outcome) (more : Members) → members_depth more ≤ 3 → members_depth (place_members number o more) ≤ 3
 unfolding place_members
-place_shallow number (JudgedPosition line q d status) more h = one_more _ _ _ (omega arith) (one_more _ _ _ (omega arith) h)
-place_shallow number (JudgedGame game d scan status judgment) more h = one_more _ _ _ (omega arith) (one_more _ _ _ (omega arith) (one_more _ _ _ (omega arith) h))
-place_shallow number (ListedMates line q depth found) more h = one_more _ _ _ (omega arith) (one_more _ _ _ (omega arith) h)
-place_shallow number (RefusedLine line fault) more h = one_more _ _ _ (omega arith) (one_more _ _ _ (omega arith) h)
-place_shallow number (UnreadableGame span why) more h = one_more _ _ _ (omega arith) (one_more _ _ _ (omega arith) (one_more _ _ _ (omega arith) h))
-place_shallow number (Replayed game) more h = one_more _ _ _ (omega arith) (one_more _ _ _ (omega arith) (one_more _ _ _ (omega arith) h))
+place_low number (JudgedPosition line q d status) more h = omega (arith, h)
+place_low number (JudgedGame game d scan status judgment) more h = omega (arith, h)
+place_low number (ListedMates line q within found) more h = omega (arith, h)
+place_low number (RefusedLine line fault) more h = omega (arith, h)
+place_low number (UnreadableGame span why) more h = omega (arith, h)
+place_low number (Replayed game) more h = omega (arith, h)
 
 -- the line on an outcome
 pub outcome_shallow : (extras : Extras) (number : ℕ) (o : Outcome) → depth (outcome_json extras number o) ≤ max_depth
-outcome_shallow extras number o = let low = place_shallow number o (found_members extras o) (found_shallow extras o) in omega (arith, low)
+outcome_shallow extras number o = let low = place_low number o (found_members extras o) (found_low extras o) in omega (arith, low)
 
 -- the last lines
 pub games_shallow : (s : Totals) (closed : Bool) → depth (games_json s closed) ≤ max_depth

@@ -33,13 +33,16 @@ first before last = record { text = first.text ∙ last.text; readable = λ r. f
 pub stays : (json : JsonText) (ms : Members) → Leads json ms json ms
 stays json ms = record { text = refl; readable = λ r. r }
 
+next_text : (old new : JsonText) (name : List ℕ) (j : Json) (ms : Members) → IsMember old name j new → closed_by old (member name j ms) ≡ closed_by new ms
+unfolding closed_by
+next_text old new name j ms is = rw (is.text, is.after) (simp (append_assoc) refl)
+
+pub items_stay : (json : JsonText) (js : Items) → ItemsLead json js json js
+items_stay json js = record { text = refl; readable = λ r. r }
+
 -- one member more
 pub next : (old new : JsonText) (name : List ℕ) (j : Json) (ms : Members) → IsMember old name j new → Leads old (member name j ms) new ms
-next old new name j ms is = record { text = next_text old new name j ms is; readable = λ r. ((is.readable.0, r.0), (is.named, (is.readable.1, r.1))) }
-  where
-    next_text : (old new : JsonText) (name : List ℕ) (j : Json) (ms : Members) → IsMember old name j new → closed_by old (member name j ms) ≡ closed_by new ms
-    unfolding closed_by
-    next_text old new name j ms is = rw (is.text, is.after) (simp (append_assoc) refl)
+next old new name j ms is = record { text = next_text old new name j ms is; readable = λ r. ((is.readable.0, r.0), (is.named, is.readable.1, r.1)) }
 
 -- the bracket that closes it
 pub closed : (old new : JsonText) → IsPut old Token.end_object new → closed_by old no_members ≡ new.text

@@ -166,7 +166,10 @@ fn put_found(
             decision,
             status,
             ..
-        } => put_findings(alloc, extras, position, decision, *status, json),
+        } => {
+            put_findings(alloc, extras, position, decision, *status, json)?;
+            Ok(())
+        }
         Outcome::JudgedGame {
             game,
             decision,
@@ -175,7 +178,8 @@ fn put_found(
             judgment,
         } => {
             put_findings(alloc, extras, &game.last, decision, *status, json)?;
-            put_results(alloc, game, scan, *judgment, json)
+            put_results(alloc, game, scan, *judgment, json)?;
+            Ok(())
         }
         Outcome::ListedMates {
             position,
@@ -184,11 +188,21 @@ fn put_found(
             ..
         } => {
             put_fen(alloc, position, json)?;
-            put_mates(alloc, position, *depth, shortest, json)
+            put_mates(alloc, position, *depth, shortest, json)?;
+            Ok(())
         }
-        Outcome::RefusedLine { fault, .. } => put_refused(alloc, *fault, json),
-        Outcome::UnreadableGame { why, .. } => put_unreadable(alloc, why, json),
-        Outcome::Replayed(game) => put_replay(alloc, game, json),
+        Outcome::RefusedLine { fault, .. } => {
+            put_refused(alloc, *fault, json)?;
+            Ok(())
+        }
+        Outcome::UnreadableGame { why, .. } => {
+            put_unreadable(alloc, why, json)?;
+            Ok(())
+        }
+        Outcome::Replayed(game) => {
+            put_replay(alloc, game, json)?;
+            Ok(())
+        }
     }
 }
 

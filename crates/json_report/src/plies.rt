@@ -2,8 +2,9 @@
 
 ghost use Rattle.std.specs.Prelude.{◌≡◌, OnOk, Contains, codes};
 ghost use Rattle.cha_moves.specs.Moves.{legal};
+ghost use Rattle.cha_moves.specs.Texts.{move_bytes};
 ghost use Rattle.cha_outcome.specs.LegalMoves.{AreLegal, AreLegalFrom};
-ghost use Rattle.json.specs.Json.{no_items, no_members, array};
+ghost use Rattle.json.specs.Json.{no_items, no_members, array, string};
 ghost use Rattle.json_report.specs.Plies.{ply_json, ply_items, plies_from, replay_members, start_json, why_json};
 ghost use Rattle.json_report.specs.Spelled.{IsMember, IsValue, Leads, ItemsLead};
 
@@ -17,6 +18,13 @@ use cha_san::san;
 use json_text::JsonText;
 use report_words::put_reason;
 use std::alloc::Global;
+
+/// Writes the member with the squares of a move.
+fn put_squares(m: Move, json: &mut JsonText) -> Result<(), NoMemory>
+    ensures { OnOk result (IsMember json.old (codes "move") (string (move_bytes m)) json.new) }
+{
+    put_text(b"move", move_text(m).as_bytes(), json)
+}
 
 /// Writes a move under its number.
 fn put_ply(
@@ -33,7 +41,7 @@ fn put_ply(
     let fen = write(alloc, &after(position, m))?;
     json.begin_object()?;
     put_count(alloc, b"ply", number, json)?;
-    put_text(b"move", move_text(m).as_bytes(), json)?;
+    put_squares(m, json)?;
     put_text(b"san", word.items(), json)?;
     put_text(b"fen", fen.items(), json)?;
     json.end_object()?;
@@ -60,8 +68,24 @@ fn put_each(
     Ok(())
 }
 
+/// Writes moves from a position, if it is known.
+#[tactic(auto, using(crate::proofs::Stepping::items_stay), unfolding(crate::specs::Plies::plies_from))]
+fn put_from(
+    alloc: Global,
+    start: &Option<Position>,
+    moves: &[Move],
+    json: &mut JsonText,
+) -> Result<(), NoMemory>
+    requires { AreLegalFrom start.now moves.now }
+    ensures { OnOk result (ItemsLead json.old (plies_from start.now moves.now) json.new no_items) }
+{
+    match start {
+        None => Ok(()),
+        Some(position) => put_each(alloc, position, moves, json),
+    }
+}
+
 /// Writes the member with the moves of a game.
-#[tactic(auto, unfolding(crate::specs::Plies::plies_from))]
 fn put_plies(
     alloc: Global,
     start: &Option<Position>,
@@ -73,20 +97,14 @@ fn put_plies(
 {
     json.key(b"plies")?;
     json.begin_array()?;
-    if let Some(position) = start {
-        put_each(alloc, position, moves, json)?;
-    }
+    put_from(alloc, start, moves, json)?;
     json.end_array()?;
     Ok(())
 }
 
 /// Writes the member with the position from which a game starts.
 #[tactic(auto, unfolding(crate::specs::Plies::start_json))]
-fn put_start(
-    alloc: Global,
-    start: &Option<Position>,
-    json: &mut JsonText,
-) -> Result<(), NoMemory>
+fn put_start(alloc: Global, start: &Option<Position>, json: &mut JsonText) -> Result<(), NoMemory>
     ensures { OnOk result (IsMember json.old (codes "start") (start_json start.now) json.new) }
 {
     match start {

@@ -30,4 +30,5 @@ pub use marks::ResultMark;
 pub use played::{Game, PlacedGame, Span, Words};
 pub use reading::Reader;
 pub use settling::settled_games_are_the_first;
+pub use token_turns::{deeper, mark};
 pub use whole::each_token_is_in_one_game;

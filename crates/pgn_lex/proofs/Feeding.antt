@@ -22,13 +22,13 @@ use Rattle.pgn_lex.specs.Stages.{run_on, begun, next_stage, token_at, tokens_at,
 use Rattle.pgn_lex.specs.Left.{left_of_piece, gives_at, settles_at, one_more}
 use Rattle.pgn_lex.proofs.Following.{is_plain, FollowsAt, follows, ends_with, ends_there}
 
-abbrev piece_gives : Machine → Piece → List ℕ → List Placed
+abbrev pub piece_gives : Machine → Piece → List ℕ → List Placed
 piece_gives m p rest = placed m.start (m.at + p.more) m.start_line p.token ++ tokens_after p.more m.at m.line m.first rest
 
 abbrev piece_settles : Machine → Piece → List ℕ → List Placed
 piece_settles m p rest = (if nat_lt p.more (length rest) then placed m.start (m.at + p.more) m.start_line p.token else []) ++ settled_after p.more m.at m.line m.first rest
 
-gives_plain : (stage : Stage) (m : Machine) (rest : List ℕ) → is_plain stage ≡ true → gives_at stage m rest ≡ piece_gives m (left_of_piece stage m.word m.value rest) rest
+pub gives_plain : (stage : Stage) (m : Machine) (rest : List ℕ) → is_plain stage ≡ true → gives_at stage m rest ≡ piece_gives m (left_of_piece stage m.word m.value rest) rest
 unfolding gives_at
 gives_plain Start m rest p = cc
 gives_plain MarkBegun m rest p = cc
@@ -153,7 +153,7 @@ none_left : (n : ℕ) → nat_lt n 0 ≡ false
 none_left n = grind (arith, nat_tests)
 
 -- the first byte of a piece
-fresh_gives : (m : Machine) (b : ℕ) (rest : List ℕ) → tokens_after 0 m.at m.line m.first (b ∷ rest) ≡ gives_at (begun m.first b) (stepped m b Over) rest
+pub fresh_gives : (m : Machine) (b : ℕ) (rest : List ℕ) → tokens_after 0 m.at m.line m.first (b ∷ rest) ≡ gives_at (begun m.first b) (stepped m b Over) rest
 unfolding tokens_after stepped
 fresh_gives m b rest =
     ap (λ (p : Piece). placed m.at (m.at + 1 + p.more) m.line p.token ++ tokens_after p.more (m.at + 1) (line_after m.line b) (not (in_class InLine b)) rest) (begins m.first b m.value rest)

@@ -25,6 +25,7 @@ mod tag_values;
 mod tags;
 mod word_tokens;
 
+pub use classes::PgnClass;
 pub use kinds::{Placed, Token};
 pub use machine::Lexer;
 pub use order::tokens_stand_in_order;

@@ -1,4 +1,4 @@
-use Rattle.std.proofs.Common.{◌≡◌, drop}
+use Rattle.std.proofs.Common.{drop}
 use Rattle.cha_outcome.specs.LegalMoves.{AreLegal}
 use Rattle.json_report.specs.Lines.{texts, fens_of}
 use Rattle.json_report.specs.Spelled.{ItemsLead}

@@ -1,4 +1,4 @@
-use Rattle.std.proofs.Common.{◌≡◌, drop, map}
+use Rattle.std.proofs.Common.{drop, map}
 use Rattle.cha_moves.specs.Texts.{move_bytes}
 use Rattle.json_report.specs.Lines.{texts}
 use Rattle.json_report.specs.Spelled.{ItemsLead}

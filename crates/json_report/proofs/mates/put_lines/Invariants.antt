@@ -1,4 +1,4 @@
-use Rattle.std.proofs.Common.{◌≡◌, drop}
+use Rattle.std.proofs.Common.{drop}
 use Rattle.report_words.specs.LegalLines.{AllLegal}
 use Rattle.json_report.specs.Outcomes.{line_items}
 use Rattle.json_report.specs.Spelled.{ItemsLead}

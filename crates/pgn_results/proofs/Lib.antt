@@ -1,0 +1,14 @@
+pub mod TokenKinds
+pub mod Standing
+pub mod Boundaries
+pub mod Overs
+pub mod PieceSorts
+pub mod Found
+pub mod TagChanges
+pub mod TagReplaced
+pub mod StageRooms
+pub mod TokenReplaced
+pub mod Marked
+pub mod Normal
+pub mod SameFields
+pub mod SameGames

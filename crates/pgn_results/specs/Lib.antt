@@ -1,0 +1,5 @@
+-- what public contracts say
+pub mod Places
+pub mod Replacing
+pub mod Correcting
+pub mod Kept

@@ -2,9 +2,9 @@
 //!
 //! `running` makes one run. `tables` goes through tables of whole outputs: `positions`, `games`, `printed` and
 //! `certificates`. `styles` has reports in JSON and SAN, and drawn games whose flag fell. `mates` has runs that list the shortest
-//! mates, those of `published` problems among them. `dead_from` has games that were dead from some ply on. `faults` has sources and
-//! sinks that fail. `known` goes through the tables of positions with known verdicts: `walls`, `walls_men`, `bishops`, `knights`,
-//! `pawns` and `ends`; `printed` checks what is printed of them.
+//! mates, those of `published` problems among them. `replays` has runs that tell the moves of games. `dead_from` has games that
+//! were dead from some ply on. `faults` has sources and sinks that fail. `known` goes through the tables of positions with known
+//! verdicts: `walls`, `walls_men`, `bishops`, `knights`, `pawns` and `ends`; `printed` checks what is printed of them.
 #![tactic(auto)]
 
 #[cfg(test)]
@@ -33,6 +33,8 @@ mod positions;
 mod printed;
 #[cfg(test)]
 mod published;
+#[cfg(test)]
+mod replays;
 #[cfg(test)]
 mod running;
 #[cfg(test)]

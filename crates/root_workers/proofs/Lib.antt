@@ -7,3 +7,4 @@ pub mod Crewing
 pub mod Knowing
 pub mod Crossing
 mod PassesTaken
+pub mod Partaking

@@ -32,7 +32,7 @@ pub struct VerdictsJudge<'a, C: Crew> {
 }
 
 impl<'a, C: Crew> Judge for VerdictsJudge<'a, C> {
-    ghost use Rattle.std.specs.Prelude.{refl};
+    ghost use Rattle.std.specs.Prelude.{◌≡◌, refl};
     ghost use Rattle.std.proofs.Common.{◌∙◌};
     ghost use Rattle.cha_fact.specs.Entries.{MadeSome};
     ghost use Rattle.cha_decide.proofs.Backwards.{made_none, made_both};

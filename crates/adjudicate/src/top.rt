@@ -22,8 +22,7 @@ use cha_outside::{MOST_BYTES, Sink, Source};
 use cha_verdict::sound_is_complete;
 use cha_words::{Order, games_are_some, mates_are_bounded, parse};
 use helpmate_list::InThreads;
-use root_workers::{Many, close, crew};
-use shard_table::Table;
+use root_workers::OnDemand;
 use std::alloc::Global;
 use std::sync::Wait;
 use std::thread::Threads;
@@ -48,7 +47,7 @@ pub fn run<R: Threads + Wait + Sync, S: Source, K: Sink>(
     ensures run { IfSome (order words.now) (λ o. IsRun o result (outside (S.left source.old) (S.faults source.old) (K.written sink.old) (K.faults sink.old)) (outside (S.left source.new) (S.faults source.new) (K.written sink.new) (K.faults sink.new))) }
 
     // The workers' calls at the table of facts are one legal history of each shard, in which each worker's calls stand once, in the
-    // order in which it made them; at the end all workers are back, and each shard is what its history leaves.
+    // order in which it made them.
     ensures one_history { IfSome (order words.now) (λ o. IfSome (limits_in o) (λ limits. DidAsOne limits.workers limits.entries)) }
 
     // What the verdicts of a report cannot miss.
@@ -83,8 +82,8 @@ pub fn run<R: Threads + Wait + Sync, S: Source, K: Sink>(
     }
 }
 
-/// Does what an order asks for with workers that are threads. The table and the crew are made once, and at the end the workers give
-/// their passes back and the table is closed.
+/// Does what an order asks for with workers that are threads. The table and the crew are made once, when a position first reaches the
+/// rounds. At the end the workers give their passes back and the table is closed.
 fn by_threads<R: Threads + Wait + Sync, S: Source, K: Sink>(
     rt: &R,
     alloc: Global,
@@ -98,15 +97,8 @@ fn by_threads<R: Threads + Wait + Sync, S: Source, K: Sink>(
     ensures one_history { DidAsOne limits.now.workers limits.now.entries }
     ensures run { IsRun order.now result (outside (S.left source.old) (S.faults source.old) (K.written sink.old) (K.faults sink.old)) (outside (S.left source.new) (S.faults source.new) (K.written sink.new) (K.faults sink.new)) }
 {
-    let Ok((table, first)) = Table::new(alloc, limits.entries()) else {
-        return Status::NoMemory;
-    };
-    let mut pass = first;
-    let Ok(mut workers) = crew(alloc, &table, &mut pass, limits.workers()) else {
-        return Status::NoMemory;
-    };
-    let mut many = Many::new(rt, &table, &mut workers);
-    let status = carry_out(alloc, order, &mut many, source, sink);
-    let _shards = close(table, pass, workers);
+    let mut crew = OnDemand::new(rt, alloc, limits.workers(), limits.entries());
+    let status = carry_out(alloc, order, &mut crew, source, sink);
+    let _shards = crew.close();
     status
 }

@@ -8,3 +8,4 @@ pub mod Knowing
 pub mod Crossing
 mod PassesTaken
 pub mod Partaking
+pub mod Staffing

@@ -1,6 +1,7 @@
 //! Passes that take turns beside a busy thread for each processor, which stops them in the middle of turns.
 
 ghost use Rattle.std.specs.Prelude.{◌≡◌, ◌+◌, ◌^◌, ◌%◌};
+ghost use denote.Param.Send.{IsSync};
 ghost use Rattle.turn_cell.specs.Passes.{number, IsOf};
 
 use std::rt::HostRuntime;
@@ -100,8 +101,12 @@ fn burn_in_four<R: Threads + Wait + Sync>(
 {
     thread::join(
         rt,
-        || burn_in_two(rt, done, first, second),
-        || burn_in_two(rt, done, third, fourth),
+        ||
+            requires { IsSync R.row × IsOf done.now first × IsOf done.now second }
+        { burn_in_two(rt, done, first, second) },
+        ||
+            requires { IsSync R.row × IsOf done.now third × IsOf done.now fourth }
+        { burn_in_two(rt, done, third, fourth) },
     );
 }
 

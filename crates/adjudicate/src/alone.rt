@@ -80,6 +80,6 @@ fn by_itself<S: Source, K: Sink>(
     let Ok(mut shard) = Shard::new(alloc, limits.entries()) else {
         return Status::NoMemory;
     };
-    let alone = Alone::new(alloc, &mut shard);
-    carry_out(alloc, order, alone, source, sink)
+    let mut alone = Alone::new(alloc, &mut shard);
+    carry_out(alloc, order, &mut alone, source, sink)
 }

@@ -1,6 +1,7 @@
 //! What each order does.
 
 ghost use Rattle.std.specs.Prelude.{◌≡◌, ◌≤◌, ℕ, None, IsSome};
+ghost use Rattle.cha_fact.specs.Entries.{MadeSome};
 ghost use Rattle.cha_limits.specs.Bounds.{Bounds};
 ghost use Rattle.cha_words.specs.declared.orders.Order.TheVariants.{GenGames, ListMates};
 ghost use Rattle.cha_board.specs.declared.men.Color.{Color as Side};
@@ -57,17 +58,19 @@ fn style_of(printing: Printing) -> Style
 }
 
 /// Reads a source to its end, and writes the report that an order asks for, with a crew of workers that searches.
-pub fn carry_out<C: Crew + Drop, S: Source, K: Sink>(
+pub fn carry_out<C: Crew, S: Source, K: Sink>(
     alloc: Global,
     order: &Order,
-    crew: C,
+    crew: &mut C,
     source: &mut S,
     sink: &mut K,
 ) -> Status
-    requires ready { C.ready crew }
+    requires ready { C.ready crew.old }
     requires searches { IsSome (limits_in order.now) }
     requires some { (spend : Bounds) (seed count : ℕ) → order.now ≡ GenGames spend seed count → (1 ≤ count) × (count ≤ 1000) }
-    ensures { IsRun order.now result (outside (S.left source.old) (S.faults source.old) (K.written sink.old) (K.faults sink.old)) (outside (S.left source.new) (S.faults source.new) (K.written sink.new) (K.faults sink.new)) }
+    ensures stays_ready { C.ready crew.new }
+    ensures calls { MadeSome C.made crew.old crew.new }
+    ensures run { IsRun order.now result (outside (S.left source.old) (S.faults source.old) (K.written sink.old) (K.faults sink.old)) (outside (S.left source.new) (S.faults source.new) (K.written sink.new) (K.faults sink.new)) }
 {
     match order {
         Order::AdjudicateGames {

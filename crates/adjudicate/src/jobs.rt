@@ -28,7 +28,9 @@ pub fn report_games<J: Judge, S: Source, K: Sink>(
 ) -> Status
     requires ready { J.ready judge.old }
     requires asked { IsAskedOf GameItems (J.question judge.old) }
-    ensures { IsRunOf (demand_by (Some (on_games (J.question judge.old) style))) result (outside (S.left source.old) (S.faults source.old) (K.written sink.old) (K.faults sink.old)) (outside (S.left source.new) (S.faults source.new) (K.written sink.new) (K.faults sink.new)) }
+    ensures stays_ready { J.ready judge.new }
+    ensures worked { J.worked judge.old judge.new }
+    ensures run { IsRunOf (demand_by (Some (on_games (J.question judge.old) style))) result (outside (S.left source.old) (S.faults source.old) (K.written sink.old) (K.faults sink.old)) (outside (S.left source.new) (S.faults source.new) (K.written sink.new) (K.faults sink.new)) }
 {
     let Ok(reader) = Reader::new(alloc) else {
         return Status::NoMemory;
@@ -50,7 +52,9 @@ pub fn report_lines<J: Judge, S: Source, K: Sink>(
 ) -> Status
     requires ready { J.ready judge.old }
     requires asked { IsAskedOf LineItems (J.question judge.old) }
-    ensures { IsRunOf (demand_by (Some (on_lines (J.question judge.old) form.style form.subject))) result (outside (S.left source.old) (S.faults source.old) (K.written sink.old) (K.faults sink.old)) (outside (S.left source.new) (S.faults source.new) (K.written sink.new) (K.faults sink.new)) }
+    ensures stays_ready { J.ready judge.new }
+    ensures worked { J.worked judge.old judge.new }
+    ensures run { IsRunOf (demand_by (Some (on_lines (J.question judge.old) form.style form.subject))) result (outside (S.left source.old) (S.faults source.old) (K.written sink.old) (K.faults sink.old)) (outside (S.left source.new) (S.faults source.new) (K.written sink.new) (K.faults sink.new)) }
 {
     let reader = LineReader::new(alloc);
     write_report(alloc, form, ItemReader::Lines(reader), judge, source, sink)
@@ -66,7 +70,9 @@ pub fn report_replays<J: Judge, S: Source, K: Sink>(
 ) -> Status
     requires ready { J.ready judge.old }
     requires asked { IsAskedOf ReplayItems (J.question judge.old) }
-    ensures { IsRunOf (demand_by (Some (on_replays (J.question judge.old) style))) result (outside (S.left source.old) (S.faults source.old) (K.written sink.old) (K.faults sink.old)) (outside (S.left source.new) (S.faults source.new) (K.written sink.new) (K.faults sink.new)) }
+    ensures stays_ready { J.ready judge.new }
+    ensures worked { J.worked judge.old judge.new }
+    ensures run { IsRunOf (demand_by (Some (on_replays (J.question judge.old) style))) result (outside (S.left source.old) (S.faults source.old) (K.written sink.old) (K.faults sink.old)) (outside (S.left source.new) (S.faults source.new) (K.written sink.new) (K.faults sink.new)) }
 {
     let Ok(reader) = Reader::new(alloc) else {
         return Status::NoMemory;
@@ -89,7 +95,9 @@ pub fn report_made<J: Judge, K: Sink>(
     requires count { (1 ≤ count) × (count ≤ 1000) }
     requires ready { J.ready judge.old }
     requires asked { IsAskedOf GameItems (J.question judge.old) }
-    ensures { (left : Option (List ℕ)) (faults : ℕ) → IsRunOf (demand_by (Some (on_made (J.question judge.old) seed count))) result (outside left faults (K.written sink.old) (K.faults sink.old)) (outside left faults (K.written sink.new) (K.faults sink.new)) }
+    ensures stays_ready { J.ready judge.new }
+    ensures worked { J.worked judge.old judge.new }
+    ensures run { (left : Option (List ℕ)) (faults : ℕ) → IsRunOf (demand_by (Some (on_made (J.question judge.old) seed count))) result (outside left faults (K.written sink.old) (K.faults sink.old)) (outside left faults (K.written sink.new) (K.faults sink.new)) }
 {
     let Ok(text) = games_text(alloc, seed, count) else {
         return Status::NoMemory;

@@ -46,7 +46,9 @@ pub fn write_report<J: Judge, S: Source, K: Sink>(
     requires goes_on { CanGoOn reader }
     requires first { given_by reader ≡ 0 }
     requires ended { has_ended reader ≡ true → IsAtEnd (S.left source.old) }
-    ensures { (left : Option (List ℕ)) (faults : ℕ) → Consumes left (S.left source.old) (taken_by reader) → faults ≤ S.faults source.old → IsRunOf (demand_by (Some (job_on (kind_of reader) (J.question judge.old) form))) result (outside left faults (K.written sink.old) (K.faults sink.old)) (outside (S.left source.new) (S.faults source.new) (K.written sink.new) (K.faults sink.new)) }
+    ensures stays_ready { J.ready judge.new }
+    ensures worked { J.worked judge.old judge.new }
+    ensures run { (left : Option (List ℕ)) (faults : ℕ) → Consumes left (S.left source.old) (taken_by reader) → faults ≤ S.faults source.old → IsRunOf (demand_by (Some (job_on (kind_of reader) (J.question judge.old) form))) result (outside left faults (K.written sink.old) (K.faults sink.old)) (outside (S.left source.new) (S.faults source.new) (K.written sink.new) (K.faults sink.new)) }
 {
     let mut items = reader;
     let mut totals = Totals::new();

@@ -10,6 +10,7 @@ ghost use Rattle.cha_verdict.specs.Sound.{IsSound, IsComplete, verdict_on};
 ghost use Rattle.cha_verdict.specs.declared.decisions.Decision.{Decision};
 ghost use Rattle.cha_words.specs.declared.orders.Order.TheVariants.{CheckCert, GenGames};
 ghost use Rattle.cha_words.specs.Language.{order, limits_in};
+ghost use Rattle.root_workers.specs.Histories.{DidAsOne};
 ghost use Rattle.adjudicate.specs.CertFindings.{IsTextOf, IsUnwinnableAtFirst};
 ghost use Rattle.adjudicate.specs.Runs.{IsRun, outside};
 
@@ -21,8 +22,7 @@ use cha_outside::{MOST_BYTES, Sink, Source};
 use cha_verdict::sound_is_complete;
 use cha_words::{Order, games_are_some, mates_are_bounded, parse};
 use helpmate_list::InThreads;
-use root_workers::{Many, crew};
-use shard_table::Table;
+use root_workers::OnDemand;
 use std::alloc::Global;
 use std::sync::Wait;
 use std::thread::Threads;
@@ -45,6 +45,10 @@ pub fn run<R: Threads + Wait + Sync, S: Source, K: Sink>(
 
     // What the words order was done, status by status: on Done the whole input was read, and its report was written.
     ensures run { IfSome (order words.now) (λ o. IsRun o result (outside (S.left source.old) (S.faults source.old) (K.written sink.old) (K.faults sink.old)) (outside (S.left source.new) (S.faults source.new) (K.written sink.new) (K.faults sink.new))) }
+
+    // The workers' calls at the table of facts are one legal history of each shard, in which each worker's calls stand once, in the
+    // order in which it made them.
+    ensures one_history { IfSome (order words.now) (λ o. IfSome (limits_in o) (λ limits. DidAsOne limits.workers limits.entries)) }
 
     // What the verdicts of a report cannot miss.
     ensures misses_nothing { (q : Board) (first : Side) (limits : Bounds) (d : Decision) → IsValid q → IsSound q first limits d → (winner : Side) → IsComplete q winner limits (verdict_on d winner) }
@@ -78,7 +82,8 @@ pub fn run<R: Threads + Wait + Sync, S: Source, K: Sink>(
     }
 }
 
-/// Does what an order asks for with workers that are threads. The table and the crew are made once.
+/// Does what an order asks for with workers that are threads. The table and the crew are made once, when a position first reaches the
+/// rounds. At the end the workers give their passes back and the table is closed.
 fn by_threads<R: Threads + Wait + Sync, S: Source, K: Sink>(
     rt: &R,
     alloc: Global,
@@ -89,15 +94,11 @@ fn by_threads<R: Threads + Wait + Sync, S: Source, K: Sink>(
 ) -> Status
     requires searches { IsSome (limits_in order.now) }
     requires some { (spend : Bounds) (seed count : ℕ) → order.now ≡ GenGames spend seed count → (1 ≤ count) × (count ≤ 1000) }
-    ensures { IsRun order.now result (outside (S.left source.old) (S.faults source.old) (K.written sink.old) (K.faults sink.old)) (outside (S.left source.new) (S.faults source.new) (K.written sink.new) (K.faults sink.new)) }
+    ensures one_history { DidAsOne limits.now.workers limits.now.entries }
+    ensures run { IsRun order.now result (outside (S.left source.old) (S.faults source.old) (K.written sink.old) (K.faults sink.old)) (outside (S.left source.new) (S.faults source.new) (K.written sink.new) (K.faults sink.new)) }
 {
-    let Ok((table, first)) = Table::new(alloc, limits.entries()) else {
-        return Status::NoMemory;
-    };
-    let mut pass = first;
-    let Ok(mut workers) = crew(alloc, &table, &mut pass, limits.workers()) else {
-        return Status::NoMemory;
-    };
-    let many = Many::new(rt, &table, &mut workers);
-    carry_out(alloc, order, many, source, sink)
+    let mut crew = OnDemand::new(rt, alloc, limits.workers(), limits.entries());
+    let status = carry_out(alloc, order, &mut crew, source, sink);
+    let _shards = crew.close();
+    status
 }

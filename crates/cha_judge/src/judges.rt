@@ -17,12 +17,22 @@ pub trait Judge {
     /// What is asked about each item.
     ghost question: { Self → Question };
 
+    /// From one state to a later one it did nothing but judge: its workers are those that it had, with what they did since.
+    ghost worked: { Self → Self → Type 0 };
+
     /// What is found about an item, which the outcome holds. The only error is want of memory.
     fn judge(&mut self, alloc: Global, item: Item) -> Result<Outcome, NoMemory>
         requires ready { ready self.old }
         requires asked { CanBeAsked (question self.old) item }
         ensures stays_ready { ready self.new }
+        ensures worked { worked self.old self.new }
         ensures same_question { question self.new ≡ question self.old }
         ensures answers { IfOk result (Answers (question self.old) item) }
         ensures printable { IfOk result IsPrintableOutcome };
+
+    /// Where nothing is judged, no work is done.
+    ghost none_worked: { (s : Self) → worked s s };
+
+    /// The work of two times, one after the other, is the work of both.
+    ghost both_worked: { (a b c : Self) → worked a b → worked b c → worked a c };
 }

@@ -26,6 +26,12 @@ impl<P: Spread> Judge for MatesJudge<P> {
 
     ghost ready = { λ s. P.ready s.spread × (s.depth ≤ 6) × (1 ≤ s.workers) };
 
+    ghost worked = { λ old new. Unit {0} };
+
+    ghost none_worked = { λ s. tt };
+
+    ghost both_worked = { λ a b c one two. tt };
+
     ghost question = { λ s. Mates s.side s.depth };
 
     fn judge(&mut self, alloc: Global, item: Item) -> Result<Outcome, NoMemory> {

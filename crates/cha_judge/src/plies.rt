@@ -15,6 +15,12 @@ impl Judge for PliesJudge {
 
     ghost ready = { λ _. ⊤ };
 
+    ghost worked = { λ old new. Unit {0} };
+
+    ghost none_worked = { λ s. tt };
+
+    ghost both_worked = { λ a b c one two. tt };
+
     ghost question = { λ _. Plies };
 
     fn judge(&mut self, _alloc: Global, item: Item) -> Result<Outcome, NoMemory> {

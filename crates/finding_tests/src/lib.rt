@@ -7,6 +7,8 @@
 #![tactic(auto)]
 
 #[cfg(test)]
+mod busy;
+#[cfg(test)]
 mod cells;
 #[cfg(test)]
 mod crews;

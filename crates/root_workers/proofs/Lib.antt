@@ -7,3 +7,5 @@ pub mod Crewing
 pub mod Knowing
 pub mod Crossing
 mod PassesTaken
+pub mod Partaking
+pub mod Staffing

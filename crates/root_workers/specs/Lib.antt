@@ -5,6 +5,8 @@ pub mod Crews
 pub mod Splits
 pub mod Gathers
 pub mod Histories
+pub mod Hiring
 -- inside the crate
 pub mod Deepens
 pub mod Making
+pub mod Hirings

@@ -2,7 +2,7 @@
 //!
 //! `answers` has what the rounds answer, `task` what is to do in one round, `work` what a worker leaves of it, `gate` what is
 //! told of each root move, `share` one worker's part of a round, `workers` a crew of them as a whole, `alone` the crew that
-//! needs no thread, `many` the crew of threads at one table, `dismissing` its end, `gather` what the works of a round come to,
+//! needs no thread, `many` the crew of threads at one table, `dismissing` its end and that of the table, `gather` what the works of a round come to,
 //! `deepening` the rounds one after the other, and `table_rounds` the same for threads at a table.
 #![tactic(auto)]
 
@@ -12,8 +12,11 @@ mod deepening;
 mod dismissing;
 mod gate;
 mod gather;
+mod hired;
 mod many;
+mod on_demand;
 mod share;
+mod staff;
 mod table_rounds;
 mod task;
 mod work;
@@ -23,9 +26,12 @@ pub use alone::Alone;
 pub use answers::{RoundsDone, RoundsEnd};
 pub use cha_limits::Limits;
 pub use deepening::rounds_by;
-pub use dismissing::dismiss;
+pub use dismissing::{close, dismiss};
 pub use gather::gathered;
+pub use hired::Hired;
 pub use many::{Many, crew};
+pub use on_demand::OnDemand;
+pub use staff::Staff;
 pub use table_rounds::rounds;
 pub use task::Task;
 pub use work::{RootMate, Work, Worker};

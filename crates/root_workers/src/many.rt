@@ -106,7 +106,7 @@ fn work_on<R: Wait>(
 }
 
 /// Each worker's part of a round, in a thread of its own.
-fn hand_out<R: Threads + Wait + Sync>(
+pub(crate) fn hand_out<R: Threads + Wait + Sync>(
     rt: &R,
     alloc: Global,
     table: &Table,
@@ -136,7 +136,7 @@ fn hand_out<R: Threads + Wait + Sync>(
 }
 
 /// The pass of the first worker asks.
-fn first_probe<R: Wait>(rt: &R, table: &Table, crew: &mut [Worker], key: &Key) -> Probe
+pub(crate) fn first_probe<R: Wait>(rt: &R, table: &Table, crew: &mut [Worker], key: &Key) -> Probe
     requires crew { IsCrew table.now crew.old }
     ensures crew { IsCrew table.now crew.new }
     ensures made { CrewMakes 0 crew.old (probe_entry key.now result ∷ []) crew.new }
@@ -146,7 +146,12 @@ fn first_probe<R: Wait>(rt: &R, table: &Table, crew: &mut [Worker], key: &Key) -
 }
 
 /// The pass of the first worker gives something to keep.
-fn first_store<R: Wait>(rt: &R, table: &Table, crew: &mut [Worker], row: Proved) -> Stored
+pub(crate) fn first_store<R: Wait>(
+    rt: &R,
+    table: &Table,
+    crew: &mut [Worker],
+    row: Proved,
+) -> Stored
     requires crew { IsCrew table.now crew.old }
     ensures crew { IsCrew table.now crew.new }
     ensures made { CrewMakes 0 crew.old (store_entry row result ∷ []) crew.new }

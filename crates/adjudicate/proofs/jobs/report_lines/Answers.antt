@@ -11,5 +11,5 @@ write_report-requires-clause-first g c = rw c.new-reader.ensures refl
 pub write_report-requires-clause-ended : goal.write_report-requires-clause-ended
 write_report-requires-clause-ended g c = rw c.new-reader.ensures (λ e. cc)
 
-pub returns : goal.returns
-returns g c = c.write_report.ensures _ _ (rw c.new-reader.ensures (Consumes-nil _)) (omega arith)
+pub returns-clause-run : goal.returns-clause-run
+returns-clause-run g c = c.write_report.ensures.run _ _ (rw c.new-reader.ensures (Consumes-nil _)) (omega arith)

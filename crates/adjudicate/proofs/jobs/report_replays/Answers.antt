@@ -4,8 +4,8 @@ use Rattle.adjudicate.specs.Jobs.{on_replays}
 use Rattle.adjudicate.proofs.RunEndings.{not_begun_by}
 use Rattle.adjudicate.proofs.jobs.report_replays.Goals as goal
 
-pub returns-in_default : goal.returns-in_default
-returns-in_default g c = not_begun_by (Some (on_replays _ _)) _ _ _ _
+pub returns-in_default-clause-run : goal.returns-in_default-clause-run
+returns-in_default-clause-run g c = not_begun_by (Some (on_replays _ _)) _ _ _ _
 
 pub write_report-requires-clause-goes_on : goal.write_report-requires-clause-goes_on
 write_report-requires-clause-goes_on g c = rw c.in-Ok.ensures (refl, omega arith)
@@ -16,5 +16,5 @@ write_report-requires-clause-first g c = rw c.in-Ok.ensures refl
 pub write_report-requires-clause-ended : goal.write_report-requires-clause-ended
 write_report-requires-clause-ended g c = rw c.in-Ok.ensures (λ e. cc)
 
-pub returns : goal.returns
-returns g c = c.write_report.ensures _ _ (rw c.in-Ok.ensures (Consumes-nil _)) (omega arith)
+pub returns-clause-run : goal.returns-clause-run
+returns-clause-run g c = c.write_report.ensures.run _ _ (rw c.in-Ok.ensures (Consumes-nil _)) (omega arith)

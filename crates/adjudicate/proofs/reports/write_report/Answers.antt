@@ -16,10 +16,11 @@ loop-found-init g c = record {
   source_later = omega arith;
   sink_later = omega arith;
   ready = c.requires.ready;
+  worked = g.met.J.Judge.none_worked c.args.judge.now;
 }
 
-pub returns-in-Err : goal.returns-in-Err
-returns-in-Err g c = λ left faults consumed before. (
+pub returns-in-Err-clause-run : goal.returns-in-Err-clause-run
+returns-in-Err-clause-run g c = λ left faults consumed before. (
     let i = c.loop-found.invariant in
     let e = c.next.ensures in
     let at = retook _ _ _ _ _ _ _ i.at (same_first _ _ _ _ _ i.kind e.first) in
@@ -30,8 +31,8 @@ returns-in-Err g c = λ left faults consumed before. (
     ((λ long. e.too_long.0 (c.in-Err.is ∙ ap Err long)), (λ more. let f = sym c.in-Err.is ∙ e.too_long.1 more in cc))
     e.few)
 
-pub returns-in_default : goal.returns-in_default
-returns-in_default g c = λ left faults consumed before. (
+pub returns-in_default-clause-run : goal.returns-in_default-clause-run
+returns-in_default-clause-run g c = λ left faults consumed before. (
     let i = c.loop-found.invariant in
     let e = c.next.ensures in
     let at = retook _ _ _ _ _ _ _ i.at (same_first _ _ _ _ _ i.kind e.first) in
@@ -48,8 +49,8 @@ judge-requires-clause-asked g c =
     let i = c.loop-found.invariant in
     (rw c.in-Some.is at c.in-Ok.ensures.asked) _ (still_asked _ _ _ _ i.kind i.question c.requires.asked)
 
-pub returns-in_default-judge : goal.returns-in_default-judge
-returns-in_default-judge g c = λ left faults consumed before. (
+pub returns-in_default-judge-clause-run : goal.returns-in_default-judge-clause-run
+returns-in_default-judge-clause-run g c = λ left faults consumed before. (
     let i = c.loop-found.invariant in
     let e = c.next.ensures in
     let at = retook _ _ _ _ _ _ _ i.at (same_first _ _ _ _ _ i.kind e.first) in
@@ -57,8 +58,8 @@ returns-in_default-judge g c = λ left faults consumed before. (
     let few = not_more _ 268435456 (λ long. let f = sym c.in-Ok.is ∙ e.too_long.1 long in cc) in
     no_memory _ _ _ _ _ _ _ _ _ _ at _ _ _ _ all (omega (arith, before, i.source_later, e.later)) i.sink_later few)
 
-pub returns-in_default-write_outcome : goal.returns-in_default-write_outcome
-returns-in_default-write_outcome g c = λ left faults consumed before. (
+pub returns-in_default-write_outcome-clause-run : goal.returns-in_default-write_outcome-clause-run
+returns-in_default-write_outcome-clause-run g c = λ left faults consumed before. (
     let i = c.loop-found.invariant in
     let e = c.next.ensures in
     let at = retook _ _ _ _ _ _ _ i.at (same_first _ _ _ _ _ i.kind e.first) in
@@ -75,8 +76,8 @@ write_outcome-requires-clause-room g c =
     let more = rw c.in-Some.is at c.in-Ok.ensures.given in
     room_at _ _ _ _ _ _ c.loop-found.invariant.at more.1
 
-pub returns-in-Failed : goal.returns-in-Failed
-returns-in-Failed g c = λ left faults consumed before. (
+pub returns-in-Failed-clause-run : goal.returns-in-Failed-clause-run
+returns-in-Failed-clause-run g c = λ left faults consumed before. (
     let i = c.loop-found.invariant in
     let e = c.next.ensures in
     let at = retook _ _ _ _ _ _ _ i.at (same_first _ _ _ _ _ i.kind e.first) in
@@ -114,4 +115,5 @@ loop-found-preserved g c =
       source_later = omega (arith, e.later, i.source_later);
       sink_later = omega (arith, rw c.in-All.is at w.cause, i.sink_later);
       ready = c.judge.ensures.stays_ready;
+      worked = g.met.J.Judge.both_worked c.args.judge.now c.loop-found.judge c.judge.new.self c.loop-found.invariant.worked c.judge.ensures.worked;
     }

@@ -17,6 +17,7 @@ invariant-loop-found g l = record {
   source_later : g.S.Source.faults l.fn.source ≤ g.S.Source.faults l.source;
   sink_later : g.K.Sink.faults l.fn.sink ≤ g.K.Sink.faults l.sink;
   ready : g.J.Judge.ready l.judge;
+  worked : g.J.Judge.worked l.fn.judge l.judge;
 }
 
 abbrev pub decreases-loop-found : goal.decreases-loop-found

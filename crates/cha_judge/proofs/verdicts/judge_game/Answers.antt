@@ -1,5 +1,6 @@
 use Rattle.std.proofs.Common.{refl}
 use Rattle.cha_outcome.specs.Outcomes.{item_of, HasSoundVerdicts}
+use Rattle.cha_decide.proofs.Backwards.{made_both}
 use Rattle.cha_judge.proofs.verdicts.judge_game.Goals as goal
 
 pub returns-clause-answers : goal.returns-clause-answers
@@ -13,3 +14,9 @@ returns-clause-answers g c = (
     c.judgment_of-judgment.ensures c.args.draws c.claim_of-claim.ensures,
   ),
 )
+
+pub returns-clause-calls : goal.returns-clause-calls
+returns-clause-calls g c = made_both g.C.Facts.made g.met.C.Facts.both_made c.args.crew.now c.decide_by.new.crew c.scan_by.new.crew (c.decide_by.ensures.calls.entries, c.decide_by.ensures.calls.entered) c.scan_by.ensures.calls
+
+pub returns-in_err-scan-clause-calls : goal.returns-in_err-scan-clause-calls
+returns-in_err-scan-clause-calls g c = made_both g.C.Facts.made g.met.C.Facts.both_made c.args.crew.now c.decide_by.new.crew c.scan_by.new.crew (c.decide_by.ensures.calls.entries, c.decide_by.ensures.calls.entered) c.scan_by.ensures.calls

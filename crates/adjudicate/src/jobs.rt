@@ -75,7 +75,14 @@ pub fn report_replays<J: Judge, S: Source, K: Sink>(
         style,
         subject: Subject::Plies,
     };
-    write_report(alloc, form, ItemReader::Replays(reader), judge, source, sink)
+    write_report(
+        alloc,
+        form,
+        ItemReader::Replays(reader),
+        judge,
+        source,
+        sink,
+    )
 }
 
 /// Makes so many games of a seed, and writes the summary of the report on them alone. Nothing is read.

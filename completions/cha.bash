@@ -2,12 +2,13 @@
 _cha() {
     local word=${COMP_WORDS[COMP_CWORD]} before=${COMP_WORDS[COMP_CWORD - 1]} command=${COMP_WORDS[1]} words=
     if [ "$COMP_CWORD" -eq 1 ]; then
-        words='adjudicate position check mates gen'
+        words='adjudicate position check mates replay gen'
     elif [[ ! $before =~ ^(--budget|--depth|--entries|--workers)$ ]]; then
         case $command in
             adjudicate) words='--budget --workers --depth --entries --certs --json --san --fens --flagged-draws' ;;
             position) words='--budget --workers --depth --entries --certs --json --san --fens' ;;
             mates) words='w b --workers --depth --json --san' ;;
+            replay) words='--json' ;;
             gen) words='--budget --workers --depth --entries' ;;
         esac
     fi

@@ -57,11 +57,7 @@ const ROWS: &[(&str, &str, &str)] = &[
         "1. e4 (1. d4) e5 *\n* 1. e4 ) *\n",
         "game 1\nfen: rnbqkbnr/pppppppp/8/8/8/8/PPPPPPPP/RNBQKBNR w KQkq -\nply 1: e2e4 e4 rnbqkbnr/pppppppp/8/8/4P3/8/PPPP1PPP/RNBQKBNR b KQkq e3\nply 2: e7e5 e5 rnbqkbnr/pppp1ppp/8/4p3/4P3/8/PPPP1PPP/RNBQKBNR w KQkq e6\ngame 2\nfen: rnbqkbnr/pppppppp/8/8/8/8/PPPPPPPP/RNBQKBNR w KQkq -\ngame 3\nfen: rnbqkbnr/pppppppp/8/8/8/8/PPPPPPPP/RNBQKBNR w KQkq -\nply 1: e2e4 e4 rnbqkbnr/pppppppp/8/8/4P3/8/PPPP1PPP/RNBQKBNR b KQkq e3\nunreadable: bad token at byte 27\ngames: 3, unreadable: 1\n",
     ),
-    (
-        "replay",
-        "",
-        "games: 0, unreadable: 0\n",
-    ),
+    ("replay", "", "games: 0, unreadable: 0\n"),
     (
         "replay --json",
         "1. f3 e5 2. g4 Qh4 0-1\n",
@@ -116,7 +112,12 @@ fn moves_of_games_are_told(rt: HostRuntime) -> Result<(), Fail> {
 
 #[test]
 fn other_words_behind_replay_are_refused(rt: HostRuntime) -> Result<(), Fail> {
-    for words in ["replay x", "replay --san", "replay --budget 1", "replay --json --json"] {
+    for words in [
+        "replay x",
+        "replay --san",
+        "replay --budget 1",
+        "replay --json --json",
+    ] {
         let found = run_on(&rt, rt.alloc(), words, "1. e4 *")?;
         assert_eq!(rt; found.written.len(), 0, "{words}");
         assert_eq!(rt; found.status, Status::Usage, "{words}");

@@ -70,7 +70,7 @@ wheel: lib
 	@rm -rf python/build python/cha.egg-info
 
 data-test: wheel
-	cd python && PYTHONPATH=$(CURDIR)/python CHA_LIBRARY=$(CURDIR)/libcha.so $(PYTHON) -m pytest
+	cd python && PYTHONPATH=$(CURDIR)/python CHA_LIBRARY=$(CURDIR)/libcha.so timeout -k 20 900 $(PYTHON) -m pytest
 
 text-test: cha
 	tools/printed.py ./cha
@@ -94,7 +94,7 @@ $(PAGE): $(MODULE) VERSION tools/page-build.py $(wildcard web/*.*)
 
 page-test: page cha
 	@tools/packages page
-	tools/page-test.py ./cha $(FILES)
+	timeout -k 20 900 tools/page-test.py ./cha $(FILES)
 
 dist: cha lib
 	tools/dist.sh

@@ -112,7 +112,7 @@ async function showItems() {
     if (items.length === 0) return complain(say("nothing_found"));
     if (items.length === 1) return openItem(items[0]);
     at.words.textContent = summaryWords(items);
-    at.result.textContent = at.article.textContent = "";
+    at.whose.textContent = at.result.textContent = at.article.textContent = "";
     at.further.hidden = true;
     at.ruling.hidden = false;
 }
@@ -135,7 +135,7 @@ async function openItem(item) {
     table.choose(item);
     const wrong = item.unreadable ?? item.refused;
     const isAlone = asking.items.length === 1;
-    await shown.open(item, asking.source, options());
+    await shown.open(item, asking.source, { options: options(), isAlone });
     if (isAlone && wrong) {
         at.ruling.hidden = true;
         complain(say(asking.isPositions ? "refused" : "unreadable", { why: wrong }));
@@ -159,7 +159,8 @@ function followAddress() {
     ask(asked);
 }
 
-function ask({ text, flag, limits: wanted = LIMITS }) {
+function ask({ text, flag, limits: wanted = LIMITS }, { isExample = false } = {}) {
+    at.examplesBox.open = isExample;
     at.text.value = text;
     document.querySelector(`input[name=flag][value=${flag}]`).checked = true;
     at.budget.value = wanted.budget;
@@ -262,7 +263,7 @@ function fillTexts() {
     for (const [name, asked] of Object.entries(EXAMPLES)) {
         const button = made("button", { textContent: say(name) });
         button.dataset.example = name;
-        button.addEventListener("click", () => ask(asked));
+        button.addEventListener("click", () => ask(asked, { isExample: true }));
         at.examples.append(button);
     }
 }

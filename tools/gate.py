@@ -17,6 +17,8 @@ TOP = os.path.dirname(os.path.dirname(os.path.abspath(__file__)))
 SUITES = [
     (["rt", "ci"], None),
     (["make", "lib-test"], []),
+    (["make", "data-test"], ["data"]),
+    (["make", "page-test"], ["page"]),
     (["make", "text-test"], None),
     (["make", "dist-test"], []),
 ]

@@ -96,6 +96,9 @@ class OnPage:
         self.browser.click("#board rect[data-square=e1]")
         self.assertEqual(self.browser.run("return document.querySelectorAll('.reach').length"), reached["e1"].bit_count())
         self.picture("wall")
+        self.browser.resize(960, 1000)
+        self.picture("readme", of=["#ruling", "#position"])
+        self.assertLess(os.path.getsize(f"{PICTURES}/{self.name}-readme.png"), 150_000)
         self.browser.click("[data-side=white] [data-man=a4]")
         self.assertIn("never move", self.browser.text("#shade-words"))
 

@@ -129,7 +129,13 @@ class Browser:
         """What the console says of errors and of refusals by the content policy."""
         return [it["message"] for it in self.call("POST", "/se/log", {"type": "browser"}) if it["level"] == "SEVERE"]
 
-    def screenshot(self, path, whole=True):
+    def screenshot(self, path, whole=True, of=None):
+        """A picture of the whole page, of the window, or of what stands from one element to another, which selectors name."""
         parameters = {"captureBeyondViewport": whole}
+        if of:
+            script = "return [...arguments].map((it) => document.querySelector(it).getBoundingClientRect()).map(({ top, bottom }) => ({ top, bottom }))"
+            first, last = self.run(f"window.scrollTo(0, 0); {script}", *of)
+            width = self.run("return document.documentElement.clientWidth")
+            parameters["clip"] = {"x": 0, "y": first["top"] - 12, "width": width, "height": last["bottom"] - first["top"] + 24, "scale": 1}
         with open(path, "wb") as file:
             file.write(base64.b64decode(self.call("POST", "/goog/cdp/execute", {"cmd": "Page.captureScreenshot", "params": parameters})["data"]))

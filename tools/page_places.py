@@ -54,9 +54,9 @@ class Place:
         self.browser.type("#text", CONTROL + ENTER)
         self.browser.until(IDLE)
 
-    def picture(self, name, whole=True):
+    def picture(self, name, **how):
         os.makedirs(PICTURES, exist_ok=True)
-        self.browser.screenshot(f"{PICTURES}/{self.name}-{name}.png", whole)
+        self.browser.screenshot(f"{PICTURES}/{self.name}-{name}.png", **how)
 
     def drop(self, content, name):
         self.browser.run(DROP, base64.b64encode(content).decode(), name)

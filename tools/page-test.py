@@ -223,6 +223,17 @@ class OnPage:
         self.assertGreater(self.browser.run("return document.querySelectorAll('.reach').length"), 0)
         self.assertEqual(self.browser.run("return [...document.querySelectorAll('button')].filter((it) => it.offsetParent && !(it.textContent || it.ariaLabel)).length"), 0)
 
+    def test_a_screen_reader_finds_names(self):
+        with open(SAMPLES[1], encoding="utf-8") as file:
+            games = file.read()
+        for asked in ({}, {"fen": WALL}, {"fen": KNIGHT, "flag": "white"}, {"pgn": games}):
+            self.open(**asked)
+            self.browser.run("for (const it of document.querySelectorAll('details')) it.open = true")
+            self.assertEqual(self.browser.nameless(), [], asked)
+        self.open(fen=KNIGHT)
+        words = self.browser.run("return document.getElementById('board').ariaLabel")
+        self.assertEqual(words, "White: pawn g2, pawn h2, rook g1, king h1. Black: king g8, knight g4. Black to move.")
+
     def test_nothing_is_fetched(self):
         self.open(fen=WALL)
         self.assertEqual(self.browser.run("return performance.getEntriesByType('resource').filter((it) => !it.name.startsWith('blob:')).length"), 0)

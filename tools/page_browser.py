@@ -12,6 +12,7 @@ import urllib.request
 
 ELEMENT = "element-6066-11e4-a52e-4f735466cecf"
 ARGUMENTS = ["--headless=new", "--no-sandbox", "--disable-dev-shm-usage", "--hide-scrollbars", "--disable-gpu"]
+NAMED = {"button", "textbox", "radio", "checkbox", "spinbutton", "image", "img", "progressIndicator", "table", "link", "DisclosureTriangle"}
 # The most that anything is waited for, in seconds: a script, a call, and the start or the end of the browser.
 SCRIPT, CALL, START, END = 240, 300, 120, 20
 
@@ -124,6 +125,12 @@ class Browser:
 
     def text(self, selector):
         return self.run("return document.querySelector(arguments[0]).textContent", selector)
+
+    def nameless(self):
+        """The roles of what a screen reader offers without a name."""
+        tree = self.call("POST", "/goog/cdp/execute", {"cmd": "Accessibility.getFullAXTree", "params": {}})["nodes"]
+        offered = [(it["role"]["value"], it.get("name", {}).get("value")) for it in tree if not it["ignored"] and "role" in it]
+        return [role for role, name in offered if role in NAMED and not name]
 
     def logged(self):
         """What the console says of errors and of refusals by the content policy."""

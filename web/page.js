@@ -39,9 +39,10 @@ function complain(words) {
     at.complaint.textContent = words;
 }
 
-/** Rules on what stands in the box. */
-function judge() {
+/** Rules on what stands in the box. The examples stay open for whoever goes through them. */
+function judge({ isExample = false } = {}) {
     const text = at.text.value;
+    at.examplesBox.open = isExample;
     if (!text.trim()) return complain(say("empty"));
     return judgeBytes(new TextEncoder().encode(text), text);
 }
@@ -160,12 +161,11 @@ function followAddress() {
 }
 
 function ask({ text, flag, limits: wanted = LIMITS }, { isExample = false } = {}) {
-    at.examplesBox.open = isExample;
     at.text.value = text;
     document.querySelector(`input[name=flag][value=${flag}]`).checked = true;
     at.budget.value = wanted.budget;
     at.depth.value = wanted.depth;
-    judge();
+    judge({ isExample });
 }
 
 /** Rules on a file. A short one is shown in the box, where nothing was typed that it would take the place of. */
@@ -245,7 +245,7 @@ function listen() {
     };
     for (const [name, act] of Object.entries(clicks)) at[name].addEventListener("click", act);
     at.file.addEventListener("change", () => at.file.files[0] && takeFile(at.file.files[0]));
-    at.text.addEventListener("paste", () => setTimeout(judge));
+    at.text.addEventListener("paste", () => setTimeout(() => judge()));
     at.flags.addEventListener("change", () => at.text.value.trim() && judge());
     at.board.addEventListener("click", (event) => shown.shadeFrom(event.target.closest("[data-square]")?.dataset.square));
     addEventListener("keydown", pressed);

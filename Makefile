@@ -1,6 +1,6 @@
 # make            proves and builds the program, and leaves it as ./cha (some 20 minutes the first time)
 # make run        judges a sample: by ./cha where it is up to date, else by a build without proofs (a minute)
-# make test       the whole gate: rt ci, and the tests of the library, the documents and the release
+# make test       the whole gate: rt ci, and the tests of the library, the Python package, the page, the documents and the release
 # make install    copies the program to PREFIX/bin (PREFIX=/usr/local)
 # make lib        builds libcha.a and libcha.so; make install-lib copies them, the header and cha.pc
 # make lib-test   runs both from C, under sanitizers, and from Python, and cuts texts of games apart and joins their reports
@@ -71,7 +71,7 @@ wheel: lib
 	@rm -rf python/build python/cha.egg-info
 
 data-test: wheel
-	cd python && PYTHONPATH=$(CURDIR)/python CHA_LIBRARY=$(CURDIR)/libcha.so $(PYTHON) -m pytest
+	cd python && PYTHONPATH=$(CURDIR)/python CHA_LIBRARY=$(CURDIR)/libcha.so timeout -k 20 900 $(PYTHON) -m pytest
 
 text-test: cha
 	tools/printed.py ./cha
@@ -95,7 +95,7 @@ $(PAGE): $(MODULE) VERSION tools/page-build.py $(wildcard web/*.*)
 
 page-test: page cha
 	@tools/packages page
-	tools/page-test.py ./cha $(FILES)
+	timeout -k 20 900 tools/page-test.py ./cha $(FILES)
 
 dist: cha lib
 	tools/dist.sh

@@ -3,37 +3,24 @@
 
     tools/page-test.py ./cha [FILE ..]
 
-Files that end in .pgn are adjudicated, others are read as positions; without any, those of web/samples are. Pictures of the page are left
-in page/out. The last line is 'N passed, M failed'.
+Files that end in .pgn are adjudicated, others are read as positions; without any, those of web/samples are, and those of the folder that
+CHA_DATA names. Pictures of the page are left in page/out. The last line is 'N passed, M failed'.
 """
 import base64
-import functools
-import http.server
 import json
 import os
-import subprocess
 import sys
-import tempfile
-import threading
 import unittest
 from urllib.parse import urlencode
 
 from page_browser import Browser
-from page_reports import FILES, MADE, PROGRAM, REPORT, SAMPLES, TOP, Module, asked_of, certificate_of, printed  # noqa: F401
+from page_places import CONTROL, ENTER, IDLE, PICTURES, Disk, Server
+from page_reports import FILES, MADE, PROGRAM, REPORT, SAMPLES, Module, asked_of, certificate_of, output_of, printed, tells_plies  # noqa: F401
 
-PICTURES = f"{TOP}/page/out"
 KNIGHT = "6k1/8/8/8/6n1/8/6PP/6RK b - -"
 WALL = "4k3/7B/8/p1p1p1p1/P1P1P1P1/8/8/4K3 w - -"
 MARKUP = '<img src=x onerror="document.title=1"> w - -'
-TAB, ENTER, RIGHT, LEFT, END = "\ue004", "\ue007", "\ue014", "\ue012", "\ue010"
-CONTROL = "\ue009"
-IDLE = "return document.body.dataset.busy === 'no'"
-DROP = """
-const bytes = Uint8Array.from(atob(arguments[0]), (letter) => letter.charCodeAt(0));
-const data = new DataTransfer();
-data.items.add(new File([bytes], arguments[1]));
-document.body.dispatchEvent(new DragEvent('drop', { dataTransfer: data, bubbles: true, cancelable: true }));
-"""
+TAB, RIGHT, LEFT = "\ue004", "\ue014", "\ue012"
 # The longest time between two turns of the page's own loop.
 WATCH = """
 window.longest = 0;
@@ -44,45 +31,6 @@ setInterval(() => { const now = performance.now(); window.longest = Math.max(win
 
 class OnPage:
     """What is tried at both addresses."""
-
-    @classmethod
-    def setUpClass(cls):
-        cls.downloads = tempfile.TemporaryDirectory()
-        cls.browser = Browser(downloads=cls.downloads.name).__enter__()
-
-    @classmethod
-    def tearDownClass(cls):
-        cls.browser.__exit__()
-        cls.downloads.cleanup()
-
-    def setUp(self):
-        self.browser.resize(1200, 1000)
-        self.browser.logged()
-
-    def tearDown(self):
-        self.assertEqual(self.browser.logged(), [])
-
-    def open(self, **asked):
-        self.browser.open(self.address + ("#" + urlencode(asked) if asked else ""))
-        if asked:
-            self.browser.until(IDLE)
-
-    def ask(self, text):
-        """Types a text and rules on it by keys."""
-        self.browser.run("document.getElementById('text').value = ''")
-        self.browser.type("#text", text)
-        self.browser.type("#text", CONTROL + ENTER)
-        self.browser.until(IDLE)
-
-    def picture(self, name, whole=True):
-        os.makedirs(PICTURES, exist_ok=True)
-        self.browser.screenshot(f"{PICTURES}/{self.name}-{name}.png", whole)
-
-    def drop(self, content, name):
-        self.browser.run(DROP, base64.b64encode(content).decode(), name)
-
-    def man_at(self, square):
-        return self.browser.run("return document.querySelector(`#board [data-man][data-square=${arguments[0]}]`)?.dataset.man ?? null", square)
 
     def test_reports_are_the_programs(self):
         self.open()
@@ -112,8 +60,16 @@ class OnPage:
         self.open(pgn="[" + game)
         self.assertEqual(self.browser.text("#words"), "Dead position since move 1: the game ended there as a draw (5.2.2).")
         self.assertEqual(self.browser.text("#result"), "Recorded 1-0, by the Laws 1/2-1/2.")
-        self.assertEqual(self.browser.run("return document.querySelector('#steps .dead').previousSibling.textContent"), "Kxd2")
+        self.assertIn("eva", self.browser.text("#whose"))
+        marked = self.browser.run("return [...document.querySelectorAll('#steps .dead')].map((it) => it.parentElement.textContent)")
+        self.assertEqual(marked, ["1.Kxd2dead"] if tells_plies() else [])
         self.picture("dead")
+
+    def test_an_unreadable_game_is_shown_up_to_its_fault(self):
+        self.open(pgn='[White "ida"]\n\n1. e4 e5 2. Nf6 1-0')
+        self.assertIn("move 3 Nf6: no such move", self.browser.text("#complaint"))
+        steps = self.browser.run("return [...document.querySelectorAll('#steps button')].map((it) => it.textContent)")
+        self.assertEqual(steps, ["start", "e4", "e5"] if tells_plies() else [])
 
     def test_a_line_is_stepped(self):
         self.open(fen=KNIGHT, flag="white")
@@ -140,6 +96,9 @@ class OnPage:
         self.browser.click("#board rect[data-square=e1]")
         self.assertEqual(self.browser.run("return document.querySelectorAll('.reach').length"), reached["e1"].bit_count())
         self.picture("wall")
+        self.browser.resize(960, 1000)
+        self.picture("readme", of=["#ruling", "#position"])
+        self.assertLess(os.path.getsize(f"{PICTURES}/{self.name}-readme.png"), 150_000)
         self.browser.click("[data-side=white] [data-man=a4]")
         self.assertIn("never move", self.browser.text("#shade-words"))
 
@@ -149,6 +108,8 @@ class OnPage:
         self.browser.until("return document.getElementById('checked').textContent")
         self.assertIn("mate by White", self.browser.text("#checked"))
         self.picture("certificate")
+        self.browser.click("[data-side=black] button:nth-last-child(2):not([data-man])")
+        self.assertEqual(self.saved("cha-black.txt"), certificate_of(WALL, "black"))
         self.browser.run("document.getElementById('certificate').value = arguments[0]", certificate_of(WALL, "black").replace("winner b", "winner"))
         self.browser.click("#check")
         self.browser.until("return document.getElementById('checked').textContent.startsWith('Refused')")
@@ -159,8 +120,7 @@ class OnPage:
             games = file.read()
         count = games.count(b"[White ")
         many = (games + b"\n") * (2000 // count + 1)
-        ran = subprocess.run([PROGRAM, "adjudicate", "--json"], input=many, stdout=subprocess.PIPE, check=True)
-        *lines, wanted = [json.loads(line) for line in ran.stdout.splitlines()]
+        *lines, wanted = [json.loads(line) for line in output_of([PROGRAM, "adjudicate", "--json"], input=many).splitlines()]
         self.open()
         self.browser.run(WATCH)
         self.drop(many, "games.pgn")
@@ -178,14 +138,24 @@ class OnPage:
         self.browser.click("#rows button")
         self.browser.until("return !document.getElementById('position').hidden")
         self.browser.click("#csv")
-        path = f"{self.downloads.name}/cha.csv"
-        for _ in range(200):
-            if os.path.exists(path):
-                break
-            threading.Event().wait(0.05)
-        with open(path, encoding="utf-8", newline="") as file:
-            self.assertEqual(len(file.read().split("\r\n")), wanted["changed"] + 2)
-        os.remove(path)
+        self.assertEqual(len(self.saved("cha.csv").split("\r\n")), wanted["changed"] + 2)
+
+    def test_examples_are_clicked(self):
+        self.open()
+        for name in self.browser.run("return [...document.querySelectorAll('[data-example]')].map((it) => it.dataset.example)"):
+            self.browser.click(f"[data-example={name}]")
+            self.browser.until(IDLE)
+            self.assertEqual((self.browser.text("#complaint"), bool(self.browser.text("#words"))), ("", True), name)
+            self.assertEqual(self.browser.run("return document.querySelectorAll('#board [data-man]').length > 1"), True, name)
+        self.assertEqual(self.browser.run("return document.getElementById('examples-box').open"), True)
+
+    def test_what_is_undecided_is_looked_at_further(self):
+        self.open(fen="8/8/8/4k3/3q4/8/8/4KN2 w - -", budget="1", depth="2", flag="white")
+        self.assertEqual(self.browser.text("#words"), "Not decided within 1 positions whether Black can still checkmate.")
+        self.picture("undecided")
+        self.browser.click("#further")
+        self.browser.until(IDLE)
+        self.assertIn("Black wins", self.browser.text("#words"))
 
     def test_a_long_search_is_stopped(self):
         with open(SAMPLES[1], "rb") as file:
@@ -227,6 +197,11 @@ class OnPage:
             self.assertLessEqual(self.browser.run("return document.documentElement.scrollWidth"), 360)
         self.browser.resize(360, 1800)
         self.picture("telephone")
+        with open(SAMPLES[1], encoding="utf-8") as file:
+            self.open(pgn=file.read())
+        self.assertLessEqual(self.browser.run("return document.documentElement.scrollWidth"), 360)
+        self.assertLessEqual(self.browser.run("const it = document.querySelector('.scrolled'); return it.scrollWidth - it.clientWidth"), 0)
+        self.picture("telephone-games")
 
     def test_keys_alone(self):
         self.open()
@@ -248,36 +223,28 @@ class OnPage:
         self.assertGreater(self.browser.run("return document.querySelectorAll('.reach').length"), 0)
         self.assertEqual(self.browser.run("return [...document.querySelectorAll('button')].filter((it) => it.offsetParent && !(it.textContent || it.ariaLabel)).length"), 0)
 
+    def test_a_screen_reader_finds_names(self):
+        with open(SAMPLES[1], encoding="utf-8") as file:
+            games = file.read()
+        for asked in ({}, {"fen": WALL}, {"fen": KNIGHT, "flag": "white"}, {"pgn": games}):
+            self.open(**asked)
+            self.browser.run("for (const it of document.querySelectorAll('details')) it.open = true")
+            self.assertEqual(self.browser.nameless(), [], asked)
+        self.open(fen=KNIGHT)
+        words = self.browser.run("return document.getElementById('board').ariaLabel")
+        self.assertEqual(words, "White: pawn g2, pawn h2, rook g1, king h1. Black: king g8, knight g4. Black to move.")
+
     def test_nothing_is_fetched(self):
         self.open(fen=WALL)
         self.assertEqual(self.browser.run("return performance.getEntriesByType('resource').filter((it) => !it.name.startsWith('blob:')).length"), 0)
 
 
-class FromDisk(OnPage, unittest.TestCase):
-    name, address = "disk", f"file://{MADE}/cha.html"
+class FromDisk(OnPage, Disk, unittest.TestCase):
+    pass
 
 
-class FromServer(OnPage, unittest.TestCase):
-    name = "server"
-
-    @classmethod
-    def setUpClass(cls):
-        super().setUpClass()
-        handler = functools.partial(Quiet, directory=MADE)
-        cls.server = http.server.ThreadingHTTPServer(("127.0.0.1", 0), handler)
-        cls.address = f"http://127.0.0.1:{cls.server.server_port}/cha.html"
-        threading.Thread(target=cls.server.serve_forever, daemon=True).start()
-
-    @classmethod
-    def tearDownClass(cls):
-        cls.server.shutdown()
-        cls.server.server_close()
-        super().tearDownClass()
-
-
-class Quiet(http.server.SimpleHTTPRequestHandler):
-    def log_message(self, *_):
-        pass
+class FromServer(OnPage, Server, unittest.TestCase):
+    pass
 
 
 class Dark(unittest.TestCase):

@@ -72,7 +72,7 @@ class Proving:
                 if run.poll() is None:
                     os.killpg(run.pid, signal.SIGTERM)
         if run.returncode and not (until and until <= self.done):
-            sys.exit("".join(log) + f"{self.wanted} is not proved")
+            sys.exit("".join(log) + f"{self.wanted} is not proved: {' '.join(words)} ended with status {run.returncode}")
 
 
 def main():

@@ -12,9 +12,10 @@ function drawBoard(board, { fen, moved = [], shaded = null, chosen = null, isTur
     const parts = [];
     for (let index = 0; index < 64; index++) {
         const square = FILES[index % 8] + (8 - Math.floor(index / 8));
-        const how = { isMoved: moved.includes(square), isShaded: shaded?.has(square), isChosen: square === chosen };
+        const how = { isMoved: moved.includes(square), isShaded: shaded?.has(square) };
         parts.push(drawnSquare(square, corner(square), how));
     }
+    if (chosen) parts.push(chosenFrame(corner(chosen)));
     parts.push(...edgeWords(isTurned));
     for (const { man, square } of men) {
         const [across, down] = corner(square);
@@ -28,14 +29,20 @@ function drawBoard(board, { fen, moved = [], shaded = null, chosen = null, isTur
     board.setAttribute("aria-label", boardInWords(men, fen));
 }
 
-function drawnSquare(square, [across, down], { isMoved, isShaded, isChosen }) {
-    const kinds = ["square", (across + down) % 2 ? "dark" : "light", isMoved && "moved", isShaded && "shaded", isChosen && "chosen"];
+function drawnSquare(square, [across, down], { isMoved, isShaded }) {
+    const kinds = ["square", (across + down) % 2 ? "dark" : "light", isMoved && "moved", isShaded && "shaded"];
     const size = SIDE_OF_SQUARE;
     const rect = drawn("rect", { class: kinds.filter(Boolean).join(" "), x: across * size, y: down * size, width: size, height: size });
     rect.dataset.square = square;
     if (!isShaded) return rect;
     const centre = { cx: (across + 0.5) * size, cy: (down + 0.5) * size, r: size * 0.44 };
     return drawn("g", {}, rect, drawn("circle", { class: "reach", ...centre }));
+}
+
+/** A frame inside the square of the man whose squares are shaded. */
+function chosenFrame([across, down]) {
+    const size = SIDE_OF_SQUARE;
+    return drawn("rect", { class: "chosen", x: across * size + 1.5, y: down * size + 1.5, width: size - 3, height: size - 3 });
 }
 
 /** Letters of files below, numbers of ranks at the left. */

@@ -39,9 +39,10 @@ function complain(words) {
     at.complaint.textContent = words;
 }
 
-/** Rules on what stands in the box. */
-function judge() {
+/** Rules on what stands in the box. The examples stay open for whoever goes through them. */
+function judge({ isExample = false } = {}) {
     const text = at.text.value;
+    at.examplesBox.open = isExample;
     if (!text.trim()) return complain(say("empty"));
     return judgeBytes(new TextEncoder().encode(text), text);
 }
@@ -112,7 +113,7 @@ async function showItems() {
     if (items.length === 0) return complain(say("nothing_found"));
     if (items.length === 1) return openItem(items[0]);
     at.words.textContent = summaryWords(items);
-    at.result.textContent = at.article.textContent = "";
+    at.whose.textContent = at.result.textContent = at.article.textContent = "";
     at.further.hidden = true;
     at.ruling.hidden = false;
 }
@@ -135,7 +136,7 @@ async function openItem(item) {
     table.choose(item);
     const wrong = item.unreadable ?? item.refused;
     const isAlone = asking.items.length === 1;
-    await shown.open(item, asking.source, options());
+    await shown.open(item, asking.source, { options: options(), isAlone });
     if (isAlone && wrong) {
         at.ruling.hidden = true;
         complain(say(asking.isPositions ? "refused" : "unreadable", { why: wrong }));
@@ -159,12 +160,12 @@ function followAddress() {
     ask(asked);
 }
 
-function ask({ text, flag, limits: wanted = LIMITS }) {
+function ask({ text, flag, limits: wanted = LIMITS }, { isExample = false } = {}) {
     at.text.value = text;
     document.querySelector(`input[name=flag][value=${flag}]`).checked = true;
     at.budget.value = wanted.budget;
     at.depth.value = wanted.depth;
-    judge();
+    judge({ isExample });
 }
 
 /** Rules on a file. A short one is shown in the box, where nothing was typed that it would take the place of. */
@@ -244,7 +245,7 @@ function listen() {
     };
     for (const [name, act] of Object.entries(clicks)) at[name].addEventListener("click", act);
     at.file.addEventListener("change", () => at.file.files[0] && takeFile(at.file.files[0]));
-    at.text.addEventListener("paste", () => setTimeout(judge));
+    at.text.addEventListener("paste", () => setTimeout(() => judge()));
     at.flags.addEventListener("change", () => at.text.value.trim() && judge());
     at.board.addEventListener("click", (event) => shown.shadeFrom(event.target.closest("[data-square]")?.dataset.square));
     addEventListener("keydown", pressed);
@@ -262,7 +263,7 @@ function fillTexts() {
     for (const [name, asked] of Object.entries(EXAMPLES)) {
         const button = made("button", { textContent: say(name) });
         button.dataset.example = name;
-        button.addEventListener("click", () => ask(asked));
+        button.addEventListener("click", () => ask(asked, { isExample: true }));
         at.examples.append(button);
     }
 }

@@ -91,6 +91,14 @@ function wordsOfSide(side, found, isPosition) {
     }
 }
 
+/** Which game it is: its number among many, its players, its event and date, as far as its text has them. */
+function titleOf({ game, tags }, isAlone) {
+    const known = (name) => (tags?.[name] && !/^[?.]*$/.test(tags[name]) ? tags[name] : null);
+    const players = [known("White"), known("Black")];
+    const names = players.some(Boolean) ? players.map((name) => name ?? "?").join(" – ") : null;
+    return [isAlone ? null : say("game_number", { number: game }), names, known("Event"), known("Date")?.replace(/\.\?.*/, "")].filter(Boolean).join(" · ");
+}
+
 /** Why a game's result is what it is, for a table. */
 function reasonOf(game, firstSide) {
     if (game.unreadable) return game.unreadable;

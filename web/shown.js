@@ -7,8 +7,8 @@ class Shown {
     }
 
     /** Opens an item; `source` is the text that the program has read, as bytes. */
-    async open(item, source, options) {
-        Object.assign(this, { item, plies: null, side: null, shade: null });
+    async open(item, source, { options, isAlone }) {
+        Object.assign(this, { item, isAlone, plies: null, side: null, shade: null });
         const isGame = item.game !== undefined && item.asked !== "position";
         const part = item.bytes ? source.subarray(...item.bytes) : new TextEncoder().encode(item.fen ?? "");
         if (isGame) await this.work.ask("replay", { bytes: part }, ({ items }) => ([this.plies] = items));
@@ -41,6 +41,7 @@ class Shown {
         const { item, at } = this;
         const isGame = item.game !== undefined && item.asked !== "position";
         const ruling = wrong ? { words: say(isGame ? "unreadable" : "refused", { why: wrong }) } : rulingOf(item, this.firstSide());
+        at.whose.textContent = isGame ? titleOf(item, this.isAlone) : "";
         at.words.textContent = ruling.words;
         at.article.textContent = ruling.article ?? "";
         const names = { recorded: item.recorded, result: item.result };
@@ -83,7 +84,10 @@ class Shown {
             button.setAttribute("aria-label", `${sideName(sideOfMan(man))}: ${manName(man)} ${square}`);
             button.setAttribute("aria-pressed", "false");
             button.dataset.man = square;
-            button.addEventListener("click", () => this.shadeFrom(square, side));
+            button.addEventListener("click", () => {
+                this.shadeFrom(square, side);
+                this.at.board.scrollIntoView({ block: "nearest" });
+            });
             return button;
         });
         return made("div", { className: "buttons men" }, ...buttons);

@@ -21,7 +21,7 @@ class Table {
         this.elements.changed.checked = false;
         this.elements.changed.closest("label").hidden = kind !== "games";
         this.elements.title.textContent = say(kind === "games" ? "games" : "positions");
-        this.elements.columns.replaceChildren(...this.columns().map((name) => made("th", { scope: "col", textContent: say(`column_${name}`) })));
+        this.elements.columns.replaceChildren(...this.columns().map((name) => made("th", { scope: "col", role: "columnheader", textContent: say(`column_${name}`) })));
         this.elements.rows.replaceChildren();
     }
 
@@ -51,7 +51,7 @@ class Table {
 
     choose(item) {
         this.chosen = item;
-        for (const row of this.elements.rows.children) row.setAttribute("aria-selected", String(row.item === item));
+        for (const row of this.elements.rows.children) markChosen(row, row.item === item);
     }
 
     draw() {
@@ -68,13 +68,20 @@ class Table {
     }
 
     row(item) {
-        const cells = this.columns().map((name) => made("td", { className: name, textContent: cellOf(item, name) }));
-        const button = made("button", { textContent: cellOf(item, "number") });
+        const cells = this.columns().map((name) => this.cell(item, name));
+        const button = made("button", { textContent: cellOf(item, "number"), ariaLabel: say("open_row", { number: cellOf(item, "number") }) });
         button.addEventListener("click", () => this.open(item));
         cells[0].replaceChildren(button);
-        const row = made("tr", { className: item.changed ? "changed" : "", item }, ...cells);
-        row.setAttribute("aria-selected", String(item === this.chosen));
+        const row = made("tr", { className: item.changed ? "changed" : "", role: "row", item }, ...cells);
+        markChosen(row, item === this.chosen);
         return row;
+    }
+
+    /** A cell, with its column's name for screens on which the columns stand below each other. */
+    cell(item, name) {
+        const cell = made("td", { className: name, role: "cell", textContent: cellOf(item, name) });
+        cell.dataset.column = say(`column_${name}`);
+        return cell;
     }
 
     /** The rows that the filter lets through, as RFC 4180 has it. */
@@ -83,6 +90,12 @@ class Table {
         const lines = [names, ...this.wanted().map((item) => names.map((name) => cellOf(item, name)))];
         return lines.map((cells) => cells.map(quotedCell).join(",")).join("\r\n") + "\r\n";
     }
+}
+
+/** Marks a row as the one that is shown, or not. */
+function markChosen(row, isChosen) {
+    if (isChosen) row.setAttribute("aria-current", "true");
+    else row.removeAttribute("aria-current");
 }
 
 /** What a column has of an item. */

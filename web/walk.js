@@ -2,7 +2,8 @@
 
 /** The positions of a game or of a position alone, with a mating line of one side behind them. */
 function walkOf({ item, plies, side }) {
-    const steps = plies ? [{ fen: plies.start, kind: "start", ply: 0 }] : [{ fen: item.fen, kind: "start", ply: 0 }];
+    const isGame = item.game !== undefined && item.asked !== "position";
+    const steps = plies ? [{ fen: plies.start, kind: "start", ply: 0 }] : [{ fen: item.fen, kind: isGame ? "final" : "start", ply: 0 }];
     for (const { ply, move, san, fen } of plies?.plies ?? []) steps.push({ fen, move, san, ply, kind: "game" });
     const found = side && item[side];
     const final = steps.length - 1;
@@ -24,12 +25,13 @@ function drawSteps(list, { steps, final }, { deadFrom, side, go }) {
     const parts = [];
     steps.forEach((step, at) => {
         if (at === final + 1) parts.push(made("li", { className: "heading", textContent: say("line_of", { side: sideName(side) }) }));
-        const number = at > 0 && numberBefore(step, at === 1 || at === final + 1);
-        if (number) parts.push(made("li", { className: "number", textContent: number(moveNumber(step.ply, first)) }));
-        const button = made("button", { textContent: at ? step.san : say("start") });
+        const button = made("button", { textContent: at ? step.san : say(step.kind) });
         button.addEventListener("click", () => go(at));
-        parts.push(made("li", { className: "step" }, button));
-        if (deadFrom === step.ply && step.kind !== "line") parts.push(made("li", { className: "dead", textContent: say("dead_here") }));
+        const item = made("li", { className: "step" }, button);
+        const number = at > 0 && numberBefore(step, at === 1 || at === final + 1);
+        if (number) item.prepend(made("span", { className: "number", textContent: number(moveNumber(step.ply, first)) }));
+        if (deadFrom === step.ply && ["start", "game"].includes(step.kind)) item.append(made("span", { className: "dead", textContent: say("dead_here") }));
+        parts.push(item);
     });
     list.replaceChildren(...parts);
 }

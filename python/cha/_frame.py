@@ -13,7 +13,10 @@ def frame(files: "Files", only: Optional[str] = None, budget: Optional[int] = No
 
     Its columns are those of `cha.db.rows.COLUMNS`. It needs pandas; the rows have to fit into memory.
     """
-    import pandas
+    try:
+        import pandas
+    except ImportError:
+        raise ImportError("a table needs the package pandas: pip install 'cha[db]'") from None
 
     from cha.db import judge
     from cha.db.rows import COLUMNS, cells

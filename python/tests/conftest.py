@@ -1,10 +1,11 @@
 """What the tests share: files of games, and the last line of a run of them."""
 
 import os
+import signal
 import subprocess
 import sys
 from pathlib import Path
-from typing import Any, List
+from typing import Any, Iterator, List, NoReturn
 
 import pytest
 from hypothesis import settings
@@ -17,6 +18,8 @@ settings.register_profile("cha", database=None, deadline=None)
 settings.load_profile("cha")
 
 ECO = Path("/usr/share/pgn-extract/eco.pgn")
+#: the longest that one test may take, in seconds
+LONGEST = 240
 
 
 def _files(made: Path) -> List[Path]:
@@ -50,6 +53,19 @@ def run(words: List[Any], status: int = 0, data: bytes = b"", **given: Any) -> "
     done = subprocess.run(order, input=data, stdout=subprocess.PIPE, stderr=subprocess.PIPE, check=False, **given)
     assert done.returncode == status, done.stderr
     return done
+
+
+def _late(number: int, frame: object) -> NoReturn:
+    raise TimeoutError(f"the test takes longer than {LONGEST} seconds")
+
+
+@pytest.hookimpl(hookwrapper=True)
+def pytest_runtest_protocol() -> Iterator[None]:
+    """Ends a test that hangs."""
+    signal.signal(signal.SIGALRM, _late)
+    signal.alarm(LONGEST)
+    yield
+    signal.alarm(0)
 
 
 class _Tally:

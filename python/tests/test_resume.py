@@ -23,12 +23,21 @@ def content(path: Path) -> Any:
     return [base.execute(f"select * from {name} order by 1, 2").fetchall() for name in ("games", "sides")]
 
 
-def killed(words: List[Any], seconds: float, number: int) -> int:
-    """Begins a run and sends it a signal after a while; the status."""
+def saved(path: Path) -> bytes:
+    """How far a run was, by the state that it keeps."""
+    return path.read_bytes() if path.exists() else b""
+
+
+def killed(words: List[Any], state: Path, chance: random.Random) -> bool:
+    """Begins a run and sends it a signal: while it begins, or at a random moment behind its first piece. Whether it was at work."""
+    before = saved(state)
     with subprocess.Popen([sys.executable, "-m", "cha.db", *map(str, words)], stderr=subprocess.DEVNULL) as begun:
-        time.sleep(seconds)
-        begun.send_signal(number)
-    return begun.returncode
+        if chance.random() < 0.8:
+            while begun.poll() is None and saved(state) == before:
+                time.sleep(0.01)
+        time.sleep(chance.random() * 0.2)
+        begun.send_signal(chance.choice([signal.SIGKILL, signal.SIGTERM, signal.SIGINT]))
+    return begun.returncode != 0
 
 
 @pytest.mark.parametrize("kind", ["jsonl", "csv", "sqlite"])
@@ -36,13 +45,11 @@ def test_ten_times_killed_at_random_moments(files: List[Path], tmp_path: Path, k
     chance = random.Random(kind)
     words = [*files, files[0], "--piece", 4000, "--threads", 2, "--only", "changed"]
     at_once = [tmp_path / f"whole.{kind}", tmp_path / "whole.html"]
-    begun = time.monotonic()
     run([*words, "--to", at_once[0], "--report", at_once[1]])
-    took = time.monotonic() - begun
     part = [tmp_path / f"part.{kind}", tmp_path / "part.html"]
     order = [*words, "--to", part[0], "--report", part[1], "--quiet", "--resume"]
-    for _ in range(10):
-        killed(order, 0.25 + chance.random() * took / 8, chance.choice([signal.SIGKILL, signal.SIGTERM, signal.SIGINT]))
+    moments = [killed(order, tmp_path / f"part.{kind}.state", chance) for _ in range(10)]
     run(order)
+    assert sum(moments) > 5
     assert [content(path) for path in part] == [content(path) for path in at_once]
     assert sorted(os.listdir(tmp_path)) == sorted(path.name for path in part + at_once)

@@ -149,7 +149,8 @@ def test_names_of_tags_are_columns() -> None:
 
 def test_positions_and_games_show_themselves() -> None:
     [position] = cha.positions("8/8/8/4k3/8/8/8/4KB2 w - -")
-    assert position._repr_svg_().count("<text") == 3  # type: ignore[union-attr]
+    [game] = cha.games("1. e4 *")
+    assert [shown._repr_svg_().count("<text") for shown in (position, game)] == [3, 32]  # type: ignore[union-attr]
 
 
 def test_the_module_runs_as_the_command(made: Path) -> None:

@@ -17,7 +17,7 @@ _STYLE = """
 body{font:16px/1.5 system-ui,sans-serif;max-width:66rem;margin:2rem auto;padding:0 1rem}
 table{border-collapse:collapse}th,td{padding:.2rem 1rem .2rem 0;text-align:left;font-weight:normal}td.number{text-align:right}
 article{display:flex;flex-wrap:wrap;gap:0 1.5rem;border-top:1px solid #8886;padding:1rem 0}
-article h3{margin:0}article div{flex:1 1 20rem}article p{margin:.3rem 0}
+article h3{margin:0}article div{flex:1 1 18rem;min-width:0;overflow-wrap:anywhere}article p{margin:.3rem 0}
 """
 _ARTICLES = {
     "5.1.1": "the final position is a checkmate",
@@ -35,10 +35,16 @@ _COUNTED = {
 
 
 def _side(name: str, verdict: Dict[str, Any]) -> str:
-    kind = verdict["verdict"]
-    if kind == "winnable" and verdict["san"]:
-        return f"{name} can checkmate: {' '.join(verdict['san'])}"
-    return f"{name}: {kind}"
+    if verdict["verdict"] == "winnable":
+        return f"{name} can checkmate: {' '.join(verdict['san'])}" if verdict["san"] else f"{name} has checkmated"
+    if verdict["verdict"] == "undecided":
+        return f"{name}: undecided after {verdict['positions']:,} positions"
+    return f"{name} can never checkmate"
+
+
+def _dead(since: Dict[str, Any]) -> str:
+    earlier = " or earlier" if "undecided" in since else ""
+    return f"Dead from ply {since['ply']}{earlier}"
 
 
 def _game(row: Row) -> str:
@@ -50,7 +56,7 @@ def _game(row: Row) -> str:
     said = [
         ", ".join(filter(None, (tags.get("Event"), tags.get("Site"), tags.get("Date"), tags.get("Termination")))),
         f"Recorded {fields['recorded']}, by Article {fields['article']} it is {fields['result']}: {_ARTICLES.get(fields['article'], '')}.",
-        f"Dead from ply {dead['ply']}" if dead else "",
+        _dead(dead) if dead else "",
         *(_side(side.capitalize(), fields[side]) for side in ("white", "black") if fields[side]["verdict"] != "skipped"),
         fields["fen"],
         place,

@@ -12,3 +12,5 @@ pub mod Marked
 pub mod Normal
 pub mod SameFields
 pub mod SameGames
+pub mod PieceEnds
+pub mod OwnTokens

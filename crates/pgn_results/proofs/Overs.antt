@@ -135,6 +135,10 @@ over_by : (plain : Bool) (a : List ℕ) (b : ℕ) (bs : List ℕ) (us : List Pla
 over_by true a b bs us t vs p u w at_is = plain_over (next_stage (machine a).stage b) a b bs us t vs p refl w at_is
 over_by false a b bs us t vs p u w at_is = mark_over (machine a).stage b p u
 
+pub over_plain : (a : List ℕ) (b : ℕ) (bs : List ℕ) (us : List Placed) (t : Placed) (vs : List Placed) → is_plain (machine a).stage ≡ true
+    → tokens (a ++ b ∷ bs) ≡ us ++ t ∷ vs → t.offset ≡ length a → next_stage (machine a).stage b ≡ Over
+over_plain a b bs us t vs p w at_is = plain_over (next_stage (machine a).stage b) a b bs us t vs p refl w at_is
+
 pub over_there : (a : List ℕ) (b : ℕ) (bs : List ℕ) (us : List Placed) (t : Placed) (vs : List Placed)
     → ((b == 239) ≡ false) × ((b == 187) ≡ false) × ((b == 191) ≡ false) → tokens (a ++ b ∷ bs) ≡ us ++ t ∷ vs → t.offset ≡ length a → next_stage (machine a).stage b ≡ Over
 over_there a b bs us t vs u w at_is = over_by (is_plain (machine a).stage) a b bs us t vs refl u w at_is

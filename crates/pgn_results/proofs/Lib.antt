@@ -14,3 +14,4 @@ pub mod SameFields
 pub mod SameGames
 pub mod PieceEnds
 pub mod OwnTokens
+pub mod Alone

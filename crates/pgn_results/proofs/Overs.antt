@@ -39,7 +39,7 @@ Before n ts = All (λ (t : Placed). t.offset < n) ts
 pub before_off : (n : ℕ) (ts : List Placed) → Before n ts → Off n ts
 before_off n ts h k d inside = λ e. let x = h k d inside in omega (arith, e)
 
-front_of : (P : Placed → Type 0) (us vs : List Placed) → All P (us ++ vs) → All P us
+pub front_of : (P : Placed → Type 0) (us vs : List Placed) → All P (us ++ vs) → All P us
 front_of P [] vs h = λ k d inside. absurd (omega arith)
 front_of P (u ∷ us) vs h = All-cons P u us (All-head P u (us ++ vs) h) (front_of P us vs (All-tail P u (us ++ vs) h))
 

@@ -23,7 +23,7 @@ use Rattle.pgn_lex.proofs.Joining.{moved_token, after_moved}
 use Rattle.pgn_games.specs.Fields.{is_bad}
 use Rattle.pgn_results.proofs.Standing.{From, after_from, one_of_all}
 use Rattle.pgn_results.proofs.Boundaries.{boundary}
-use Rattle.pgn_results.proofs.Overs.{Before, over_there, over_plain}
+use Rattle.pgn_results.proofs.Overs.{Before, front_of, over_there, over_plain}
 use Rattle.pgn_results.proofs.Found.{Found, found_by, found}
 use Rattle.pgn_results.proofs.PieceEnds.{piece_bound, over_behind, plain_behind, passed_from, none_behind}
 use Rattle.pgn_results.proofs.TagReplaced.{take_front, drop_front}
@@ -124,6 +124,7 @@ pub record Own (bytes : List ℕ) (t : Placed) (ts : List Placed) (end : ℕ) : 
   pub start_is : t.offset ≡ length front
   pub end_is : end ≡ length front + length game
   pub tokens_are : t ∷ ts ≡ map (moved_token (length front) lines) (tokens game)
+  pub later_are : From (length front + 1) ts
 
 -- a text that goes on behind a shorter one
 longer : (a : List ℕ) (b : ℕ) (r w y : List ℕ) → a ++ b ∷ r ≡ w ++ y → length a < length w → (x : List ℕ) × (w ≡ a ++ b ∷ x)
@@ -269,4 +270,5 @@ module _ (bytes : List ℕ) (us : List Placed) (t : Placed) (ts vs gs : List Pla
         tokens_are = mine ∙ first_free m.first m.at m.line b l.0 f.rest t.token good f.token_is ∙ ap (λ n. tokens_after 0 n m.line true game) at_is
             ∙ ap (λ n. tokens_after 0 (length a + 0) n true game) line_is ∙ after_moved (length a) k 0 0 1 true game
             ∙ ap (map (moved_token (length a) k)) (sym (unmarked game (no_mark_begins b l.0 tests.0).0));
+        later_are = front_of (λ (t : Placed). length a + 1 ≤ t.offset) ts vs behind_first;
       }

@@ -23,12 +23,12 @@ use Rattle.pgn_results.proofs.TagReplaced.{take_front, drop_front, tag_within}
 use Rattle.pgn_results.proofs.Marked.{game_reads, named_tag, left_true, right_true}
 
 -- only the last of these tokens is a result that ends a game
-pub Ended : ℕ → List Placed → Type 0
+unfoldable pub Ended : ℕ → List Placed → Type 0
 Ended depth [] = ⊤
 Ended depth (t ∷ ts) = (is_result_at depth t.token ≡ true → ts ≡ []) × Ended (depth_after depth t.token) ts
 
 -- no such result is at the very beginning
-pub Late : ℕ → List Placed → Type 0
+unfoldable pub Late : ℕ → List Placed → Type 0
 Late depth [] = ⊤
 Late depth (t ∷ ts) = (is_result_at depth t.token ≡ true → 0 < t.offset) × Late (depth_after depth t.token) ts
 
@@ -129,7 +129,7 @@ spaced_by false tagged depth mark game more us t ts d e only last later =
     let again = is_result_tag t.token && not tagged in
     rw (d, has) (ap (with_tag_if again mark t.offset) later ∙ tag_by again mark text us t r.0 (left_true (is_result_tag t.token) (not tagged)) (r.1 ∙ append_assoc us (t ∷ []) r.0) (space mark deep ts more ++ more))
 
-spaced : (tagged : Bool) (depth : ℕ) (mark : ResultMark) (game more : List ℕ) (us ts : List Placed) → tokens game ≡ us ++ ts → Ended depth ts
+pub spaced : (tagged : Bool) (depth : ℕ) (mark : ResultMark) (game more : List ℕ) (us ts : List Placed) → tokens game ≡ us ++ ts → Ended depth ts
     → ((us : List Placed) (t : Placed) → tokens game ≡ us ++ t ∷ [] → t.end ≡ length game) → Spaced mark tagged depth ts game more
 unfolding with_mark outside Ended
 spaced tagged depth mark game more us [] e h last = refl
@@ -138,11 +138,11 @@ spaced tagged depth mark game more us (t ∷ ts) e h last =
     (spaced (tagged || is_result_tag t.token) (depth_after depth t.token) mark game more (us ++ t ∷ []) ts (e ∙ sym (append_assoc us (t ∷ []) ts)) h.1 last)
 
 -- what stands before a game stays
-take_on : (a xs : List ℕ) (n : ℕ) → take (length a + n) (a ++ xs) ≡ a ++ take n xs
+pub take_on : (a xs : List ℕ) (n : ℕ) → take (length a + n) (a ++ xs) ≡ a ++ take n xs
 take_on [] xs n = let e : 0 + n ≡ n = omega arith in ap (λ k. take k xs) e
 take_on (b ∷ a) xs n = let e : length (b ∷ a) + n ≡ suc (length a + n) = omega arith in ap (λ k. take k (b ∷ (a ++ xs))) e ∙ ap (λ ys. b ∷ ys) (take_on a xs n)
 
-drop_on : (a xs : List ℕ) (n : ℕ) → drop (length a + n) (a ++ xs) ≡ drop n xs
+pub drop_on : (a xs : List ℕ) (n : ℕ) → drop (length a + n) (a ++ xs) ≡ drop n xs
 drop_on [] xs n = let e : 0 + n ≡ n = omega arith in ap (λ k. drop k xs) e
 drop_on (b ∷ a) xs n = let e : length (b ∷ a) + n ≡ suc (length a + n) = omega arith in ap (λ k. drop k (b ∷ (a ++ xs))) e ∙ drop_on a xs n
 
@@ -182,7 +182,7 @@ behind_by false tagged depth mark k a x xs t ts d late later =
     let again = is_result_tag t.token && not tagged in
     rw d (ap (with_tag_if again mark (length a + t.offset)) later ∙ tag_on again mark a (with_mark (tagged || is_result_tag t.token) (depth_after depth t.token) mark ts (x ∷ xs)) t.offset)
 
-behind : (tagged : Bool) (depth : ℕ) (mark : ResultMark) (k : ℕ) (a : List ℕ) (x : ℕ) (xs : List ℕ) (ts : List Placed) → Late depth ts → Behind mark k tagged depth ts a (x ∷ xs)
+pub behind : (tagged : Bool) (depth : ℕ) (mark : ResultMark) (k : ℕ) (a : List ℕ) (x : ℕ) (xs : List ℕ) (ts : List Placed) → Late depth ts → Behind mark k tagged depth ts a (x ∷ xs)
 unfolding with_mark Late
 behind tagged depth mark k a x xs [] h = refl
 behind tagged depth mark k a x xs (t ∷ ts) h =

@@ -15,3 +15,5 @@ pub mod SameGames
 pub mod PieceEnds
 pub mod OwnTokens
 pub mod Alone
+pub mod Endings
+pub mod OneByOne

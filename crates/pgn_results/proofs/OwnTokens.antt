@@ -115,7 +115,7 @@ cancel [] xs ys e = e
 cancel (u ∷ us) xs ys e = cancel us xs ys (cc e)
 
 -- a game in its text, with its own bytes and what stands before and behind them
-pub record Own (bytes : List ℕ) (t : Placed) (ts : List Placed) (end : ℕ) : Type 0 where
+pub record Own (bytes : List ℕ) (t : Placed) (ts vs : List Placed) (end : ℕ) : Type 0 where
   pub front : List ℕ
   pub game : List ℕ
   pub rest : List ℕ
@@ -125,6 +125,7 @@ pub record Own (bytes : List ℕ) (t : Placed) (ts : List Placed) (end : ℕ) : 
   pub end_is : end ≡ length front + length game
   pub tokens_are : t ∷ ts ≡ map (moved_token (length front) lines) (tokens game)
   pub later_are : From (length front + 1) ts
+  pub behind_are : From end vs
 
 -- a text that goes on behind a shorter one
 longer : (a : List ℕ) (b : ℕ) (r w y : List ℕ) → a ++ b ∷ r ≡ w ++ y → length a < length w → (x : List ℕ) × (w ≡ a ++ b ∷ x)
@@ -215,7 +216,7 @@ module _ (bytes : List ℕ) (us : List Placed) (t : Placed) (ts vs gs : List Pla
       ∙ ap (tokens_after size ((machine last_found.front).at + 1) (line_after (machine last_found.front).line last_found.b) (not (in_class InLine last_found.b)))
         (sym (take-append-drop size last_found.rest) ∙ ap (λ xs. within ++ xs) e)
 
-  upto_tokens : (ys : List ℕ) → drop size last_found.rest ≡ ys → tokens upto ≡ us ++ (t ∷ ts)
+  upto_tokens : (ys : List ℕ) → drop size last_found.rest ≡ ys → (tokens upto ≡ us ++ (t ∷ ts)) × From (length upto) vs
   unfolding size within upto
   upto_tokens [] d =
       let m : Machine = machine last_found.front in
@@ -223,7 +224,10 @@ module _ (bytes : List ℕ) (us : List Placed) (t : Placed) (ts vs gs : List Pla
       let line = line_after m.line last_found.b in
       let none : vs ≡ [] =
       behind_last [] d ∙ ap (tokens_after size (m.at + 1) line first) (append-nil within) ∙ ap (λ n. tokens_after n (m.at + 1) line first within) (sym size_is) ∙ none_behind within (m.at + 1) line first in
-      ap tokens (sym (append-nil upto) ∙ ap (λ xs. upto ++ xs) (sym d) ∙ sym upto_is) ∙ e ∙ ap (λ xs. us ++ ((t ∷ ts) ++ xs)) none ∙ ap (λ xs. us ++ xs) (append-nil (t ∷ ts))
+      (
+        ap tokens (sym (append-nil upto) ∙ ap (λ xs. upto ++ xs) (sym d) ∙ sym upto_is) ∙ e ∙ ap (λ xs. us ++ ((t ∷ ts) ++ xs)) none ∙ ap (λ xs. us ++ xs) (append-nil (t ∷ ts)),
+        subst (From (length upto)) (sym none) (λ k d inside. absurd (omega arith)),
+      )
   upto_tokens (c ∷ rs) d =
       let f = last_found in
       let m : Machine = machine f.front in
@@ -239,9 +243,9 @@ module _ (bytes : List ℕ) (us : List Placed) (t : Placed) (ts vs gs : List Pla
       let late : From n vs =
       subst (From n) (sym (behind_last (c ∷ rs) d)) (subst (λ k. From n (tokens_after k (m.at + 1) line first (within ++ c ∷ rs))) size_is
       (subst (λ k. From k (tokens_after (length within) (m.at + 1) line first (within ++ c ∷ rs))) far (passed_from within (c ∷ rs) (m.at + 1) line first))) in
-      (parted n (tokens upto) ys (us ++ (t ∷ ts)) vs (places_inside upto) (subst (λ k. From k ys) (at_length upto) (after_from 0 m'.at m'.line m'.first (c ∷ rs))) own_before late whole).0
+      ((parted n (tokens upto) ys (us ++ (t ∷ ts)) vs (places_inside upto) (subst (λ k. From k ys) (at_length upto) (after_from 0 m'.at m'.line m'.first (c ∷ rs))) own_before late whole).0, late)
 
-  pub own : Own bytes t ts tl.end
+  pub own : Own bytes t ts vs tl.end
   own =
       let f = first_found in
       let g = last_found in
@@ -258,7 +262,7 @@ module _ (bytes : List ℕ) (us : List Placed) (t : Placed) (ts vs gs : List Pla
       let at_is : m.at ≡ length a + 0 = omega (arith, at_length a) in
       let tests = good_byte m.first b f.rest t.token good f.token_is in
       let mine : t ∷ ts ≡ tokens_after 0 m.at m.line m.first game =
-      cancel us (t ∷ ts) (tokens_after 0 m.at m.line m.first game) (sym (upto_tokens ys refl) ∙ ap tokens l.1 ∙ boundary a b l.0 f.over ∙ ap (λ xs. xs ++ tokens_after 0 m.at m.line m.first game) (sym f.us_are)) in
+      cancel us (t ∷ ts) (tokens_after 0 m.at m.line m.first game) (sym (upto_tokens ys refl).0 ∙ ap tokens l.1 ∙ boundary a b l.0 f.over ∙ ap (λ xs. xs ++ tokens_after 0 m.at m.line m.first game) (sym f.us_are)) in
       record {
         front = a;
         game = game;
@@ -270,5 +274,6 @@ module _ (bytes : List ℕ) (us : List Placed) (t : Placed) (ts vs gs : List Pla
         tokens_are = mine ∙ first_free m.first m.at m.line b l.0 f.rest t.token good f.token_is ∙ ap (λ n. tokens_after 0 n m.line true game) at_is
             ∙ ap (λ n. tokens_after 0 (length a + 0) n true game) line_is ∙ after_moved (length a) k 0 0 1 true game
             ∙ ap (map (moved_token (length a) k)) (sym (unmarked game (no_mark_begins b l.0 tests.0).0));
+        behind_are = subst (λ n. From n vs) upto_size (upto_tokens ys refl).1;
         later_are = front_of (λ (t : Placed). length a + 1 ≤ t.offset) ts vs behind_first;
       }

@@ -1,11 +1,12 @@
 -- What games keep where their results are changed.
-use Rattle.std.specs.Prelude.{◌≡◌, if◌then◌else◌, List, [], ◌∷◌, Option, Some, None, ⊤}
+use Rattle.std.specs.Prelude.{◌≡◌, Bool, false, is_some, if◌then◌else◌, List, [], ◌∷◌, Option, Some, None, ⊤}
 use Rattle.std.specs.Option.{option_map}
 use Rattle.pgn_lex.specs.declared.kinds.Placed.{Placed}
 use Rattle.pgn_games.specs.declared.faults.GameFault.{GameFault}
 use Rattle.pgn_games.specs.declared.faults.GameFault.TheVariants.{BadToken}
 use Rattle.pgn_games.specs.declared.marks.ResultMark.{ResultMark}
 use Rattle.pgn_games.specs.declared.played.Game.{Game}
+use Rattle.pgn_games.specs.Cutting.{mark_of}
 use Rattle.pgn_games.specs.Games.{game_of}
 use Rattle.pgn_results.specs.Replacing.{has_result}
 
@@ -43,3 +44,15 @@ OnlyReadable [] marks = ⊤
 OnlyReadable (game ∷ games) [] = ⊤
 OnlyReadable (game ∷ games) (None ∷ marks) = OnlyReadable games marks
 OnlyReadable (game ∷ games) (Some mark ∷ marks) = ((game_of game).fault ≡ None) × OnlyReadable games marks
+
+-- the first of these tokens is a result
+unfoldable pub begins_with_result : List Placed → Bool
+begins_with_result [] = false
+begins_with_result (t ∷ ts) = is_some (mark_of t.token)
+
+-- a mark is given only to a game with a token before its result
+unfoldable pub OnlyBegun : List (List Placed) → List (Option ResultMark) → Type 0
+OnlyBegun [] marks = ⊤
+OnlyBegun (game ∷ games) [] = ⊤
+OnlyBegun (game ∷ games) (None ∷ marks) = OnlyBegun games marks
+OnlyBegun (game ∷ games) (Some mark ∷ marks) = (begins_with_result game ≡ false) × OnlyBegun games marks

@@ -3,7 +3,7 @@ use Rattle.std.specs.Bool.{⊤}
 use Rattle.std.proofs.Common.{◌≡◌, ℕ, zero, suc, ◌+◌, ◌-◌, ◌<◌, ◌≤◌, ◌==◌, Bool, true, false, not, ◌&&◌, ◌||◌, if◌then◌else◌, is_some, List, [], ◌∷◌, ◌++◌, Option, Some, None, length, map, take, drop, refl, sym, ap, ◌∙◌, subst, arith, append_assoc, append-nil, length-append}
 use Rattle.std.specs.List.{All, fold, filter_map, cons_option, slice_get, list_any}
 use Rattle.std.specs.Option.{option_map, option_or}
-use Rattle.std.proofs.lemmas.List.{take-append-drop, take-append-le, map-append}
+use Rattle.std.proofs.lemmas.List.{take-append-drop, take-append-le, drop-append-le, map-append}
 use Rattle.std.proofs.lemmas.List.Elements.{All-head, All-tail}
 use Rattle.std.proofs.lemmas.List.Sums.{fold_push}
 use Rattle.pgn_lex.specs.declared.kinds.Token.{Token}
@@ -147,3 +147,124 @@ unfolding with_mark Late
 mark_begins tagged depth mark [] x xs h = (xs, refl)
 mark_begins tagged depth mark (t ∷ ts) x xs h =
     mark_begins_by (is_result_at depth t.token) tagged depth mark t ts x xs refl h.0 (mark_begins (tagged || is_result_tag t.token) (depth_after depth t.token) mark ts x xs h.1)
+
+-- what is known of a game in its text
+pub record One (bytes : List ℕ) (t : Placed) (ts vs : List Placed) : Type 0 where
+  pub front : List ℕ
+  pub game : List ℕ
+  pub rest : List ℕ
+  pub x : ℕ
+  pub xs : List ℕ
+  pub bytes_are : bytes ≡ front ++ (game ++ rest)
+  pub start_is : (span_of (t ∷ ts)).start ≡ length front
+  pub end_is : (span_of (t ∷ ts)).end ≡ length front + length game
+  pub behind_are : From (span_of (t ∷ ts)).end vs
+  pub game_is : game ≡ x ∷ xs
+  pub late : Late 0 (tokens game)
+  pub changes : (mark : ResultMark) (more : List ℕ) → with_mark false 0 mark (t ∷ ts) (front ++ (game ++ more)) ≡ front ++ (game_with_mark mark game more ++ more)
+
+one : (bytes : List ℕ) (us : List Placed) (t : Placed) (ts vs : List Placed) → tokens bytes ≡ us ++ ((t ∷ ts) ++ vs) → Ended 0 (t ∷ ts) → (game_of (t ∷ ts)).fault ≡ None
+    → begins_with_result (t ∷ ts) ≡ false → One bytes t ts vs
+unfolding begins_with_result span_of has_result
+one bytes us t ts vs e ended fine begun =
+    let l = last_of t ts in
+    let o : Own bytes t ts vs l.1.end = own bytes us t ts vs l.0 l.1 e l.2 (good_first t ts fine) in
+    let n = length o.front in
+    let f = filled n o.lines t ts o.game o.tokens_are in
+    let late = late_first n o.lines t ts (tokens o.game) o.tokens_are begun o.later_are in
+    let ended' = ended_back n o.lines 0 (tokens o.game) (subst (Ended 0) o.tokens_are ended) in
+    let ends : (us' : List Placed) (u : Placed) → tokens o.game ≡ us' ++ u ∷ [] → u.end ≡ length o.game =
+    (λ us' u g.
+      let there : map (moved_token n o.lines) us' ++ moved_token n o.lines u ∷ [] ≡ l.0 ++ l.1 ∷ [] =
+      sym (map-append (moved_token n o.lines) us' (u ∷ [])) ∙ ap (map (moved_token n o.lines)) (sym g) ∙ sym o.tokens_are ∙ l.2 in
+      let same = same_last (map (moved_token n o.lines) us') l.0 (moved_token n o.lines u) l.1 there in
+      omega (arith, ap (λ (x : Placed). x.end) same, o.end_is)) in
+    record {
+      front = o.front;
+      game = o.game;
+      rest = o.rest;
+      x = f.0;
+      xs = f.1;
+      bytes_are = o.bytes_are;
+      start_is = o.start_is;
+      end_is = end_by t ts l.0 l.1 l.2 ∙ o.end_is;
+      behind_are = subst (λ k. From k vs) (sym (end_by t ts l.0 l.1 l.2)) o.behind_are;
+      game_is = f.2;
+      late = late;
+      changes = λ mark more.
+          ap (λ us. with_mark false 0 mark us (o.front ++ (o.game ++ more))) o.tokens_are
+          ∙ ap (λ ys. with_mark false 0 mark (map (moved_token n o.lines) (tokens o.game)) (o.front ++ (ys ++ more))) f.2
+          ∙ behind false 0 mark o.lines o.front f.0 (f.1 ++ more) (tokens o.game) late
+          ∙ ap (λ ys. o.front ++ with_mark false 0 mark (tokens o.game) (ys ++ more)) (sym f.2)
+          ∙ ap (λ ys. o.front ++ ys) (spaced false 0 mark o.game more [] (tokens o.game) refl ended' ends)
+          ∙ ap (λ ys. o.front ++ ys) (sym (append_assoc (with_mark false 0 mark (tokens o.game) o.game) (space_behind mark (tokens o.game) more) more));
+    }
+
+all_back : (P : Placed → Type 0) (xs ys : List Placed) → All P (xs ++ ys) → All P ys
+all_back P [] ys h = h
+all_back P (x ∷ xs) ys h = all_back P xs ys (All-tail P x (xs ++ ys) h)
+
+begins_two : (p q r : List ℕ) → begins_word q ≡ begins_word r → begins_word (p ++ q) ≡ begins_word (p ++ r)
+begins_two [] q r e = e
+begins_two (x ∷ p) q r e = refl
+
+-- a corrected text from a place on, and its first byte
+abbrev Goes : List (List Placed) → List (Option ResultMark) → List ℕ → ℕ → Type 0
+Goes games marks bytes start =
+    (corrected_games games marks bytes ≡ take start bytes ++ written start bytes (map placed_game_of games) marks)
+    × (begins_word (written start bytes (map placed_game_of games) marks) ≡ begins_word (drop start bytes))
+
+goes_by : (bytes : List ℕ) (t : Placed) (ts : List Placed) (games : List (List Placed)) (mark : ResultMark) (marks : List (Option ResultMark)) (start : ℕ) → One bytes t ts (joined games)
+    → start ≤ t.offset → Goes games marks bytes (span_of (t ∷ ts)).end → Goes ((t ∷ ts) ∷ games) (Some mark ∷ marks) bytes start
+unfolding corrected_games written span_of has_result
+goes_by bytes t ts games mark marks start o low (e, begins) =
+    let a = o.front in
+    let end = (span_of (t ∷ ts)).end in
+    let later = written end bytes (map placed_game_of games) marks in
+    let upto : take end bytes ≡ a ++ o.game = ap (λ n. take n bytes) o.end_is ∙ ap (take (length a + length o.game)) o.bytes_are ∙ take_on a (o.game ++ o.rest) (length o.game) ∙ ap (λ xs. a ++ xs) (take_front o.game o.rest) in
+    let behind_it : drop end bytes ≡ o.rest = ap (λ n. drop n bytes) o.end_is ∙ ap (drop (length a + length o.game)) o.bytes_are ∙ drop_on a (o.game ++ o.rest) (length o.game) ∙ drop_front o.game o.rest in
+    let before_it : take t.offset bytes ≡ a = ap (λ n. take n bytes) o.start_is ∙ ap (take (length a)) o.bytes_are ∙ take_front a (o.game ++ o.rest) in
+    let own_bytes : between t.offset end bytes ≡ o.game = ap (drop t.offset) upto ∙ ap (λ n. drop n (a ++ o.game)) o.start_is ∙ drop_front a o.game in
+    let few : start ≤ length a = omega (arith, low, o.start_is) in
+    let front_is : take start bytes ≡ take start a = ap (take start) o.bytes_are ∙ take-append-le start a (o.game ++ o.rest) few in
+    let same_space : game_with_mark mark o.game later ≡ game_with_mark mark o.game o.rest = ap (λ b. with_mark false 0 mark (tokens o.game) o.game ++ (if has_result (tokens o.game) && (is_word mark && b) then 32 ∷ [] else [])) (begins ∙ ap begins_word behind_it) in
+    let said : between start t.offset bytes ++ (game_with_mark mark (between t.offset end bytes) (drop end bytes) ++ later) ≡ drop start a ++ (game_with_mark mark o.game o.rest ++ later) =
+    ap (λ xs. drop start xs ++ (game_with_mark mark (between t.offset end bytes) (drop end bytes) ++ later)) before_it
+    ∙ ap (λ xs. drop start a ++ (game_with_mark mark xs (drop end bytes) ++ later)) own_bytes ∙ ap (λ xs. drop start a ++ (game_with_mark mark o.game xs ++ later)) behind_it in
+    let b = mark_begins false 0 mark (tokens o.game) o.x o.xs o.late in
+    let first : game_with_mark mark o.game o.rest ++ later ≡ o.x ∷ ((b.0 ++ space_behind mark (tokens o.game) o.rest) ++ later) =
+    ap (λ xs. (xs ++ space_behind mark (tokens o.game) o.rest) ++ later) (ap (with_mark false 0 mark (tokens o.game)) o.game_is ∙ b.1) in
+    let first' : o.game ++ o.rest ≡ o.x ∷ (o.xs ++ o.rest) = ap (λ xs. xs ++ o.rest) o.game_is in
+    (
+      ap (with_mark false 0 mark (t ∷ ts)) (e ∙ ap (λ xs. xs ++ later) upto ∙ append_assoc a o.game later) ∙ o.changes mark later ∙ ap (λ xs. a ++ (xs ++ later)) same_space
+      ∙ ap (λ xs. xs ++ (game_with_mark mark o.game o.rest ++ later)) (sym (take-append-drop start a))
+      ∙ append_assoc (take start a) (drop start a) (game_with_mark mark o.game o.rest ++ later)
+      ∙ ap (λ xs. xs ++ (drop start a ++ (game_with_mark mark o.game o.rest ++ later))) (sym front_is) ∙ ap (λ xs. take start bytes ++ xs) (sym said),
+      ap begins_word said ∙ begins_two (drop start a) (game_with_mark mark o.game o.rest ++ later) (o.game ++ o.rest) (ap begins_word first ∙ sym (ap begins_word first'))
+      ∙ ap begins_word (sym (ap (drop start) o.bytes_are ∙ drop-append-le start a (o.game ++ o.rest) few)),
+    )
+
+goes : (games : List (List Placed)) (marks : List (Option ResultMark)) (us : List Placed) (bytes : List ℕ) (start : ℕ) → tokens bytes ≡ us ++ joined games → AllEnded 0 games
+    → All (λ (game : List Placed). 0 < length game) games → OnlyReadable games marks → OnlyBegun games marks → From start (joined games) → Goes games marks bytes start
+unfolding corrected_games written AllEnded OnlyReadable OnlyBegun
+goes [] marks us bytes start e ended some readable begun late = (sym (take-append-drop start bytes), refl)
+goes (game ∷ games) [] us bytes start e ended some readable begun late = (sym (take-append-drop start bytes), refl)
+goes (game ∷ games) (None ∷ marks) us bytes start e ended some readable begun late =
+    goes games marks (us ++ game) bytes start (e ∙ sym (append_assoc us game (joined games))) ended.1 (All-tail (λ (game : List Placed). 0 < length game) game games some) readable begun
+    (all_back (λ (t : Placed). start ≤ t.offset) game (joined games) late)
+goes ([] ∷ games) (Some mark ∷ marks) us bytes start e ended some readable begun late = absurd (omega (arith, All-head (λ (game : List Placed). 0 < length game) [] games some))
+goes ((t ∷ ts) ∷ games) (Some mark ∷ marks) us bytes start e ended some readable begun late =
+    let o : One bytes t ts (joined games) = one bytes us t ts (joined games) e ended.0 readable.0 begun.0 in
+    goes_by bytes t ts games mark marks start o (All-head (λ (t : Placed). start ≤ t.offset) t (ts ++ joined games) late)
+    (goes games marks (us ++ (t ∷ ts)) bytes (span_of (t ∷ ts)).end (e ∙ sym (append_assoc us (t ∷ ts) (joined games))) ended.1 (All-tail (λ (game : List Placed). 0 < length game) (t ∷ ts) games some)
+      readable.1 begun.1 o.behind_are)
+
+all_from : (ts : List Placed) → From 0 ts
+all_from ts k d inside = omega arith
+
+pub one_by_one : (bytes : List ℕ) (marks : List (Option ResultMark)) → OnlyReadable (cut Before (tokens bytes)) marks → OnlyBegun (cut Before (tokens bytes)) marks
+    → corrected bytes marks ≡ written 0 bytes (placed_games bytes) marks
+unfolding placed_games
+one_by_one bytes marks readable begun =
+    let ts = tokens bytes in
+    (goes (cut Before ts) marks [] bytes 0 (sym (none_lost ts)) (all_ended ts) (none_empty ts) readable begun (all_from (joined (cut Before ts)))).0

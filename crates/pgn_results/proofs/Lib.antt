@@ -17,3 +17,4 @@ pub mod OwnTokens
 pub mod Alone
 pub mod Endings
 pub mod OneByOne
+pub mod ResultAlone

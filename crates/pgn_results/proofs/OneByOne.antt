@@ -24,7 +24,7 @@ use Rattle.pgn_results.specs.Correcting.{corrected_games, corrected, between, wr
 use Rattle.pgn_results.specs.Kept.{OnlyReadable, begins_with_result, OnlyBegun}
 use Rattle.pgn_results.proofs.Standing.{From}
 use Rattle.pgn_results.proofs.OwnTokens.{Own, own}
-use Rattle.pgn_results.proofs.Marked.{joined}
+use Rattle.pgn_results.proofs.Marked.{joined, right_true}
 use Rattle.pgn_results.proofs.TagReplaced.{take_front, drop_front}
 use Rattle.pgn_results.proofs.Alone.{Ended, Late, spaced, behind, take_on, drop_on}
 use Rattle.pgn_results.proofs.Endings.{AllEnded, all_ended}
@@ -89,10 +89,6 @@ late_by n k depth (t ∷ ts) h =
 no_tokens : tokens [] ≡ []
 unfolding tokens has_mark tokens_after
 no_tokens = refl
-
-right_true : (v w : Bool) → (v && w) ≡ true → w ≡ true
-right_true true w e = e
-right_true false w e = cc
 
 late_first : (n k : ℕ) (t : Placed) (ts : List Placed) (us : List Placed) → t ∷ ts ≡ map (moved_token n k) us → is_some (mark_of t.token) ≡ false → From (n + 1) ts → Late 0 us
 unfolding Late

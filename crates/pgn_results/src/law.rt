@@ -1,13 +1,14 @@
 //! The laws of corrected texts: their games are the same, but for their results, and each may be written from its own bytes.
 
-ghost use Rattle.std.specs.Prelude.{◌≡◌, ℕ, Option, List, map};
+ghost use Rattle.std.specs.Prelude.{◌≡◌, [], ℕ, true, Option, List, map, All};
+ghost use Rattle.pgn_lex.specs.declared.kinds.Placed.{Placed};
 ghost use Rattle.pgn_lex.specs.Tokens.{tokens};
 ghost use Rattle.pgn_games.specs.declared.marks.ResultMark.{ResultMark};
 ghost use Rattle.pgn_games.specs.declared.token_turns.Place.TheVariants.{Before};
 ghost use Rattle.pgn_games.specs.Cutting.{cut};
-ghost use Rattle.pgn_games.specs.Games.{games, placed_games};
+ghost use Rattle.pgn_games.specs.Games.{opening, game_of, games, placed_games};
 ghost use Rattle.pgn_results.specs.Correcting.{corrected, written};
-ghost use Rattle.pgn_results.specs.Kept.{told, told_games, OnlyReadable, OnlyBegun};
+ghost use Rattle.pgn_results.specs.Kept.{told, told_games, begins_with_result, OnlyReadable, OnlyBegun};
 
 /// A text whose readable games got other results has as many games, and each says what it said, but for the places of faults, and with the
 /// result that it got where one ended it.
@@ -21,4 +22,9 @@ pub fn corrected_games_stay_the_same()
 pub fn games_are_corrected_one_by_one()
     ensures { (bytes : List ℕ) → (marks : List (Option ResultMark)) → OnlyReadable (cut Before (tokens bytes)) marks → OnlyBegun (cut Before (tokens bytes)) marks
         → corrected bytes marks ≡ written 0 bytes (placed_games bytes) marks }
+{}
+
+/// A game of a text that has no token before its result has no move, and starts from the opening position.
+pub fn a_result_alone_has_no_move()
+    ensures { (ts : List Placed) → All (λ (game : List Placed). begins_with_result game ≡ true → ((game_of game).words ≡ []) × ((game_of game).start ≡ opening)) (cut Before ts) }
 {}

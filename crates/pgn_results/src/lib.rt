@@ -9,6 +9,8 @@ mod places;
 mod quotes;
 mod replacing;
 
-pub use law::{corrected_games_stay_the_same, games_are_corrected_one_by_one};
+pub use law::{
+    a_result_alone_has_no_move, corrected_games_stay_the_same, games_are_corrected_one_by_one,
+};
 pub use places::{ResultPlaces, result_places};
 pub use replacing::put_with_mark;

@@ -1,14 +1,12 @@
 -- A game with another result, in its text and alone.
 use Rattle.std.specs.Bool.{⊤}
-use Rattle.std.proofs.Common.{◌≡◌, ℕ, zero, suc, ◌+◌, ◌<◌, ◌≤◌, ◌==◌, Bool, true, false, not, ◌&&◌, ◌||◌, if◌then◌else◌, is_some, List, [], ◌∷◌, ◌++◌, Option, Some, None, length, map, take, drop, refl, sym, ap, ◌∙◌, subst, arith, append_assoc, append-nil}
-use Rattle.std.specs.List.{fold, list_any, All}
+use Rattle.std.proofs.Common.{◌≡◌, ℕ, zero, suc, ◌+◌, ◌<◌, ◌≤◌, ◌==◌, Bool, true, false, not, ◌&&◌, ◌||◌, if◌then◌else◌, is_some, List, [], ◌∷◌, ◌++◌, length, map, take, drop, refl, sym, ap, ◌∙◌, subst, arith, append_assoc, append-nil}
+use Rattle.std.specs.List.{list_any, All}
 use Rattle.std.proofs.Math.Seq.{drop-length}
 use Rattle.std.proofs.lemmas.List.{take-append-le}
 use Rattle.std.proofs.lemmas.List.Sums.{fold-append}
 use Rattle.pgn_lex.specs.declared.classes.PgnClass.TheVariants.{WordByte}
 use Rattle.pgn_lex.specs.Classes.{in_pgn_class}
-use Rattle.pgn_lex.specs.declared.kinds.Token.{Token}
-use Rattle.pgn_lex.specs.declared.kinds.Token.TheVariants.{Tag}
 use Rattle.pgn_lex.specs.declared.kinds.Placed.{Placed}
 use Rattle.pgn_lex.specs.Tokens.{tokens}
 use Rattle.pgn_lex.proofs.InOrder.{places_inside}
@@ -17,10 +15,10 @@ use Rattle.pgn_games.specs.declared.marks.ResultMark.{ResultMark}
 use Rattle.pgn_games.specs.declared.marks.ResultMark.TheVariants.{WhiteWins, BlackWins, Draw, Unknown}
 use Rattle.pgn_games.specs.Cutting.{mark_of, depth_after}
 use Rattle.pgn_games.specs.Fields.{outside}
-use Rattle.pgn_results.specs.Replacing.{mark_text, leans, begins_word, apart, with_token, with_value, with_tag, with_tag_if, is_result_tag, is_result_at, with_mark, is_word, has_result, space_behind, game_with_mark}
+use Rattle.pgn_results.specs.Replacing.{mark_text, leans, begins_word, apart, with_token, with_value, with_tag_if, is_result_tag, is_result_at, with_mark, is_word}
 use Rattle.pgn_results.proofs.Standing.{one_of_all}
-use Rattle.pgn_results.proofs.TagReplaced.{take_front, drop_front, tag_within}
-use Rattle.pgn_results.proofs.Marked.{game_reads, named_tag, left_true, right_true}
+use Rattle.pgn_results.proofs.TagReplaced.{drop_front, tag_within}
+use Rattle.pgn_results.proofs.Marked.{game_reads, named_tag, left_true}
 
 -- only the last of these tokens is a result that ends a game
 unfoldable pub Ended : ℕ → List Placed → Type 0

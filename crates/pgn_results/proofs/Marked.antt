@@ -1,8 +1,6 @@
 -- The tokens of a text whose games have other results.
-use Rattle.std.proofs.Common.{◌≡◌, ℕ, ◌+◌, ◌==◌, Bool, true, false, not, ◌&&◌, ◌||◌, if◌then◌else◌, is_some, List, [], ◌∷◌, ◌++◌, Option, Some, None, length, map, refl, sym, ap, ◌∙◌, subst, arith, append_assoc, append-nil}
-use Rattle.std.specs.Prelude.{codes}
+use Rattle.std.proofs.Common.{◌≡◌, ℕ, ◌==◌, Bool, true, false, not, ◌&&◌, ◌||◌, if◌then◌else◌, is_some, List, [], ◌∷◌, ◌++◌, Option, Some, None, refl, sym, ap, ◌∙◌, append_assoc}
 use Rattle.std.specs.List.{flat_map}
-use Rattle.std.specs.Str.{bytes_eq}
 use Rattle.pgn_lex.specs.declared.kinds.Token.{Token}
 use Rattle.pgn_lex.specs.declared.kinds.Token.TheVariants.{Tag, BadTag, Word, Star, Enter, Leave, Bad, Unclosed}
 use Rattle.pgn_lex.specs.declared.kinds.Placed.{Placed}
@@ -10,7 +8,7 @@ use Rattle.pgn_lex.specs.Tokens.{tokens}
 use Rattle.pgn_games.specs.declared.marks.ResultMark.{ResultMark}
 use Rattle.pgn_games.specs.Cutting.{mark_of, depth_after}
 use Rattle.pgn_games.specs.Fields.{value_named}
-use Rattle.pgn_results.specs.Replacing.{mark_text, with_token, with_tag, with_tag_if, is_result_tag, is_result_at, with_mark}
+use Rattle.pgn_results.specs.Replacing.{mark_text, with_tag_if, is_result_tag, is_result_at, with_mark}
 use Rattle.pgn_results.specs.Correcting.{corrected_games}
 use Rattle.pgn_results.proofs.TokenKinds.{kinds, kinds_append}
 use Rattle.pgn_results.proofs.TagReplaced.{tag_replaced}

@@ -1,5 +1,5 @@
 -- Tokens, whatever results they tell and wherever they stand.
-use Rattle.std.proofs.Common.{◌≡◌, ℕ, ◌+◌, ◌==◌, Bool, true, false, not, ◌&&◌, ◌||◌, if◌then◌else◌, is_some, List, [], ◌∷◌, ◌++◌, Option, Some, None, length, map, refl, sym, ap, ◌∙◌, subst, arith}
+use Rattle.std.proofs.Common.{◌≡◌, ℕ, ◌==◌, Bool, true, false, not, ◌&&◌, ◌||◌, if◌then◌else◌, is_some, List, [], ◌∷◌, ◌++◌, Option, Some, None, map, refl, sym, ap, ◌∙◌, arith}
 use Rattle.std.specs.Prelude.{codes}
 use Rattle.std.specs.Str.{bytes_eq}
 use Rattle.std.proofs.lemmas.List.{map-append}
@@ -10,7 +10,7 @@ use Rattle.pgn_lex.specs.declared.kinds.Placed.{Placed}
 use Rattle.pgn_games.specs.declared.marks.ResultMark.{ResultMark}
 use Rattle.pgn_games.specs.declared.marks.ResultMark.TheVariants.{WhiteWins, BlackWins, Draw, Unknown}
 use Rattle.pgn_games.specs.declared.token_turns.Place.{Place}
-use Rattle.pgn_games.specs.Cutting.{mark_of, is_tag, depth_after, open_at, tag_turn, move_turn, turn}
+use Rattle.pgn_games.specs.Cutting.{mark_of, is_tag, depth_after, open_at, turn}
 use Rattle.pgn_games.specs.Fields.{value_named, move_word, is_bad, is_unclosed}
 use Rattle.pgn_results.specs.Replacing.{mark_text, is_result_tag, is_result_at}
 use Rattle.pgn_results.proofs.TokenKinds.{kinds, kinds_append}

@@ -1,25 +1,22 @@
 -- A corrected text, game by game.
-use Rattle.std.specs.Bool.{⊤}
-use Rattle.std.proofs.Common.{◌≡◌, ℕ, zero, suc, ◌+◌, ◌-◌, ◌<◌, ◌≤◌, ◌==◌, Bool, true, false, not, ◌&&◌, ◌||◌, if◌then◌else◌, is_some, List, [], ◌∷◌, ◌++◌, Option, Some, None, length, map, take, drop, refl, sym, ap, ◌∙◌, subst, arith, append_assoc, append-nil, length-append}
-use Rattle.std.specs.List.{All, fold, filter_map, cons_option, slice_get, list_any}
+use Rattle.std.proofs.Common.{◌≡◌, ℕ, zero, suc, ◌+◌, ◌<◌, ◌≤◌, ◌==◌, Bool, true, false, not, ◌&&◌, ◌||◌, if◌then◌else◌, is_some, List, [], ◌∷◌, ◌++◌, Option, Some, None, length, map, take, drop, refl, sym, ap, ◌∙◌, subst, arith, append_assoc}
+use Rattle.std.specs.List.{All, fold, cons_option, slice_get}
 use Rattle.std.specs.Option.{option_map, option_or}
 use Rattle.std.proofs.lemmas.List.{take-append-drop, take-append-le, drop-append-le, map-append}
 use Rattle.std.proofs.lemmas.List.Elements.{All-head, All-tail}
 use Rattle.std.proofs.lemmas.List.Sums.{fold_push}
-use Rattle.pgn_lex.specs.declared.kinds.Token.{Token}
 use Rattle.pgn_lex.specs.declared.kinds.Placed.{Placed}
 use Rattle.pgn_lex.specs.Tokens.{tokens, has_mark, tokens_after}
 use Rattle.pgn_lex.proofs.Joining.{moved_token}
 use Rattle.pgn_games.specs.declared.faults.GameFault.{GameFault}
 use Rattle.pgn_games.specs.declared.faults.GameFault.TheVariants.{BadToken}
 use Rattle.pgn_games.specs.declared.marks.ResultMark.{ResultMark}
-use Rattle.pgn_games.specs.declared.played.PlacedGame.{PlacedGame}
 use Rattle.pgn_games.specs.declared.token_turns.Place.TheVariants.{Before}
 use Rattle.pgn_games.specs.Cutting.{mark_of, depth_after, cut}
-use Rattle.pgn_games.specs.Fields.{outside, is_bad, bad_offset, first_bad}
+use Rattle.pgn_games.specs.Fields.{outside, is_bad, first_bad}
 use Rattle.pgn_games.specs.Games.{fault_of, game_of, span_of, placed_game_of, placed_games}
 use Rattle.pgn_games.proofs.EachToken.{none_lost, none_empty}
-use Rattle.pgn_results.specs.Replacing.{mark_text, leans, begins_word, apart, with_token, with_value, with_tag, with_tag_if, is_result_tag, is_result_at, with_mark, is_word, has_result, space_behind, game_with_mark}
+use Rattle.pgn_results.specs.Replacing.{mark_text, leans, begins_word, apart, with_token, with_value, with_tag_if, is_result_tag, is_result_at, with_mark, is_word, has_result, space_behind, game_with_mark}
 use Rattle.pgn_results.specs.Correcting.{corrected_games, corrected, between, written}
 use Rattle.pgn_results.specs.Kept.{OnlyReadable, begins_with_result, OnlyBegun}
 use Rattle.pgn_results.proofs.Standing.{From}
@@ -95,11 +92,13 @@ unfolding Late
 late_first n k t ts [] e m h = tt
 late_first n k t ts (u ∷ us) e m h =
     let same : t ≡ moved_token n k u = cc in
-    let rest : ts ≡ map (moved_token n k) us = cc e in
-    (λ d.
-      let yes : is_some (mark_of t.token) ≡ true = ap (λ (x : Placed). is_some (mark_of x.token)) same ∙ right_true (0 == 0) (is_some (mark_of u.token)) d in
-      let no : true ≡ false = sym yes ∙ m in
-      cc, late_by n k (depth_after 0 u.token) us (subst (From (n + 1)) rest h))
+    let rest : ts ≡ map (moved_token n k) us = cc e in (
+      λ d.
+          let yes : is_some (mark_of t.token) ≡ true = ap (λ (x : Placed). is_some (mark_of x.token)) same ∙ right_true (0 == 0) (is_some (mark_of u.token)) d in
+          let no : true ≡ false = sym yes ∙ m in
+          cc,
+      late_by n k (depth_after 0 u.token) us (subst (From (n + 1)) rest h),
+    )
 
 filled : (n k : ℕ) (t : Placed) (ts : List Placed) (game : List ℕ) → t ∷ ts ≡ map (moved_token n k) (tokens game) → (x : ℕ) × (xs : List ℕ) × (game ≡ x ∷ xs)
 filled n k t ts [] e = let no : t ∷ ts ≡ [] = e ∙ ap (map (moved_token n k)) no_tokens in cc
@@ -171,10 +170,10 @@ one bytes us t ts vs e ended fine begun =
     let ended' = ended_back n o.lines 0 (tokens o.game) (subst (Ended 0) o.tokens_are ended) in
     let ends : (us' : List Placed) (u : Placed) → tokens o.game ≡ us' ++ u ∷ [] → u.end ≡ length o.game =
     (λ us' u g.
-      let there : map (moved_token n o.lines) us' ++ moved_token n o.lines u ∷ [] ≡ l.0 ++ l.1 ∷ [] =
-      sym (map-append (moved_token n o.lines) us' (u ∷ [])) ∙ ap (map (moved_token n o.lines)) (sym g) ∙ sym o.tokens_are ∙ l.2 in
-      let same = same_last (map (moved_token n o.lines) us') l.0 (moved_token n o.lines u) l.1 there in
-      omega (arith, ap (λ (x : Placed). x.end) same, o.end_is)) in
+    let there : map (moved_token n o.lines) us' ++ moved_token n o.lines u ∷ [] ≡ l.0 ++ l.1 ∷ [] =
+    sym (map-append (moved_token n o.lines) us' (u ∷ [])) ∙ ap (map (moved_token n o.lines)) (sym g) ∙ sym o.tokens_are ∙ l.2 in
+    let same = same_last (map (moved_token n o.lines) us') l.0 (moved_token n o.lines u) l.1 there in
+    omega (arith, ap (λ (x : Placed). x.end) same, o.end_is)) in
     record {
       front = o.front;
       game = o.game;
@@ -230,14 +229,13 @@ goes_by bytes t ts games mark marks start o low (e, begins) =
     let b = mark_begins false 0 mark (tokens o.game) o.x o.xs o.late in
     let first : game_with_mark mark o.game o.rest ++ later ≡ o.x ∷ ((b.0 ++ space_behind mark (tokens o.game) o.rest) ++ later) =
     ap (λ xs. (xs ++ space_behind mark (tokens o.game) o.rest) ++ later) (ap (with_mark false 0 mark (tokens o.game)) o.game_is ∙ b.1) in
-    let first' : o.game ++ o.rest ≡ o.x ∷ (o.xs ++ o.rest) = ap (λ xs. xs ++ o.rest) o.game_is in
-    (
+    let first' : o.game ++ o.rest ≡ o.x ∷ (o.xs ++ o.rest) = ap (λ xs. xs ++ o.rest) o.game_is in (
       ap (with_mark false 0 mark (t ∷ ts)) (e ∙ ap (λ xs. xs ++ later) upto ∙ append_assoc a o.game later) ∙ o.changes mark later ∙ ap (λ xs. a ++ (xs ++ later)) same_space
-      ∙ ap (λ xs. xs ++ (game_with_mark mark o.game o.rest ++ later)) (sym (take-append-drop start a))
-      ∙ append_assoc (take start a) (drop start a) (game_with_mark mark o.game o.rest ++ later)
-      ∙ ap (λ xs. xs ++ (drop start a ++ (game_with_mark mark o.game o.rest ++ later))) (sym front_is) ∙ ap (λ xs. take start bytes ++ xs) (sym said),
+          ∙ ap (λ xs. xs ++ (game_with_mark mark o.game o.rest ++ later)) (sym (take-append-drop start a))
+          ∙ append_assoc (take start a) (drop start a) (game_with_mark mark o.game o.rest ++ later)
+          ∙ ap (λ xs. xs ++ (drop start a ++ (game_with_mark mark o.game o.rest ++ later))) (sym front_is) ∙ ap (λ xs. take start bytes ++ xs) (sym said),
       ap begins_word said ∙ begins_two (drop start a) (game_with_mark mark o.game o.rest ++ later) (o.game ++ o.rest) (ap begins_word first ∙ sym (ap begins_word first'))
-      ∙ ap begins_word (sym (ap (drop start) o.bytes_are ∙ drop-append-le start a (o.game ++ o.rest) few)),
+          ∙ ap begins_word (sym (ap (drop start) o.bytes_are ∙ drop-append-le start a (o.game ++ o.rest) few)),
     )
 
 goes : (games : List (List Placed)) (marks : List (Option ResultMark)) (us : List Placed) (bytes : List ℕ) (start : ℕ) → tokens bytes ≡ us ++ joined games → AllEnded 0 games
@@ -253,7 +251,7 @@ goes ((t ∷ ts) ∷ games) (Some mark ∷ marks) us bytes start e ended some re
     let o : One bytes t ts (joined games) = one bytes us t ts (joined games) e ended.0 readable.0 begun.0 in
     goes_by bytes t ts games mark marks start o (All-head (λ (t : Placed). start ≤ t.offset) t (ts ++ joined games) late)
     (goes games marks (us ++ (t ∷ ts)) bytes (span_of (t ∷ ts)).end (e ∙ sym (append_assoc us (t ∷ ts) (joined games))) ended.1 (All-tail (λ (game : List Placed). 0 < length game) (t ∷ ts) games some)
-      readable.1 begun.1 o.behind_are)
+    readable.1 begun.1 o.behind_are)
 
 all_from : (ts : List Placed) → From 0 ts
 all_from ts k d inside = omega arith

@@ -1,5 +1,5 @@
 -- Where a token begins, the piece before it has ended.
-use Rattle.std.proofs.Common.{◌≡◌, ℕ, zero, suc, ◌+◌, ◌<◌, ◌≤◌, ◌==◌, Bool, true, false, List, [], ◌∷◌, ◌++◌, Option, Some, None, length, refl, sym, ap, ◌∙◌, subst, arith, append_assoc, append-nil}
+use Rattle.std.proofs.Common.{◌≡◌, ℕ, ◌+◌, ◌<◌, ◌≤◌, ◌==◌, Bool, true, false, List, [], ◌∷◌, ◌++◌, Option, Some, None, length, refl, sym, ap, ◌∙◌, subst, arith, append_assoc, append-nil}
 use Rattle.std.specs.List.{All}
 use Rattle.std.proofs.lemmas.List.Elements.{All-cons, All-head, All-tail, All-append}
 use Rattle.pgn_lex.specs.declared.kinds.Token.{Token}
@@ -13,7 +13,7 @@ use Rattle.pgn_lex.specs.Tokens.{placed, tokens_after, tokens, settled_tokens}
 use Rattle.pgn_lex.specs.Stages.{run_on, next_stage, tokens_at, Machine, stepped, said_at, at_front, read_from, machine}
 use Rattle.pgn_lex.specs.Left.{left_of_piece, gives_at}
 use Rattle.pgn_lex.proofs.Following.{is_plain, FollowsAt, follows}
-use Rattle.pgn_lex.proofs.Feeding.{gives_plain, piece_gives, settled_first, ended_tokens, at_length, read_more, machine_more, settled_more}
+use Rattle.pgn_lex.proofs.Feeding.{gives_plain, settled_first, ended_tokens, at_length, machine_more, settled_more}
 use Rattle.pgn_lex.proofs.InOrder.{places_inside}
 use Rattle.pgn_results.proofs.Standing.{From, after_from, one_of_all}
 

@@ -1,12 +1,11 @@
 -- The tokens of a game's own bytes are those that it has in its text.
-use Rattle.std.proofs.Common.{◌≡◌, ◌⊎◌, inl, inr, ℕ, zero, suc, ◌+◌, ◌-◌, ◌<◌, ◌≤◌, ◌==◌, Bool, true, false, not, ◌&&◌, if◌then◌else◌, List, [], ◌∷◌, ◌++◌, Option, Some, None, length, map, take, drop, refl, sym, ap, ◌∙◌, subst, arith, append_assoc, append-nil, length-append}
-use Rattle.std.specs.List.{All, fold}
+use Rattle.std.proofs.Common.{◌≡◌, ◌⊎◌, inl, inr, ℕ, ◌+◌, ◌-◌, ◌<◌, ◌≤◌, ◌==◌, Bool, true, false, not, if◌then◌else◌, List, [], ◌∷◌, ◌++◌, Some, length, map, take, drop, refl, sym, ap, ◌∙◌, subst, arith, append_assoc, append-nil, length-append}
+use Rattle.std.specs.List.{fold}
 use Rattle.std.proofs.lemmas.Bool.{eqb-true}
 use Rattle.std.proofs.lemmas.List.{take-append-drop, length-take-le}
-use Rattle.std.proofs.lemmas.List.Elements.{All-cons, All-head, All-tail, All-append, All-push}
+use Rattle.std.proofs.lemmas.List.Elements.{All-cons, All-head, All-tail, All-append}
 use Rattle.cha_list.specs.declared.classes.Class.TheVariants.{InLine}
 use Rattle.cha_list.specs.Bytes.{in_class}
-use Rattle.pgn_lex.specs.declared.classes.PgnClass.TheVariants.{WordByte}
 use Rattle.pgn_lex.specs.Classes.{in_pgn_class}
 use Rattle.pgn_lex.specs.declared.kinds.Token.{Token}
 use Rattle.pgn_lex.specs.declared.kinds.Token.TheVariants.{Bad}
@@ -14,8 +13,8 @@ use Rattle.pgn_lex.specs.declared.kinds.Placed.{Placed}
 use Rattle.pgn_lex.specs.declared.pieces.Piece.{Piece}
 use Rattle.pgn_lex.specs.declared.stages.Next.TheVariants.{Over}
 use Rattle.pgn_lex.specs.Pieces.{spoken_piece, is_white}
-use Rattle.pgn_lex.specs.Tokens.{piece, line_after, tokens_after, has_mark, tokens}
-use Rattle.pgn_lex.specs.Stages.{next_stage, Machine, at_front, read_from, machine}
+use Rattle.pgn_lex.specs.Tokens.{piece, line_after, tokens_after, tokens}
+use Rattle.pgn_lex.specs.Stages.{next_stage, Machine, at_front, machine}
 use Rattle.pgn_lex.proofs.Following.{is_plain}
 use Rattle.pgn_lex.proofs.Feeding.{at_length, line_from, unmarked, no_mark_begins}
 use Rattle.pgn_lex.proofs.InOrder.{places_inside}
@@ -26,7 +25,6 @@ use Rattle.pgn_results.proofs.Boundaries.{boundary}
 use Rattle.pgn_results.proofs.Overs.{Before, front_of, over_there, over_plain}
 use Rattle.pgn_results.proofs.Found.{Found, found_by, found}
 use Rattle.pgn_results.proofs.PieceEnds.{piece_bound, over_behind, plain_behind, passed_from, none_behind}
-use Rattle.pgn_results.proofs.TagReplaced.{take_front, drop_front}
 
 -- tokens before a place, and tokens from it on, are parted in one way
 parted : (n : ℕ) (xs ys us vs : List Placed) → Before n xs → From n ys → Before n us → From n vs → xs ++ ys ≡ us ++ vs → (xs ≡ us) × (ys ≡ vs)
@@ -83,10 +81,10 @@ no_percent : (b : ℕ) (bs : List ℕ) (token : Token) → is_bad token ≡ fals
 unfolding is_bad
 no_percent b bs token good e =
     is_not (b == 37) b 37 refl (λ is.
-      let bad : Some Bad ≡ Some token = ap (λ (p : Piece). p.token) (sym (percent bs)) ∙ ap (λ x. (piece false x bs).token) (sym is) ∙ e in
-      let same : Bad ≡ token = cc in
-      let no : true ≡ false = ap is_bad same ∙ good in
-      cc)
+    let bad : Some Bad ≡ Some token = ap (λ (p : Piece). p.token) (sym (percent bs)) ∙ ap (λ x. (piece false x bs).token) (sym is) ∙ e in
+    let same : Bad ≡ token = cc in
+    let no : true ≡ false = ap is_bad same ∙ good in
+    cc)
 
 first_moved : (at line : ℕ) (b : ℕ) (bs : List ℕ) → piece false b bs ≡ piece true b bs → tokens_after 0 at line false (b ∷ bs) ≡ tokens_after 0 at line true (b ∷ bs)
 unfolding tokens_after
@@ -155,7 +153,7 @@ module _ (bytes : List ℕ) (us : List Placed) (t : Placed) (ts vs gs : List Pla
       let m : Machine = machine f.front in
       subst (From (length f.front + 1)) (sym f.vs_are)
       (subst (λ n. From (n + 1) (tokens_after (piece m.first f.b f.rest).more (m.at + 1) (line_after m.line f.b) (not (in_class InLine f.b)) f.rest)) (at_length f.front)
-        (after_from (piece m.first f.b f.rest).more (m.at + 1) (line_after m.line f.b) (not (in_class InLine f.b)) f.rest))
+      (after_from (piece m.first f.b f.rest).more (m.at + 1) (line_after m.line f.b) (not (in_class InLine f.b)) f.rest))
 
   as_last : tokens bytes ≡ (us ++ gs) ++ tl ∷ vs
   as_last = e ∙ ap (λ xs. us ++ (xs ++ vs)) last ∙ ap (λ xs. us ++ xs) (append_assoc gs (tl ∷ []) vs) ∙ sym (append_assoc us gs (tl ∷ vs))
@@ -206,15 +204,15 @@ module _ (bytes : List ℕ) (us : List Placed) (t : Placed) (ts vs gs : List Pla
       let is : us ++ (t ∷ ts) ≡ tokens f.front ++ tl ∷ [] = ap (λ xs. us ++ xs) last ∙ sym (append_assoc us gs (tl ∷ [])) ∙ ap (λ xs. xs ++ tl ∷ []) f.us_are in
       subst (Before (length upto)) (sym is)
       (All-append (λ (t : Placed). t.offset < length upto) (tokens f.front) (tl ∷ [])
-        (before_more (length f.front) (length upto) (tokens f.front) (omega (arith, upto_size, f.end_is)) (places_inside f.front))
-        (All-cons (λ (t : Placed). t.offset < length upto) tl [] (omega (arith, upto_size, f.end_is, f.offset_is)) (λ k d inside. absurd (omega arith))))
+      (before_more (length f.front) (length upto) (tokens f.front) (omega (arith, upto_size, f.end_is)) (places_inside f.front))
+      (All-cons (λ (t : Placed). t.offset < length upto) tl [] (omega (arith, upto_size, f.end_is, f.offset_is)) (λ k d inside. absurd (omega arith))))
 
   behind_last : (ys : List ℕ) → drop size last_found.rest ≡ ys → vs ≡ tokens_after size ((machine last_found.front).at + 1) (line_after (machine last_found.front).line last_found.b) (not (in_class InLine last_found.b)) (within ++ ys)
   unfolding size within
   behind_last ys e =
       last_found.vs_are
       ∙ ap (tokens_after size ((machine last_found.front).at + 1) (line_after (machine last_found.front).line last_found.b) (not (in_class InLine last_found.b)))
-        (sym (take-append-drop size last_found.rest) ∙ ap (λ xs. within ++ xs) e)
+      (sym (take-append-drop size last_found.rest) ∙ ap (λ xs. within ++ xs) e)
 
   upto_tokens : (ys : List ℕ) → drop size last_found.rest ≡ ys → (tokens upto ≡ us ++ (t ∷ ts)) × From (length upto) vs
   unfolding size within upto
@@ -223,8 +221,7 @@ module _ (bytes : List ℕ) (us : List Placed) (t : Placed) (ts vs gs : List Pla
       let first = not (in_class InLine last_found.b) in
       let line = line_after m.line last_found.b in
       let none : vs ≡ [] =
-      behind_last [] d ∙ ap (tokens_after size (m.at + 1) line first) (append-nil within) ∙ ap (λ n. tokens_after n (m.at + 1) line first within) (sym size_is) ∙ none_behind within (m.at + 1) line first in
-      (
+      behind_last [] d ∙ ap (tokens_after size (m.at + 1) line first) (append-nil within) ∙ ap (λ n. tokens_after n (m.at + 1) line first within) (sym size_is) ∙ none_behind within (m.at + 1) line first in (
         ap tokens (sym (append-nil upto) ∙ ap (λ xs. upto ++ xs) (sym d) ∙ sym upto_is) ∙ e ∙ ap (λ xs. us ++ ((t ∷ ts) ++ xs)) none ∙ ap (λ xs. us ++ xs) (append-nil (t ∷ ts)),
         subst (From (length upto)) (sym none) (λ k d inside. absurd (omega arith)),
       )

@@ -1,5 +1,5 @@
 -- A game that begins with its result has nothing else.
-use Rattle.std.proofs.Common.{◌≡◌, ℕ, ◌<◌, ◌==◌, Bool, true, false, ◌&&◌, if◌then◌else◌, is_some, List, [], ◌∷◌, Option, Some, None, length, take, refl, sym, ap, ◌∙◌, subst, arith}
+use Rattle.std.proofs.Common.{◌≡◌, ℕ, Bool, true, false, if◌then◌else◌, is_some, List, [], ◌∷◌, Some, None, refl, sym, subst, arith}
 use Rattle.std.specs.Prelude.{codes}
 use Rattle.std.specs.List.{All}
 use Rattle.std.proofs.lemmas.List.Elements.{All-cons}
@@ -10,7 +10,6 @@ use Rattle.pgn_games.specs.declared.token_turns.Place.TheVariants.{Before}
 use Rattle.pgn_games.specs.Cutting.{mark_of, cut}
 use Rattle.pgn_games.specs.Fields.{outside, value_named, tag_value, move_word, move_words}
 use Rattle.pgn_games.specs.Games.{opening, start_of, game_of}
-use Rattle.pgn_results.specs.Replacing.{is_result_at}
 use Rattle.pgn_results.specs.Kept.{begins_with_result}
 use Rattle.pgn_results.proofs.Alone.{Ended}
 use Rattle.pgn_results.proofs.Endings.{AllEnded, all_ended}

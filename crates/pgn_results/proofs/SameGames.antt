@@ -1,8 +1,8 @@
 -- The games of a corrected text.
-use Rattle.std.proofs.Common.{◌≡◌, ℕ, suc, ◌+◌, ◌==◌, ◌&&◌, ◌||◌, Bool, true, false, not, if◌then◌else◌, is_some, List, [], ◌∷◌, ◌++◌, Option, Some, None, length, map, take, nat_lt, refl, sym, ap, ◌∙◌, subst, arith}
+use Rattle.std.proofs.Common.{◌≡◌, ℕ, suc, ◌==◌, ◌&&◌, ◌||◌, Bool, true, false, not, if◌then◌else◌, is_some, List, [], ◌∷◌, ◌++◌, Option, Some, None, length, map, refl, sym, ap, ◌∙◌, arith}
 use Rattle.std.specs.Prelude.{codes}
-use Rattle.std.specs.List.{fold, filter_map, cons_option, slice_get, list_any, flat_map}
-use Rattle.std.specs.Option.{option_map, option_or, unwrap_or}
+use Rattle.std.specs.List.{filter_map, slice_get, list_any}
+use Rattle.std.specs.Option.{option_or, unwrap_or}
 use Rattle.pgn_lex.specs.declared.kinds.Token.{Token}
 use Rattle.pgn_lex.specs.declared.kinds.Token.TheVariants.{Tag, BadTag, Word, Star, Enter, Leave, Bad, Unclosed}
 use Rattle.pgn_lex.specs.declared.kinds.Placed.{Placed}
@@ -10,20 +10,19 @@ use Rattle.pgn_lex.specs.Tokens.{tokens}
 use Rattle.pgn_games.specs.declared.faults.GameFault.{GameFault}
 use Rattle.pgn_games.specs.declared.marks.ResultMark.{ResultMark}
 use Rattle.pgn_games.specs.declared.marks.ResultMark.TheVariants.{WhiteWins, BlackWins, Draw, Unknown}
-use Rattle.pgn_games.specs.declared.played.Game.{Game}
 use Rattle.pgn_games.specs.declared.token_turns.Place.TheVariants.{Before}
 use Rattle.pgn_games.specs.Cutting.{mark_of, depth_after, cut}
-use Rattle.pgn_games.specs.Fields.{outside, value_named, tag_value, recorded_in, move_words, first_bad, is_cut}
+use Rattle.pgn_games.specs.Fields.{outside, tag_value, recorded_in, move_words, first_bad, is_cut}
 use Rattle.pgn_games.specs.Games.{is_open, fault_if, fault_of, game_of, games}
 use Rattle.pgn_games.proofs.EachToken.{none_lost}
-use Rattle.pgn_results.specs.Replacing.{mark_text, is_result_tag, is_result_at, has_result}
-use Rattle.pgn_results.specs.Correcting.{corrected_games, corrected}
+use Rattle.pgn_results.specs.Replacing.{is_result_tag, is_result_at, has_result}
+use Rattle.pgn_results.specs.Correcting.{corrected}
 use Rattle.pgn_results.specs.Kept.{told_with, told, told_games, OnlyReadable}
 use Rattle.pgn_results.proofs.TokenKinds.{kinds, kinds_append}
 use Rattle.pgn_results.proofs.TokenReplaced.{mark_token}
 use Rattle.pgn_results.proofs.Marked.{retold, marked_kinds, expected, joined, all_read}
 use Rattle.pgn_results.proofs.Normal.{normal, normal_depth, normal_bad, normal_unclosed, normal_word, normal_value, normal_turn, marked_normal, expected_normal}
-use Rattle.pgn_results.proofs.SameFields.{says, said, plain, same_tokens, outside_plain, tag_plain, bad_plain, words_plain, open_plain, cut_plain}
+use Rattle.pgn_results.proofs.SameFields.{said, plain, same_tokens, outside_plain, tag_plain, bad_plain, words_plain, open_plain, cut_plain}
 
 -- a token without its place
 abbrev bare : Token → Placed

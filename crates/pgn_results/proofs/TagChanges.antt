@@ -1,6 +1,5 @@
 -- A tag pair with another value.
-use Rattle.std.proofs.Common.{◌≡◌, ℕ, zero, suc, ◌+◌, ◌==◌, Bool, true, false, not, ◌||◌, if◌then◌else◌, List, [], ◌∷◌, ◌++◌, Option, Some, None, length, take, drop, refl, sym, ap, ◌∙◌, arith, append_assoc}
-use Rattle.std.specs.List.{prefix_len}
+use Rattle.std.proofs.Common.{◌≡◌, ℕ, ◌==◌, Bool, true, false, not, ◌||◌, if◌then◌else◌, List, [], ◌∷◌, ◌++◌, Option, Some, None, refl, sym, ap, ◌∙◌, append_assoc}
 use Rattle.std.proofs.lemmas.Bool.{eqb-true}
 use Rattle.cha_list.specs.declared.classes.Class.TheVariants.{Blank, InLine}
 use Rattle.cha_list.specs.Bytes.{in_class}
@@ -200,8 +199,7 @@ named_by true w mark name b bs t d f e h =
     (ap (tag_named name) (passes_on mark b bs (blank_no_quote b d)) ∙ named_blank name b (with_value mark bs) d ∙ x.0, one_more_before 93 b bs t.rest x.1, within_on mark b bs (blank_no_quote b d) x.2)
 named_by false true mark name b bs t d f e h =
     let g : tag_in_value false name [] bs ≡ Some t = sym (named_opens name b bs d f) ∙ e in
-    let closed = in_value_closes name bs t g in
-    (
+    let closed = in_value_closes name bs t g in (
       ap (tag_named name) (opens mark b bs f) ∙ named_opens name b (mark_text mark ++ past_value false bs) d f ∙ in_value_changed mark name bs t g,
       one_more_before 93 b bs t.rest (in_value_ends name [] bs t g),
       within_opened mark b bs closed.0 f closed.1,

@@ -1,19 +1,19 @@
 -- A text with another value in a tag pair has the same tokens but for that value.
-use Rattle.std.proofs.Common.{◌≡◌, ℕ, zero, suc, ◌+◌, ◌-◌, ◌==◌, Bool, true, false, not, ◌&&◌, if◌then◌else◌, List, [], ◌∷◌, ◌++◌, Option, Some, None, length, take, drop, nat_lt, refl, sym, ap, ◌∙◌, subst, arith, length-append, append_assoc}
+use Rattle.std.proofs.Common.{◌≡◌, ℕ, suc, ◌+◌, ◌-◌, ◌==◌, Bool, true, false, not, List, [], ◌∷◌, ◌++◌, Option, Some, None, length, take, drop, nat_lt, refl, sym, ap, ◌∙◌, arith, length-append, append_assoc}
 use Rattle.cha_list.specs.declared.classes.Class.TheVariants.{InLine}
 use Rattle.cha_list.specs.Bytes.{in_class}
 use Rattle.pgn_lex.specs.declared.kinds.Token.{Token}
-use Rattle.pgn_lex.specs.declared.kinds.Token.TheVariants.{Tag, BadTag}
+use Rattle.pgn_lex.specs.declared.kinds.Token.TheVariants.{Tag}
 use Rattle.pgn_lex.specs.declared.kinds.Placed.{Placed}
 use Rattle.pgn_lex.specs.declared.pieces.Piece.{Piece}
 use Rattle.pgn_lex.specs.Pieces.{spoken_piece, is_white}
 use Rattle.pgn_lex.specs.Tags.{TagRead, tag_at, tag_or_line, tag_piece}
-use Rattle.pgn_lex.specs.Tokens.{piece, placed, line_after, tokens_after, tokens}
+use Rattle.pgn_lex.specs.Tokens.{piece, line_after, tokens_after, tokens}
 use Rattle.pgn_lex.specs.Stages.{Machine, machine}
 use Rattle.pgn_games.specs.declared.marks.ResultMark.{ResultMark}
 use Rattle.pgn_games.specs.declared.marks.ResultMark.TheVariants.{WhiteWins, BlackWins, Draw, Unknown}
 use Rattle.pgn_results.specs.Replacing.{mark_text, with_value, with_tag}
-use Rattle.pgn_results.proofs.TokenKinds.{kinds, kinds_append, passed_kinds}
+use Rattle.pgn_results.proofs.TokenKinds.{kinds, passed_kinds}
 use Rattle.pgn_results.proofs.PieceSorts.{tag_piece_is}
 use Rattle.pgn_results.proofs.Boundaries.{boundary}
 use Rattle.pgn_results.proofs.Found.{Found, found}

@@ -1,5 +1,5 @@
 -- A result in place of the one that a game's text tells.
-use Rattle.std.specs.Prelude.{ℕ, ◌==◌, Bool, true, false, not, ◌&&◌, ◌||◌, if◌then◌else◌, List, [], ◌∷◌, ◌++◌, take, drop, Option, Some, None, is_some, codes}
+use Rattle.std.specs.Prelude.{ℕ, ◌==◌, Bool, true, false, not, ◌&&◌, ◌||◌, if◌then◌else◌, List, [], ◌∷◌, ◌++◌, take, drop, is_some, codes}
 use Rattle.std.specs.List.{fold, list_any}
 use Rattle.pgn_lex.specs.declared.classes.PgnClass.TheVariants.{WordByte}
 use Rattle.pgn_lex.specs.Classes.{in_pgn_class}

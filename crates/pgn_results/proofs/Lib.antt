@@ -18,3 +18,4 @@ pub mod Alone
 pub mod Endings
 pub mod OneByOne
 pub mod ResultAlone
+pub mod SameInOrder

@@ -1,4 +1,4 @@
-use Rattle.pgn_results.proofs.SameGames.{same_games}
+use Rattle.pgn_results.proofs.SameInOrder.{same_games}
 use Rattle.pgn_results.proofs.law.corrected_games_stay_the_same.Goals as goal
 
 pub returns : goal.returns

@@ -19,3 +19,4 @@ pub mod Endings
 pub mod OneByOne
 pub mod ResultAlone
 pub mod SameInOrder
+pub mod SameTags

@@ -21,10 +21,10 @@ use Rattle.pgn_results.proofs.Normal.{normal, normal_depth, normal_bad, normal_u
 use Rattle.pgn_results.proofs.SameFields.{said, plain, same_tokens, outside_plain, tag_plain, bad_plain, words_plain, open_plain}
 
 -- a token without its place
-abbrev bare : Token → Placed
+abbrev pub bare : Token → Placed
 bare token = record { token = token; offset = 0; end = 0; line = 0 }
 
-plain_kinds : (f : Token → Token) (ts : List Placed) → map (plain f) ts ≡ map (λ k. bare (f k)) (kinds ts)
+pub plain_kinds : (f : Token → Token) (ts : List Placed) → map (plain f) ts ≡ map (λ k. bare (f k)) (kinds ts)
 plain_kinds f [] = refl
 plain_kinds f (t ∷ ts) = ap (λ xs. plain f t ∷ xs) (plain_kinds f ts)
 

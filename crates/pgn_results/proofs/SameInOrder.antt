@@ -18,7 +18,7 @@ use Rattle.pgn_results.proofs.SameFields.{plain, cut_plain}
 use Rattle.pgn_results.proofs.SameGames.{same_plain, same_kinds, marked_told}
 
 -- game by game
-split_same : (xs xs' ys ys' : List Token) → length xs ≡ length xs' → xs ++ ys ≡ xs' ++ ys' → (xs ≡ xs') × (ys ≡ ys')
+pub split_same : (xs xs' ys ys' : List Token) → length xs ≡ length xs' → xs ++ ys ≡ xs' ++ ys' → (xs ≡ xs') × (ys ≡ ys')
 split_same [] [] ys ys' n e = (refl, e)
 split_same [] (x' ∷ xs') ys ys' n e = cc
 split_same (x ∷ xs) [] ys ys' n e = cc
@@ -31,23 +31,23 @@ size_kinds : (ts : List Placed) → length (kinds ts) ≡ length (map (plain nor
 size_kinds [] = refl
 size_kinds (t ∷ ts) = ap (λ n. suc n) (size_kinds ts)
 
-size_same : (xs ys : List Placed) → map (plain normal) xs ≡ map (plain normal) ys → length (kinds xs) ≡ length (kinds ys)
+pub size_same : (xs ys : List Placed) → map (plain normal) xs ≡ map (plain normal) ys → length (kinds xs) ≡ length (kinds ys)
 size_same xs ys e = size_kinds xs ∙ ap length e ∙ sym (size_kinds ys)
 
 size_normal : (ks : List Token) → length (map normal ks) ≡ length ks
 size_normal [] = refl
 size_normal (k ∷ ks) = ap (λ n. suc n) (size_normal ks)
 
-size_marked : (mark : ResultMark) (ts : List Placed) → length (kinds ts) ≡ length (marked_kinds false 0 mark ts)
+pub size_marked : (mark : ResultMark) (ts : List Placed) → length (kinds ts) ≡ length (marked_kinds false 0 mark ts)
 size_marked mark ts = sym (size_normal (kinds ts)) ∙ ap length (sym (marked_normal false 0 mark ts)) ∙ size_normal (marked_kinds false 0 mark ts)
 
-first_same : (xs ys : List Placed) (xss yss : List (List Placed)) → map (map (plain normal)) (xs ∷ xss) ≡ map (map (plain normal)) (ys ∷ yss) → map (plain normal) xs ≡ map (plain normal) ys
+pub first_same : (xs ys : List Placed) (xss yss : List (List Placed)) → map (map (plain normal)) (xs ∷ xss) ≡ map (map (plain normal)) (ys ∷ yss) → map (plain normal) xs ≡ map (plain normal) ys
 first_same xs ys xss yss e = cc e
 
-later_same : (xs ys : List Placed) (xss yss : List (List Placed)) → map (map (plain normal)) (xs ∷ xss) ≡ map (map (plain normal)) (ys ∷ yss) → map (map (plain normal)) xss ≡ map (map (plain normal)) yss
+pub later_same : (xs ys : List Placed) (xss yss : List (List Placed)) → map (map (plain normal)) (xs ∷ xss) ≡ map (map (plain normal)) (ys ∷ yss) → map (map (plain normal)) xss ≡ map (map (plain normal)) yss
 later_same xs ys xss yss e = cc e
 
-kinds_joined : (xs : List Placed) (xss : List (List Placed)) (ks : List Token) → kinds (joined (xs ∷ xss)) ≡ ks → kinds xs ++ kinds (joined xss) ≡ ks
+pub kinds_joined : (xs : List Placed) (xss : List (List Placed)) (ks : List Token) → kinds (joined (xs ∷ xss)) ≡ ks → kinds xs ++ kinds (joined xss) ≡ ks
 kinds_joined xs xss ks e = sym (kinds_append xs (joined xss)) ∙ e
 
 none_given : (games : List (List Placed)) → OnlyReadable games []
@@ -72,14 +72,18 @@ pairs (h ∷ hs) (g ∷ gs) (Some mark ∷ marks) e f r =
     ap (λ x. x ∷ map told (map game_of hs)) (marked_told mark h g s.0 r.0)
     ∙ ap (λ xs. (if has_result g then told_with mark (game_of g) else told (game_of g)) ∷ xs) (pairs hs gs marks (later_same h g hs gs e) s.1 r.1)
 
-pub same_games : (bytes : List ℕ) (marks : List (Option ResultMark)) → OnlyReadable (cut Before (tokens bytes)) marks → map told (games (corrected bytes marks)) ≡ told_games (cut Before (tokens bytes)) marks
-unfolding games
-same_games bytes marks readable =
+pub in_order : (bytes : List ℕ) (marks : List (Option ResultMark))
+    → (map (map (plain normal)) (cut Before (tokens (corrected bytes marks))) ≡ map (map (plain normal)) (cut Before (tokens bytes))) × (kinds (joined (cut Before (tokens (corrected bytes marks)))) ≡ expected (cut Before (tokens bytes)) marks)
+in_order bytes marks =
     let ts = tokens bytes in
     let gs = cut Before ts in
     let ws = tokens (corrected bytes marks) in
     let told_kinds : kinds ws ≡ expected gs marks = all_read gs marks bytes (sym (none_lost ts)) in
     let normals : map normal (kinds ws) ≡ map normal (kinds ts) = ap (map normal) told_kinds ∙ expected_normal gs marks ∙ ap (λ xs. map normal (kinds xs)) (none_lost ts) in
-    let shapes : map (map (plain normal)) (cut Before ws) ≡ map (map (plain normal)) gs =
-    sym (cut_plain normal normal_turn Before ws) ∙ ap (cut Before) (same_plain ws ts normals) ∙ cut_plain normal normal_turn Before ts in
-    pairs (cut Before ws) gs marks shapes (ap kinds (none_lost ws) ∙ told_kinds) readable
+    (sym (cut_plain normal normal_turn Before ws) ∙ ap (cut Before) (same_plain ws ts normals) ∙ cut_plain normal normal_turn Before ts, ap kinds (none_lost ws) ∙ told_kinds)
+
+pub same_games : (bytes : List ℕ) (marks : List (Option ResultMark)) → OnlyReadable (cut Before (tokens bytes)) marks → map told (games (corrected bytes marks)) ≡ told_games (cut Before (tokens bytes)) marks
+unfolding games
+same_games bytes marks readable =
+    let order = in_order bytes marks in
+    pairs (cut Before (tokens (corrected bytes marks))) (cut Before (tokens bytes)) marks order.0 order.1 readable

@@ -1,5 +1,5 @@
 -- What games keep where their results are changed.
-use Rattle.std.specs.Prelude.{◌≡◌, Bool, false, is_some, if◌then◌else◌, List, [], ◌∷◌, Option, Some, None, ⊤}
+use Rattle.std.specs.Prelude.{◌≡◌, ℕ, codes, Bool, false, is_some, if◌then◌else◌, List, [], ◌∷◌, Option, Some, None, ⊤}
 use Rattle.std.specs.Option.{option_map}
 use Rattle.pgn_lex.specs.declared.kinds.Placed.{Placed}
 use Rattle.pgn_games.specs.declared.faults.GameFault.{GameFault}
@@ -7,8 +7,9 @@ use Rattle.pgn_games.specs.declared.faults.GameFault.TheVariants.{BadToken}
 use Rattle.pgn_games.specs.declared.marks.ResultMark.{ResultMark}
 use Rattle.pgn_games.specs.declared.played.Game.{Game}
 use Rattle.pgn_games.specs.Cutting.{mark_of}
+use Rattle.pgn_games.specs.Fields.{tag_value}
 use Rattle.pgn_games.specs.Games.{game_of}
-use Rattle.pgn_results.specs.Replacing.{has_result}
+use Rattle.pgn_results.specs.Replacing.{mark_text, has_result}
 
 -- a fault, but for where it stands
 abbrev pub placeless_fault : GameFault → GameFault
@@ -37,6 +38,14 @@ told_games (game ∷ games) [] = told (game_of game) ∷ told_games games []
 told_games (game ∷ games) (None ∷ marks) = told (game_of game) ∷ told_games games marks
 told_games (game ∷ games) (Some mark ∷ marks) =
     (if has_result game then told_with mark (game_of game) else told (game_of game)) ∷ told_games games marks
+
+-- the values of the first tag pairs Result of these games, with the marks that are given to them
+unfoldable pub told_tags : List (List Placed) → List (Option ResultMark) → List (Option (List ℕ))
+told_tags [] marks = []
+told_tags (game ∷ games) [] = tag_value (codes "Result") game ∷ told_tags games []
+told_tags (game ∷ games) (None ∷ marks) = tag_value (codes "Result") game ∷ told_tags games marks
+told_tags (game ∷ games) (Some mark ∷ marks) =
+    (if is_some (tag_value (codes "Result") game) then Some (mark_text mark) else None) ∷ told_tags games marks
 
 -- a mark is given only to a game without a fault
 unfoldable pub OnlyReadable : List (List Placed) → List (Option ResultMark) → Type 0

@@ -1,20 +1,22 @@
 //! The laws of corrected texts: their games are the same, but for their results, and each may be written from its own bytes.
 
-ghost use Rattle.std.specs.Prelude.{◌≡◌, [], ℕ, true, Option, List, map, All};
+ghost use Rattle.std.specs.Prelude.{◌≡◌, [], ℕ, true, Option, List, map, All, codes};
 ghost use Rattle.pgn_lex.specs.declared.kinds.Placed.{Placed};
 ghost use Rattle.pgn_lex.specs.Tokens.{tokens};
 ghost use Rattle.pgn_games.specs.declared.marks.ResultMark.{ResultMark};
 ghost use Rattle.pgn_games.specs.declared.token_turns.Place.TheVariants.{Before};
 ghost use Rattle.pgn_games.specs.Cutting.{cut};
+ghost use Rattle.pgn_games.specs.Fields.{tag_value};
 ghost use Rattle.pgn_games.specs.Games.{opening, game_of, games, placed_games};
 ghost use Rattle.pgn_results.specs.Correcting.{corrected, written};
-ghost use Rattle.pgn_results.specs.Kept.{told, told_games, begins_with_result, OnlyReadable, OnlyBegun};
+ghost use Rattle.pgn_results.specs.Kept.{told, told_games, told_tags, begins_with_result, OnlyReadable, OnlyBegun};
 
 /// A text whose readable games got other results has as many games, and each says what it said, but for the places of faults, and with the
-/// result that it got where one ended it.
+/// result that it got where one ended it. The first tag pair `Result` of such a game has the same value.
 pub fn corrected_games_stay_the_same()
-    ensures { (bytes : List ℕ) → (marks : List (Option ResultMark)) → OnlyReadable (cut Before (tokens bytes)) marks
+    ensures games { (bytes : List ℕ) → (marks : List (Option ResultMark)) → OnlyReadable (cut Before (tokens bytes)) marks
         → map told (games (corrected bytes marks)) ≡ told_games (cut Before (tokens bytes)) marks }
+    ensures tags { (bytes : List ℕ) → (marks : List (Option ResultMark)) → map (tag_value (codes "Result")) (cut Before (tokens (corrected bytes marks))) ≡ told_tags (cut Before (tokens bytes)) marks }
 {}
 
 /// Where each game that gets a result has a token before the one that ends it, the corrected text is what stands between these games,

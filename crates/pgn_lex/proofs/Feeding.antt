@@ -120,7 +120,7 @@ begins_by false false false false false false false false true k b value rest = 
 begins_by false false false false false false false false false true b value rest = refl
 begins_by false false false false false false false false false false b value rest = refl
 
-begins : (first : Bool) (b : ℕ) (value rest : List ℕ) → piece first b rest ≡ left_of_piece (begun first b) (b ∷ []) value rest
+pub begins : (first : Bool) (b : ℕ) (value rest : List ℕ) → piece first b rest ≡ left_of_piece (begun first b) (b ∷ []) value rest
 unfolding piece begun
 begins first b value rest =
     begins_by (first && (b == 37)) (is_white b) (b == 59) (b == 123) (b == 91) (b == 40) (b == 41) (b == 42) (b == 36) (in_pgn_class WordByte b) b value rest

@@ -1,6 +1,5 @@
 -- Where a piece begins, the text before it is read as if nothing followed.
-use Rattle.std.proofs.Common.{◌≡◌, ℕ, List, [], ◌∷◌, ◌++◌, refl, sym, ap, ◌∙◌, append_assoc}
-use Rattle.pgn_lex.specs.declared.kinds.Placed.{Placed}
+use Rattle.std.proofs.Common.{◌≡◌, ℕ, List, [], ◌∷◌, ◌++◌, sym, ap, ◌∙◌, append_assoc}
 use Rattle.pgn_lex.specs.declared.stages.Next.TheVariants.{Over}
 use Rattle.pgn_lex.specs.Tokens.{tokens_after, tokens, settled_tokens}
 use Rattle.pgn_lex.specs.Stages.{next_stage, Machine, stepped, said_at, machine}

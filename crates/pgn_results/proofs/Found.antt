@@ -1,6 +1,5 @@
 -- A token of a text: what stands before it, its first byte, and what stands behind.
-use Rattle.std.proofs.Common.{◌≡◌, ℕ, zero, suc, ◌+◌, ◌<◌, ◌≤◌, ◌==◌, Bool, true, false, not, if◌then◌else◌, List, [], ◌∷◌, ◌++◌, Option, Some, None, length, take, drop, refl, sym, ap, ◌∙◌, subst, arith, append_assoc, append-nil, length-append}
-use Rattle.std.specs.List.{All}
+use Rattle.std.proofs.Common.{◌≡◌, ℕ, ◌+◌, ◌<◌, ◌≤◌, ◌==◌, Bool, true, false, not, if◌then◌else◌, List, [], ◌∷◌, ◌++◌, Option, Some, None, length, take, drop, refl, sym, ap, ◌∙◌, subst, arith, append_assoc, append-nil, length-append}
 use Rattle.std.proofs.lemmas.List.{take-append-drop}
 use Rattle.std.proofs.lemmas.List.Elements.{All-head, All-tail}
 use Rattle.cha_list.specs.declared.classes.Class.TheVariants.{InLine}
@@ -75,10 +74,11 @@ begins_text : (bytes : List ℕ) (us : List Placed) (t : Placed) (vs : List Plac
 unfolding tokens
 begins_text bytes us t vs e = begins_by (has_mark bytes) bytes us t vs refl e
 
-pub found : (bytes : List ℕ) (us : List Placed) (t : Placed) (vs : List Placed) → tokens bytes ≡ us ++ t ∷ vs
-    → ((f : Bool) (b : ℕ) (r : List ℕ) → (piece f b r).token ≡ Some t.token → ((b == 239) ≡ false) × ((b == 187) ≡ false) × ((b == 191) ≡ false)) → Found bytes us t vs
+pub found_by : (bytes : List ℕ) (us : List Placed) (t : Placed) (vs : List Placed) → tokens bytes ≡ us ++ t ∷ vs
+    → ((a : List ℕ) (b : ℕ) (r : List ℕ) (f : Bool) → bytes ≡ a ++ b ∷ r → t.offset ≡ length a → (piece f b r).token ≡ Some t.token → tokens (a ++ b ∷ r) ≡ us ++ t ∷ vs → next_stage (machine a).stage b ≡ Over)
+    → Found bytes us t vs
 unfolding tokens_after
-found bytes us t vs e unmarking =
+found_by bytes us t vs e begun_there =
     let begins = begins_text bytes us t vs e in
     let a = begins.0 in
     let b = begins.1 in
@@ -87,7 +87,7 @@ found bytes us t vs e unmarking =
     let bytes_are : bytes ≡ a ++ b ∷ r = begins.4 in
     let at_is : t.offset ≡ length a = begins.5 ∙ (let z : 0 + length a ≡ length a = omega arith in z) in
     let here : tokens (a ++ b ∷ r) ≡ us ++ t ∷ vs = ap tokens (sym bytes_are) ∙ e in
-    let over = over_there a b r us t vs (unmarking f b r begins.6) here at_is in
+    let over = begun_there a b r f bytes_are at_is begins.6 here in
     let m : Machine = machine a in
     let p : Piece = piece m.first b r in
     let later = tokens_after p.more (m.at + 1) (line_after m.line b) (not (in_class InLine b)) r in
@@ -106,3 +106,7 @@ found bytes us t vs e unmarking =
       vs_are = l.1;
       over = over;
     }
+
+pub found : (bytes : List ℕ) (us : List Placed) (t : Placed) (vs : List Placed) → tokens bytes ≡ us ++ t ∷ vs
+    → ((f : Bool) (b : ℕ) (r : List ℕ) → (piece f b r).token ≡ Some t.token → ((b == 239) ≡ false) × ((b == 187) ≡ false) × ((b == 191) ≡ false)) → Found bytes us t vs
+found bytes us t vs e unmarking = found_by bytes us t vs e (λ a b r f is at_is p here. over_there a b r us t vs (unmarking f b r p) here at_is)

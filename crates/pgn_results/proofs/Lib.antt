@@ -12,3 +12,11 @@ pub mod Marked
 pub mod Normal
 pub mod SameFields
 pub mod SameGames
+pub mod PieceEnds
+pub mod OwnTokens
+pub mod Alone
+pub mod Endings
+pub mod OneByOne
+pub mod ResultAlone
+pub mod SameInOrder
+pub mod SameTags

@@ -1,8 +1,6 @@
 -- The tokens of a text whose games have other results.
-use Rattle.std.proofs.Common.{◌≡◌, ℕ, ◌+◌, ◌==◌, Bool, true, false, not, ◌&&◌, ◌||◌, if◌then◌else◌, is_some, List, [], ◌∷◌, ◌++◌, Option, Some, None, length, map, refl, sym, ap, ◌∙◌, subst, arith, append_assoc, append-nil}
-use Rattle.std.specs.Prelude.{codes}
+use Rattle.std.proofs.Common.{◌≡◌, ℕ, ◌==◌, Bool, true, false, not, ◌&&◌, ◌||◌, if◌then◌else◌, is_some, List, [], ◌∷◌, ◌++◌, Option, Some, None, refl, sym, ap, ◌∙◌, append_assoc}
 use Rattle.std.specs.List.{flat_map}
-use Rattle.std.specs.Str.{bytes_eq}
 use Rattle.pgn_lex.specs.declared.kinds.Token.{Token}
 use Rattle.pgn_lex.specs.declared.kinds.Token.TheVariants.{Tag, BadTag, Word, Star, Enter, Leave, Bad, Unclosed}
 use Rattle.pgn_lex.specs.declared.kinds.Placed.{Placed}
@@ -10,7 +8,7 @@ use Rattle.pgn_lex.specs.Tokens.{tokens}
 use Rattle.pgn_games.specs.declared.marks.ResultMark.{ResultMark}
 use Rattle.pgn_games.specs.Cutting.{mark_of, depth_after}
 use Rattle.pgn_games.specs.Fields.{value_named}
-use Rattle.pgn_results.specs.Replacing.{mark_text, with_token, with_tag, with_tag_if, is_result_tag, is_result_at, with_mark}
+use Rattle.pgn_results.specs.Replacing.{mark_text, with_tag_if, is_result_tag, is_result_at, with_mark}
 use Rattle.pgn_results.specs.Correcting.{corrected_games}
 use Rattle.pgn_results.proofs.TokenKinds.{kinds, kinds_append}
 use Rattle.pgn_results.proofs.TagReplaced.{tag_replaced}
@@ -39,7 +37,7 @@ expected (game ∷ games) (Some mark ∷ marks) = marked_kinds false 0 mark game
 abbrev Reads : List ℕ → List Placed → List Token → Type 0
 Reads bytes us ks = (ws : List Placed) × (tokens bytes ≡ us ++ ws) × (kinds ws ≡ ks)
 
-named_tag : (token : Token) → is_result_tag token ≡ true → (name : List ℕ) × (value : List ℕ) × (cut : Bool) × (token ≡ Tag name value cut)
+pub named_tag : (token : Token) → is_result_tag token ≡ true → (name : List ℕ) × (value : List ℕ) × (cut : Bool) × (token ≡ Tag name value cut)
 unfolding value_named
 named_tag (Tag name value cut) e = (name, value, cut, refl)
 named_tag BadTag e = cc
@@ -50,11 +48,11 @@ named_tag Leave e = cc
 named_tag Bad e = cc
 named_tag Unclosed e = cc
 
-left_true : (v w : Bool) → (v && w) ≡ true → v ≡ true
+pub left_true : (v w : Bool) → (v && w) ≡ true → v ≡ true
 left_true true w e = refl
 left_true false w e = cc
 
-right_true : (v w : Bool) → (v && w) ≡ true → w ≡ true
+pub right_true : (v w : Bool) → (v && w) ≡ true → w ≡ true
 right_true true w e = e
 right_true false w e = cc
 
@@ -80,7 +78,7 @@ game_by false tagged depth mark bytes us t ts ks d e (ws, f, g) =
     (marked_kinds (tagged || is_result_tag t.token) (depth_after depth t.token) mark ts ++ kinds ks)
     (left_true (is_result_tag t.token) (not tagged)) (f ∙ append_assoc us (t ∷ []) ws) g)
 
-game_reads : (tagged : Bool) (depth : ℕ) (mark : ResultMark) (bytes : List ℕ) (us ts ks : List Placed) → tokens bytes ≡ us ++ (ts ++ ks)
+pub game_reads : (tagged : Bool) (depth : ℕ) (mark : ResultMark) (bytes : List ℕ) (us ts ks : List Placed) → tokens bytes ≡ us ++ (ts ++ ks)
     → Reads (with_mark tagged depth mark ts bytes) us (marked_kinds tagged depth mark ts ++ kinds ks)
 unfolding with_mark marked_kinds
 game_reads tagged depth mark bytes us [] ks e = (ks, e, refl)

@@ -1,5 +1,5 @@
 -- Tokens, whatever results they tell and wherever they stand.
-use Rattle.std.proofs.Common.{◌≡◌, ℕ, ◌+◌, ◌==◌, Bool, true, false, not, ◌&&◌, ◌||◌, if◌then◌else◌, is_some, List, [], ◌∷◌, ◌++◌, Option, Some, None, length, map, refl, sym, ap, ◌∙◌, subst, arith}
+use Rattle.std.proofs.Common.{◌≡◌, ℕ, ◌==◌, Bool, true, false, not, ◌&&◌, ◌||◌, if◌then◌else◌, is_some, List, [], ◌∷◌, ◌++◌, Option, Some, None, map, refl, sym, ap, ◌∙◌, arith}
 use Rattle.std.specs.Prelude.{codes}
 use Rattle.std.specs.Str.{bytes_eq}
 use Rattle.std.proofs.lemmas.List.{map-append}
@@ -10,12 +10,12 @@ use Rattle.pgn_lex.specs.declared.kinds.Placed.{Placed}
 use Rattle.pgn_games.specs.declared.marks.ResultMark.{ResultMark}
 use Rattle.pgn_games.specs.declared.marks.ResultMark.TheVariants.{WhiteWins, BlackWins, Draw, Unknown}
 use Rattle.pgn_games.specs.declared.token_turns.Place.{Place}
-use Rattle.pgn_games.specs.Cutting.{mark_of, is_tag, depth_after, open_at, tag_turn, move_turn, turn}
+use Rattle.pgn_games.specs.Cutting.{mark_of, is_tag, depth_after, open_at, turn}
 use Rattle.pgn_games.specs.Fields.{value_named, move_word, is_bad, is_unclosed}
 use Rattle.pgn_results.specs.Replacing.{mark_text, is_result_tag, is_result_at}
 use Rattle.pgn_results.proofs.TokenKinds.{kinds, kinds_append}
 use Rattle.pgn_results.proofs.TokenReplaced.{mark_token}
-use Rattle.pgn_results.proofs.Marked.{retold, marked_kinds, expected, joined}
+use Rattle.pgn_results.proofs.Marked.{retold, marked_kinds, expected, joined, left_true, right_true}
 
 -- a tag pair Result has no value, and each result is a star
 unfoldable pub normal : Token → Token
@@ -142,14 +142,6 @@ same_tag true mark Enter h = refl
 same_tag true mark Leave h = refl
 same_tag true mark Bad h = refl
 same_tag true mark Unclosed h = refl
-
-left_true : (v w : Bool) → (v && w) ≡ true → v ≡ true
-left_true true w e = refl
-left_true false w e = cc
-
-right_true : (v w : Bool) → (v && w) ≡ true → w ≡ true
-right_true true w e = e
-right_true false w e = cc
 
 marked_by : (ends tagged : Bool) (depth : ℕ) (mark : ResultMark) (t : Placed) (ts : List Placed) → is_result_at depth t.token ≡ ends
     → map normal (marked_kinds (tagged || is_result_tag t.token) (depth_after depth t.token) mark ts) ≡ map normal (kinds ts)

@@ -1,5 +1,5 @@
 -- Where a token begins, the piece before it has ended.
-use Rattle.std.proofs.Common.{◌≡◌, ℕ, zero, suc, ◌+◌, ◌<◌, ◌≤◌, ◌==◌, Bool, true, false, List, [], ◌∷◌, ◌++◌, Option, Some, None, length, refl, sym, ap, ◌∙◌, subst, arith, append_assoc, append-nil}
+use Rattle.std.proofs.Common.{◌≡◌, ℕ, ◌+◌, ◌<◌, ◌≤◌, ◌==◌, Bool, true, false, List, [], ◌∷◌, ◌++◌, Option, Some, None, length, refl, sym, ap, ◌∙◌, subst, arith, append_assoc, append-nil}
 use Rattle.std.specs.List.{All}
 use Rattle.std.proofs.lemmas.List.Elements.{All-cons, All-head, All-tail, All-append}
 use Rattle.pgn_lex.specs.declared.kinds.Token.{Token}
@@ -13,7 +13,7 @@ use Rattle.pgn_lex.specs.Tokens.{placed, tokens_after, tokens, settled_tokens}
 use Rattle.pgn_lex.specs.Stages.{run_on, next_stage, tokens_at, Machine, stepped, said_at, at_front, read_from, machine}
 use Rattle.pgn_lex.specs.Left.{left_of_piece, gives_at}
 use Rattle.pgn_lex.proofs.Following.{is_plain, FollowsAt, follows}
-use Rattle.pgn_lex.proofs.Feeding.{gives_plain, piece_gives, settled_first, ended_tokens, at_length, read_more, machine_more, settled_more}
+use Rattle.pgn_lex.proofs.Feeding.{gives_plain, settled_first, ended_tokens, at_length, machine_more, settled_more}
 use Rattle.pgn_lex.proofs.InOrder.{places_inside}
 use Rattle.pgn_results.proofs.Standing.{From, after_from, one_of_all}
 
@@ -39,7 +39,7 @@ Before n ts = All (λ (t : Placed). t.offset < n) ts
 pub before_off : (n : ℕ) (ts : List Placed) → Before n ts → Off n ts
 before_off n ts h k d inside = λ e. let x = h k d inside in omega (arith, e)
 
-front_of : (P : Placed → Type 0) (us vs : List Placed) → All P (us ++ vs) → All P us
+pub front_of : (P : Placed → Type 0) (us vs : List Placed) → All P (us ++ vs) → All P us
 front_of P [] vs h = λ k d inside. absurd (omega arith)
 front_of P (u ∷ us) vs h = All-cons P u us (All-head P u (us ++ vs) h) (front_of P us vs (All-tail P u (us ++ vs) h))
 
@@ -134,6 +134,10 @@ over_by : (plain : Bool) (a : List ℕ) (b : ℕ) (bs : List ℕ) (us : List Pla
     → ((b == 239) ≡ false) × ((b == 187) ≡ false) × ((b == 191) ≡ false) → tokens (a ++ b ∷ bs) ≡ us ++ t ∷ vs → t.offset ≡ length a → next_stage (machine a).stage b ≡ Over
 over_by true a b bs us t vs p u w at_is = plain_over (next_stage (machine a).stage b) a b bs us t vs p refl w at_is
 over_by false a b bs us t vs p u w at_is = mark_over (machine a).stage b p u
+
+pub over_plain : (a : List ℕ) (b : ℕ) (bs : List ℕ) (us : List Placed) (t : Placed) (vs : List Placed) → is_plain (machine a).stage ≡ true
+    → tokens (a ++ b ∷ bs) ≡ us ++ t ∷ vs → t.offset ≡ length a → next_stage (machine a).stage b ≡ Over
+over_plain a b bs us t vs p w at_is = plain_over (next_stage (machine a).stage b) a b bs us t vs p refl w at_is
 
 pub over_there : (a : List ℕ) (b : ℕ) (bs : List ℕ) (us : List Placed) (t : Placed) (vs : List Placed)
     → ((b == 239) ≡ false) × ((b == 187) ≡ false) × ((b == 191) ≡ false) → tokens (a ++ b ∷ bs) ≡ us ++ t ∷ vs → t.offset ≡ length a → next_stage (machine a).stage b ≡ Over

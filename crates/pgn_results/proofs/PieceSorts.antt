@@ -1,13 +1,13 @@
 -- What a piece is, by the token that it gives.
-use Rattle.std.proofs.Common.{◌≡◌, ℕ, zero, suc, ◌+◌, ◌-◌, ◌==◌, Bool, true, false, ◌&&◌, ◌||◌, if◌then◌else◌, List, [], ◌∷◌, Option, Some, None, length, take, refl, sym, ap, ◌∙◌, arith}
+use Rattle.std.proofs.Common.{◌≡◌, ℕ, suc, ◌+◌, ◌==◌, Bool, true, false, ◌&&◌, ◌||◌, if◌then◌else◌, List, ◌∷◌, Option, Some, None, length, take, refl, ap, arith}
 use Rattle.std.specs.List.{prefix_len, list_all}
 use Rattle.std.proofs.lemmas.Bool.{eqb-true}
-use Rattle.cha_list.specs.declared.classes.Class.TheVariants.{InLine, Digit}
+use Rattle.cha_list.specs.declared.classes.Class.TheVariants.{Digit}
 use Rattle.cha_list.specs.Bytes.{in_class}
 use Rattle.pgn_lex.specs.declared.classes.PgnClass.TheVariants.{NotBrace, WordByte, Mark}
 use Rattle.pgn_lex.specs.Classes.{in_pgn_class}
 use Rattle.pgn_lex.specs.declared.kinds.Token.{Token}
-use Rattle.pgn_lex.specs.declared.kinds.Token.TheVariants.{Tag, BadTag, Word, Star, Enter, Leave, Bad, Unclosed}
+use Rattle.pgn_lex.specs.declared.kinds.Token.TheVariants.{Tag, Word, Star, Enter, Leave, Bad, Unclosed}
 use Rattle.pgn_lex.specs.declared.pieces.Piece.{Piece}
 use Rattle.pgn_lex.specs.Pieces.{silent_piece, spoken_piece, is_white, line_piece, comment_piece, annotation_piece, word_token, word_piece}
 use Rattle.pgn_lex.specs.Tags.{TagRead, tag_at, tag_or_line, tag_piece}

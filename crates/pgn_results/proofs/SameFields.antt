@@ -1,5 +1,5 @@
 -- What the tokens of a game say, whatever results they tell and wherever they stand.
-use Rattle.std.proofs.Common.{◌≡◌, ℕ, ◌+◌, ◌==◌, ◌&&◌, ◌||◌, Bool, true, false, not, if◌then◌else◌, is_some, List, [], ◌∷◌, ◌++◌, Option, Some, None, length, map, take, nat_lt, refl, sym, ap, ◌∙◌, arith}
+use Rattle.std.proofs.Common.{◌≡◌, ℕ, ◌==◌, ◌||◌, Bool, true, false, not, if◌then◌else◌, is_some, List, [], ◌∷◌, ◌++◌, Option, Some, None, length, map, take, nat_lt, refl, sym, ap, ◌∙◌}
 use Rattle.std.specs.Prelude.{codes}
 use Rattle.std.specs.List.{fold, filter_map, cons_option, slice_get, list_any}
 use Rattle.std.specs.Option.{option_map, option_or}
@@ -14,7 +14,7 @@ use Rattle.pgn_games.specs.declared.token_turns.Place.{Place}
 use Rattle.pgn_games.specs.declared.token_turns.Place.TheVariants.{Before, Tags, Moves}
 use Rattle.pgn_games.specs.declared.token_turns.Turn.{Turn}
 use Rattle.pgn_games.specs.declared.token_turns.Turn.TheVariants.{Stays, Ends, Begins}
-use Rattle.pgn_games.specs.Cutting.{mark_of, depth_after, turn, place_after, onto, put, cut}
+use Rattle.pgn_games.specs.Cutting.{depth_after, turn, place_after, onto, put, cut}
 use Rattle.pgn_games.specs.Fields.{outside, depth_at_end, value_named, tag_value, move_word, move_words, is_bad, bad_offset, first_bad, before_bad, sound_words, is_unclosed, is_cut, says_forfeit, says_flag_fell, says_chess, passes}
 use Rattle.pgn_games.specs.Games.{is_open, start_of, start_fault, fault_if, fault_of, has_bad_tag, words_before_fault, game_of}
 use Rattle.pgn_games.proofs.Cuts.{cut_step}

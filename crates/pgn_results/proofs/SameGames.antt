@@ -1,35 +1,30 @@
--- The games of a corrected text.
-use Rattle.std.proofs.Common.{◌≡◌, ℕ, suc, ◌+◌, ◌==◌, ◌&&◌, ◌||◌, Bool, true, false, not, if◌then◌else◌, is_some, List, [], ◌∷◌, ◌++◌, Option, Some, None, length, map, take, nat_lt, refl, sym, ap, ◌∙◌, subst, arith}
+-- What the games of a corrected text say.
+use Rattle.std.proofs.Common.{◌≡◌, ℕ, ◌==◌, ◌&&◌, ◌||◌, Bool, true, false, not, if◌then◌else◌, is_some, List, [], ◌∷◌, ◌++◌, Option, Some, None, map, refl, sym, ap, ◌∙◌}
 use Rattle.std.specs.Prelude.{codes}
-use Rattle.std.specs.List.{fold, filter_map, cons_option, slice_get, list_any, flat_map}
-use Rattle.std.specs.Option.{option_map, option_or, unwrap_or}
+use Rattle.std.specs.List.{filter_map, slice_get, list_any}
+use Rattle.std.specs.Option.{option_or, unwrap_or}
 use Rattle.pgn_lex.specs.declared.kinds.Token.{Token}
 use Rattle.pgn_lex.specs.declared.kinds.Token.TheVariants.{Tag, BadTag, Word, Star, Enter, Leave, Bad, Unclosed}
 use Rattle.pgn_lex.specs.declared.kinds.Placed.{Placed}
-use Rattle.pgn_lex.specs.Tokens.{tokens}
 use Rattle.pgn_games.specs.declared.faults.GameFault.{GameFault}
 use Rattle.pgn_games.specs.declared.marks.ResultMark.{ResultMark}
 use Rattle.pgn_games.specs.declared.marks.ResultMark.TheVariants.{WhiteWins, BlackWins, Draw, Unknown}
-use Rattle.pgn_games.specs.declared.played.Game.{Game}
-use Rattle.pgn_games.specs.declared.token_turns.Place.TheVariants.{Before}
 use Rattle.pgn_games.specs.Cutting.{mark_of, depth_after, cut}
-use Rattle.pgn_games.specs.Fields.{outside, value_named, tag_value, recorded_in, move_words, sound_words, first_bad, is_cut}
-use Rattle.pgn_games.specs.Games.{is_open, fault_if, fault_of, game_of, games}
-use Rattle.pgn_games.proofs.EachToken.{none_lost}
-use Rattle.pgn_results.specs.Replacing.{mark_text, is_result_tag, is_result_at, has_result}
-use Rattle.pgn_results.specs.Correcting.{corrected_games, corrected}
-use Rattle.pgn_results.specs.Kept.{told_with, told, told_games, OnlyReadable}
-use Rattle.pgn_results.proofs.TokenKinds.{kinds, kinds_append}
+use Rattle.pgn_games.specs.Fields.{outside, tag_value, recorded_in, move_words, sound_words, first_bad, is_cut}
+use Rattle.pgn_games.specs.Games.{is_open, fault_if, fault_of, game_of}
+use Rattle.pgn_results.specs.Replacing.{is_result_tag, is_result_at, has_result}
+use Rattle.pgn_results.specs.Kept.{told_with, told}
+use Rattle.pgn_results.proofs.TokenKinds.{kinds}
 use Rattle.pgn_results.proofs.TokenReplaced.{mark_token}
-use Rattle.pgn_results.proofs.Marked.{retold, marked_kinds, expected, joined, all_read}
-use Rattle.pgn_results.proofs.Normal.{normal, normal_depth, normal_bad, normal_unclosed, normal_word, normal_value, normal_turn, marked_normal, expected_normal}
-use Rattle.pgn_results.proofs.SameFields.{says, said, plain, same_tokens, outside_plain, tag_plain, bad_plain, words_plain, sound_plain, open_plain, cut_plain}
+use Rattle.pgn_results.proofs.Marked.{retold, marked_kinds}
+use Rattle.pgn_results.proofs.Normal.{normal, normal_depth, normal_bad, normal_unclosed, normal_word, normal_value, marked_normal}
+use Rattle.pgn_results.proofs.SameFields.{said, plain, same_tokens, outside_plain, tag_plain, bad_plain, words_plain, sound_plain, open_plain}
 
 -- a token without its place
-abbrev bare : Token → Placed
+abbrev pub bare : Token → Placed
 bare token = record { token = token; offset = 0; end = 0; line = 0 }
 
-plain_kinds : (f : Token → Token) (ts : List Placed) → map (plain f) ts ≡ map (λ k. bare (f k)) (kinds ts)
+pub plain_kinds : (f : Token → Token) (ts : List Placed) → map (plain f) ts ≡ map (λ k. bare (f k)) (kinds ts)
 plain_kinds f [] = refl
 plain_kinds f (t ∷ ts) = ap (λ xs. plain f t ∷ xs) (plain_kinds f ts)
 
@@ -37,7 +32,7 @@ normal_bare : (ks : List Token) → map (λ k. bare (normal k)) ks ≡ map bare 
 normal_bare [] = refl
 normal_bare (k ∷ ks) = ap (λ xs. bare (normal k) ∷ xs) (normal_bare ks)
 
-same_plain : (xs ys : List Placed) → map normal (kinds xs) ≡ map normal (kinds ys) → map (plain normal) xs ≡ map (plain normal) ys
+pub same_plain : (xs ys : List Placed) → map normal (kinds xs) ≡ map normal (kinds ys) → map (plain normal) xs ≡ map (plain normal) ys
 same_plain xs ys e = plain_kinds normal xs ∙ normal_bare (kinds xs) ∙ ap (map bare) e ∙ sym (normal_bare (kinds ys)) ∙ sym (plain_kinds normal ys)
 
 any_kinds : (test : Token → Bool) (ts : List Placed) → list_any (λ (t : Placed). test t.token) ts ≡ list_any test (kinds ts)
@@ -73,7 +68,7 @@ recorded_bare : (ts : List Placed) → recorded_in ts ≡ recorded_in (map bare 
 unfolding recorded_in
 recorded_bare ts = ap (λ xs. unwrap_or (slice_get xs 0) Unknown) (sym (marks_plain ts)) ∙ ap (λ xs. unwrap_or (slice_get (filter_map (λ (t : Placed). mark_of t.token) (outside 0 xs)) 0) Unknown) (plain_kinds (λ k. k) ts)
 
-same_kinds : (xs ys : List Placed) → kinds xs ≡ kinds ys → told (game_of xs) ≡ told (game_of ys)
+pub same_kinds : (xs ys : List Placed) → kinds xs ≡ kinds ys → told (game_of xs) ≡ told (game_of ys)
 unfolding game_of
 same_kinds xs ys e =
     let recorded : recorded_in xs ≡ recorded_in ys = recorded_bare xs ∙ ap (λ ks. recorded_in (map bare ks)) e ∙ sym (recorded_bare ys) in
@@ -229,74 +224,7 @@ marked_told_by true mark xs ys d e fine =
 marked_told_by false mark xs ys d e fine =
     ap (λ m. told_with m (game_of xs)) (marked_recorded mark xs ys e ∙ ap (λ b. unwrap_or (if b then Some mark else None) Unknown) d ∙ sym (unrecorded ys d)) ∙ marked_said mark xs ys e fine (recorded_in ys)
 
-marked_told : (mark : ResultMark) (xs ys : List Placed) → kinds xs ≡ marked_kinds false 0 mark ys → (game_of ys).fault ≡ None
+pub marked_told : (mark : ResultMark) (xs ys : List Placed) → kinds xs ≡ marked_kinds false 0 mark ys → (game_of ys).fault ≡ None
     → told (game_of xs) ≡ (if has_result ys then told_with mark (game_of ys) else told (game_of ys))
 unfolding game_of
 marked_told mark xs ys e fine = marked_told_by (has_result ys) mark xs ys refl e fine
-
--- game by game
-split_same : (xs xs' ys ys' : List Token) → length xs ≡ length xs' → xs ++ ys ≡ xs' ++ ys' → (xs ≡ xs') × (ys ≡ ys')
-split_same [] [] ys ys' n e = (refl, e)
-split_same [] (x' ∷ xs') ys ys' n e = cc
-split_same (x ∷ xs) [] ys ys' n e = cc
-split_same (x ∷ xs) (x' ∷ xs') ys ys' n e =
-    let same : x ≡ x' = cc in
-    let more = split_same xs xs' ys ys' (omega (arith, n)) (cc e) in
-    (ap (λ y. y ∷ xs) same ∙ ap (λ zs. x' ∷ zs) more.0, more.1)
-
-size_kinds : (ts : List Placed) → length (kinds ts) ≡ length (map (plain normal) ts)
-size_kinds [] = refl
-size_kinds (t ∷ ts) = ap (λ n. suc n) (size_kinds ts)
-
-size_same : (xs ys : List Placed) → map (plain normal) xs ≡ map (plain normal) ys → length (kinds xs) ≡ length (kinds ys)
-size_same xs ys e = size_kinds xs ∙ ap length e ∙ sym (size_kinds ys)
-
-size_normal : (ks : List Token) → length (map normal ks) ≡ length ks
-size_normal [] = refl
-size_normal (k ∷ ks) = ap (λ n. suc n) (size_normal ks)
-
-size_marked : (mark : ResultMark) (ts : List Placed) → length (kinds ts) ≡ length (marked_kinds false 0 mark ts)
-size_marked mark ts = sym (size_normal (kinds ts)) ∙ ap length (sym (marked_normal false 0 mark ts)) ∙ size_normal (marked_kinds false 0 mark ts)
-
-first_same : (xs ys : List Placed) (xss yss : List (List Placed)) → map (map (plain normal)) (xs ∷ xss) ≡ map (map (plain normal)) (ys ∷ yss) → map (plain normal) xs ≡ map (plain normal) ys
-first_same xs ys xss yss e = cc e
-
-later_same : (xs ys : List Placed) (xss yss : List (List Placed)) → map (map (plain normal)) (xs ∷ xss) ≡ map (map (plain normal)) (ys ∷ yss) → map (map (plain normal)) xss ≡ map (map (plain normal)) yss
-later_same xs ys xss yss e = cc e
-
-kinds_joined : (xs : List Placed) (xss : List (List Placed)) (ks : List Token) → kinds (joined (xs ∷ xss)) ≡ ks → kinds xs ++ kinds (joined xss) ≡ ks
-kinds_joined xs xss ks e = sym (kinds_append xs (joined xss)) ∙ e
-
-none_given : (games : List (List Placed)) → OnlyReadable games []
-unfolding OnlyReadable
-none_given [] = tt
-none_given (game ∷ games) = tt
-
-pairs : (hs gs : List (List Placed)) (marks : List (Option ResultMark)) → map (map (plain normal)) hs ≡ map (map (plain normal)) gs → kinds (joined hs) ≡ expected gs marks → OnlyReadable gs marks
-    → map told (map game_of hs) ≡ told_games gs marks
-unfolding expected told_games OnlyReadable
-pairs [] [] marks e f r = refl
-pairs [] (g ∷ gs) marks e f r = cc
-pairs (h ∷ hs) [] marks e f r = cc
-pairs (h ∷ hs) (g ∷ gs) [] e f r =
-    let s = split_same (kinds h) (kinds g) (kinds (joined hs)) (expected gs []) (size_same h g (first_same h g hs gs e)) (kinds_joined h hs _ f) in
-    ap (λ x. x ∷ map told (map game_of hs)) (same_kinds h g s.0) ∙ ap (λ xs. told (game_of g) ∷ xs) (pairs hs gs [] (later_same h g hs gs e) s.1 (none_given gs))
-pairs (h ∷ hs) (g ∷ gs) (None ∷ marks) e f r =
-    let s = split_same (kinds h) (kinds g) (kinds (joined hs)) (expected gs marks) (size_same h g (first_same h g hs gs e)) (kinds_joined h hs _ f) in
-    ap (λ x. x ∷ map told (map game_of hs)) (same_kinds h g s.0) ∙ ap (λ xs. told (game_of g) ∷ xs) (pairs hs gs marks (later_same h g hs gs e) s.1 r)
-pairs (h ∷ hs) (g ∷ gs) (Some mark ∷ marks) e f r =
-    let s = split_same (kinds h) (marked_kinds false 0 mark g) (kinds (joined hs)) (expected gs marks) (size_same h g (first_same h g hs gs e) ∙ size_marked mark g) (kinds_joined h hs _ f) in
-    ap (λ x. x ∷ map told (map game_of hs)) (marked_told mark h g s.0 r.0)
-    ∙ ap (λ xs. (if has_result g then told_with mark (game_of g) else told (game_of g)) ∷ xs) (pairs hs gs marks (later_same h g hs gs e) s.1 r.1)
-
-pub same_games : (bytes : List ℕ) (marks : List (Option ResultMark)) → OnlyReadable (cut Before (tokens bytes)) marks → map told (games (corrected bytes marks)) ≡ told_games (cut Before (tokens bytes)) marks
-unfolding games
-same_games bytes marks readable =
-    let ts = tokens bytes in
-    let gs = cut Before ts in
-    let ws = tokens (corrected bytes marks) in
-    let told_kinds : kinds ws ≡ expected gs marks = all_read gs marks bytes (sym (none_lost ts)) in
-    let normals : map normal (kinds ws) ≡ map normal (kinds ts) = ap (map normal) told_kinds ∙ expected_normal gs marks ∙ ap (λ xs. map normal (kinds xs)) (none_lost ts) in
-    let shapes : map (map (plain normal)) (cut Before ws) ≡ map (map (plain normal)) gs =
-    sym (cut_plain normal normal_turn Before ws) ∙ ap (cut Before) (same_plain ws ts normals) ∙ cut_plain normal normal_turn Before ts in
-    pairs (cut Before ws) gs marks shapes (ap kinds (none_lost ws) ∙ told_kinds) readable

@@ -1,7 +1,6 @@
 -- Which bytes begin a piece, at each stage of the piece before.
 use Rattle.std.specs.Bool.{⊤}
-use Rattle.std.proofs.Common.{◌≡◌, ℕ, zero, suc, ◌+◌, ◌==◌, Bool, true, false, not, ◌&&◌, ◌||◌, if◌then◌else◌, List, [], ◌∷◌, ◌++◌, refl, sym, ap, ◌∙◌, arith, append_assoc}
-use Rattle.std.specs.List.{fold}
+use Rattle.std.proofs.Common.{◌≡◌, ℕ, ◌==◌, Bool, true, false, not, ◌&&◌, ◌||◌, if◌then◌else◌, List, [], ◌∷◌, ◌++◌, refl, sym, ap, ◌∙◌, append_assoc}
 use Rattle.std.proofs.lemmas.Bool.{eqb-true}
 use Rattle.std.proofs.lemmas.List.Sums.{fold_push}
 use Rattle.cha_list.specs.declared.classes.Class.TheVariants.{Blank, InLine, Digit}
@@ -13,7 +12,7 @@ use Rattle.pgn_lex.specs.declared.stages.Stage.TheVariants.{Start, MarkBegun, Ma
 use Rattle.pgn_lex.specs.declared.stages.Next.{Next}
 use Rattle.pgn_lex.specs.declared.stages.Next.TheVariants.{Stays, Over}
 use Rattle.pgn_lex.specs.Pieces.{is_white}
-use Rattle.pgn_lex.specs.Stages.{begun, run_on, spoils, after_part, in_value, past_backslash, next_stage, Machine, stepped, at_front, read_from, machine}
+use Rattle.pgn_lex.specs.Stages.{begun, run_on, spoils, after_part, in_value, past_backslash, next_stage, Machine, stepped, read_from, machine}
 use Rattle.pgn_lex.proofs.Feeding.{machine_more}
 use Rattle.pgn_results.specs.Replacing.{leans}
 

@@ -1,12 +1,11 @@
 -- Where a token of a text stands, the text is cut in two there.
-use Rattle.std.proofs.Common.{◌≡◌, ℕ, zero, suc, ◌+◌, ◌<◌, ◌≤◌, Bool, not, List, [], ◌∷◌, ◌++◌, Option, Some, None, length, refl, sym, ap, ◌∙◌, subst, arith}
+use Rattle.std.proofs.Common.{◌≡◌, ℕ, zero, suc, ◌+◌, ◌≤◌, Bool, not, List, [], ◌∷◌, ◌++◌, Option, Some, None, length, refl, sym, ap, ◌∙◌, arith}
 use Rattle.std.specs.List.{All}
-use Rattle.std.proofs.lemmas.List.Elements.{All-cons, All-head, All-tail, All-append}
+use Rattle.std.proofs.lemmas.List.Elements.{All-cons, All-head, All-tail}
 use Rattle.cha_list.specs.declared.classes.Class.TheVariants.{InLine}
 use Rattle.cha_list.specs.Bytes.{in_class}
 use Rattle.pgn_lex.specs.declared.kinds.Token.{Token}
 use Rattle.pgn_lex.specs.declared.kinds.Placed.{Placed}
-use Rattle.pgn_lex.specs.declared.pieces.Piece.{Piece}
 use Rattle.pgn_lex.specs.Tokens.{piece, placed, line_after, tokens_after}
 
 -- all of these stand from a place on

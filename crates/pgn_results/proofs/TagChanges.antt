@@ -1,6 +1,5 @@
 -- A tag pair with another value.
-use Rattle.std.proofs.Common.{◌≡◌, ℕ, zero, suc, ◌+◌, ◌==◌, Bool, true, false, not, ◌||◌, if◌then◌else◌, List, [], ◌∷◌, ◌++◌, Option, Some, None, length, take, drop, refl, sym, ap, ◌∙◌, arith}
-use Rattle.std.specs.List.{prefix_len}
+use Rattle.std.proofs.Common.{◌≡◌, ℕ, ◌==◌, Bool, true, false, not, ◌||◌, if◌then◌else◌, List, [], ◌∷◌, ◌++◌, Option, Some, None, refl, sym, ap, ◌∙◌, append_assoc}
 use Rattle.std.proofs.lemmas.Bool.{eqb-true}
 use Rattle.cha_list.specs.declared.classes.Class.TheVariants.{Blank, InLine}
 use Rattle.cha_list.specs.Bytes.{in_class}
@@ -158,18 +157,53 @@ opens : (mark : ResultMark) (b : ℕ) (bs : List ℕ) → (b == 34) ≡ true →
 unfolding with_value
 opens mark b bs e = rw e refl
 
+-- what follows stays as it is
+abbrev Within : ResultMark → List ℕ → Type 0
+Within mark bs = (more : List ℕ) → with_value mark (bs ++ more) ≡ with_value mark bs ++ more
+
+within_on : (mark : ResultMark) (b : ℕ) (bs : List ℕ) → (b == 34) ≡ false → Within mark bs → Within mark (b ∷ bs)
+within_on mark b bs e h more = passes_on mark b (bs ++ more) e ∙ ap (λ xs. b ∷ xs) (h more) ∙ ap (λ xs. xs ++ more) (sym (passes_on mark b bs e))
+
+past_by : (q : Bool) (b : ℕ) (bs more rest : List ℕ) → (b == 34) ≡ q → past_value false (b ∷ bs) ≡ 34 ∷ rest
+    → (past_value (b == 92) bs ≡ 34 ∷ rest → past_value (b == 92) (bs ++ more) ≡ past_value (b == 92) bs ++ more) → past_value false (b ∷ bs ++ more) ≡ past_value false (b ∷ bs) ++ more
+unfolding past_value
+past_by true b bs more rest d e later = rw d refl
+past_by false b bs more rest d e later = rw d (later (rw d at e))
+
+past_within : (escaped : Bool) (bs more rest : List ℕ) → past_value escaped bs ≡ 34 ∷ rest → past_value escaped (bs ++ more) ≡ past_value escaped bs ++ more
+unfolding past_value
+past_within true [] more rest e = cc
+past_within false [] more rest e = cc
+past_within true (b ∷ bs) more rest e = past_within false bs more rest e
+past_within false (b ∷ bs) more rest e = past_by (b == 34) b bs more rest refl e (λ f. past_within (b == 92) bs more rest f)
+
+within_opened : (mark : ResultMark) (b : ℕ) (bs rest : List ℕ) → (b == 34) ≡ true → past_value false bs ≡ 34 ∷ rest → Within mark (b ∷ bs)
+within_opened mark b bs rest e f more =
+    opens mark b (bs ++ more) e ∙ ap (λ xs. b ∷ (mark_text mark ++ xs)) (past_within false bs more rest f)
+    ∙ ap (λ xs. b ∷ xs) (sym (append_assoc (mark_text mark) (past_value false bs) more)) ∙ ap (λ xs. xs ++ more) (sym (opens mark b bs e))
+
+in_value_closes : (name bs : List ℕ) (t : TagRead) → tag_in_value false name [] bs ≡ Some t → (rest : List ℕ) × (past_value false bs ≡ 34 ∷ rest)
+unfolding tag_in_value
+in_value_closes name bs t e =
+    let x = bind_some (value_after false bs) _ t e in
+    (x.0.rest, (value_closes false bs x.0 x.1).0)
+
 -- what a part of a tag pair reads, with another value
 abbrev Alters : ResultMark → (List ℕ → Option TagRead) → List ℕ → TagRead → Type 0
-Alters mark part bs t = (part (with_value mark bs) ≡ Some (changed mark t)) × EndsWith 93 bs t.rest
+Alters mark part bs t = (part (with_value mark bs) ≡ Some (changed mark t)) × EndsWith 93 bs t.rest × Within mark bs
 
 named_by : (v w : Bool) (mark : ResultMark) (name : List ℕ) (b : ℕ) (bs : List ℕ) (t : TagRead) → in_class Blank b ≡ v → (b == 34) ≡ w → tag_named name (b ∷ bs) ≡ Some t
     → (tag_named name bs ≡ Some t → Alters mark (tag_named name) bs t) → Alters mark (tag_named name) (b ∷ bs) t
 named_by true w mark name b bs t d f e h =
     let x = h (sym (named_blank name b bs d) ∙ e) in
-    (ap (tag_named name) (passes_on mark b bs (blank_no_quote b d)) ∙ named_blank name b (with_value mark bs) d ∙ x.0, one_more_before 93 b bs t.rest x.1)
+    (ap (tag_named name) (passes_on mark b bs (blank_no_quote b d)) ∙ named_blank name b (with_value mark bs) d ∙ x.0, one_more_before 93 b bs t.rest x.1, within_on mark b bs (blank_no_quote b d) x.2)
 named_by false true mark name b bs t d f e h =
     let g : tag_in_value false name [] bs ≡ Some t = sym (named_opens name b bs d f) ∙ e in
-    (ap (tag_named name) (opens mark b bs f) ∙ named_opens name b (mark_text mark ++ past_value false bs) d f ∙ in_value_changed mark name bs t g, one_more_before 93 b bs t.rest (in_value_ends name [] bs t g))
+    let closed = in_value_closes name bs t g in (
+      ap (tag_named name) (opens mark b bs f) ∙ named_opens name b (mark_text mark ++ past_value false bs) d f ∙ in_value_changed mark name bs t g,
+      one_more_before 93 b bs t.rest (in_value_ends name [] bs t g),
+      within_opened mark b bs closed.0 f closed.1,
+    )
 named_by false false mark name b bs t d f e h =
     let no : None ≡ Some t = sym (named_breaks name b bs d f) ∙ e in
     cc
@@ -187,15 +221,15 @@ name_by : (v w : Bool) (mark : ResultMark) (front : List ℕ) (b : ℕ) (bs : Li
     → (tag_in_name (front ++ b ∷ []) bs ≡ Some t → Alters mark (tag_in_name (front ++ b ∷ [])) bs t) → Alters mark (tag_in_name front) (b ∷ bs) t
 name_by true w mark front b bs t d f e h =
     let x = h (sym (name_goes_on front b bs d) ∙ e) in
-    (ap (tag_in_name front) (passes_on mark b bs (name_no_quote b d)) ∙ name_goes_on front b (with_value mark bs) d ∙ x.0, one_more_before 93 b bs t.rest x.1)
+    (ap (tag_in_name front) (passes_on mark b bs (name_no_quote b d)) ∙ name_goes_on front b (with_value mark bs) d ∙ x.0, one_more_before 93 b bs t.rest x.1, within_on mark b bs (name_no_quote b d) x.2)
 name_by false true mark front b bs t d f e h =
     let x = named_alters mark front (b ∷ bs) t (sym (name_ends front b bs d) ∙ e) in
     let o = opens mark b bs f in
-    (ap (tag_in_name front) o ∙ name_ends front b (mark_text mark ++ past_value false bs) d ∙ ap (tag_named front) (sym o) ∙ x.0, x.1)
+    (ap (tag_in_name front) o ∙ name_ends front b (mark_text mark ++ past_value false bs) d ∙ ap (tag_named front) (sym o) ∙ x.0, x.1, x.2)
 name_by false false mark front b bs t d f e h =
     let x = named_alters mark front (b ∷ bs) t (sym (name_ends front b bs d) ∙ e) in
     let o = passes_on mark b bs f in
-    (ap (tag_in_name front) o ∙ name_ends front b (with_value mark bs) d ∙ ap (tag_named front) (sym o) ∙ x.0, x.1)
+    (ap (tag_in_name front) o ∙ name_ends front b (with_value mark bs) d ∙ ap (tag_named front) (sym o) ∙ x.0, x.1, x.2)
 
 name_none : (front : List ℕ) (t : TagRead) → tag_in_name front [] ≡ Some t → ⊥
 unfolding tag_in_name tag_named past_byte
@@ -210,10 +244,10 @@ at_by : (v w : Bool) (mark : ResultMark) (b : ℕ) (bs : List ℕ) (t : TagRead)
     → (tag_at bs ≡ Some t → Alters mark tag_at bs t) → Alters mark tag_at (b ∷ bs) t
 at_by true w mark b bs t d f e h =
     let x = h (sym (opened_blank b bs d) ∙ e) in
-    (ap tag_at (passes_on mark b bs (blank_no_quote b d)) ∙ opened_blank b (with_value mark bs) d ∙ x.0, one_more_before 93 b bs t.rest x.1)
+    (ap tag_at (passes_on mark b bs (blank_no_quote b d)) ∙ opened_blank b (with_value mark bs) d ∙ x.0, one_more_before 93 b bs t.rest x.1, within_on mark b bs (blank_no_quote b d) x.2)
 at_by false true mark b bs t d f e h =
     let x = name_alters mark (b ∷ []) bs t (sym (opened_name b bs d f) ∙ e) in
-    (ap tag_at (passes_on mark b bs (name_no_quote b f)) ∙ opened_name b (with_value mark bs) d f ∙ x.0, one_more_before 93 b bs t.rest x.1)
+    (ap tag_at (passes_on mark b bs (name_no_quote b f)) ∙ opened_name b (with_value mark bs) d f ∙ x.0, one_more_before 93 b bs t.rest x.1, within_on mark b bs (name_no_quote b f) x.2)
 at_by false false mark b bs t d f e h =
     let no : None ≡ Some t = sym (opened_breaks b bs d f) ∙ e in
     cc
@@ -223,6 +257,6 @@ unfolding tag_at name_at
 at_none t e = cc
 
 -- a tag pair with another value is read as one with that value, and what follows it stays
-pub tag_alters : (mark : ResultMark) (bs : List ℕ) (t : TagRead) → tag_at bs ≡ Some t → (tag_at (with_value mark bs) ≡ Some (changed mark t)) × EndsWith 93 bs t.rest
+pub tag_alters : (mark : ResultMark) (bs : List ℕ) (t : TagRead) → tag_at bs ≡ Some t → (tag_at (with_value mark bs) ≡ Some (changed mark t)) × EndsWith 93 bs t.rest × ((more : List ℕ) → with_value mark (bs ++ more) ≡ with_value mark bs ++ more)
 tag_alters mark [] t e = absurd (at_none t e)
 tag_alters mark (b ∷ bs) t e = at_by (in_class Blank b) (in_pgn_class NameByte b) mark b bs t refl refl e (λ f. tag_alters mark bs t f)

@@ -1,19 +1,19 @@
 -- A text with another value in a tag pair has the same tokens but for that value.
-use Rattle.std.proofs.Common.{◌≡◌, ℕ, zero, suc, ◌+◌, ◌-◌, ◌==◌, Bool, true, false, not, ◌&&◌, if◌then◌else◌, List, [], ◌∷◌, ◌++◌, Option, Some, None, length, take, drop, nat_lt, refl, sym, ap, ◌∙◌, subst, arith, length-append}
+use Rattle.std.proofs.Common.{◌≡◌, ℕ, suc, ◌+◌, ◌-◌, ◌==◌, Bool, true, false, not, List, [], ◌∷◌, ◌++◌, Option, Some, None, length, take, drop, nat_lt, refl, sym, ap, ◌∙◌, arith, length-append, append_assoc}
 use Rattle.cha_list.specs.declared.classes.Class.TheVariants.{InLine}
 use Rattle.cha_list.specs.Bytes.{in_class}
 use Rattle.pgn_lex.specs.declared.kinds.Token.{Token}
-use Rattle.pgn_lex.specs.declared.kinds.Token.TheVariants.{Tag, BadTag}
+use Rattle.pgn_lex.specs.declared.kinds.Token.TheVariants.{Tag}
 use Rattle.pgn_lex.specs.declared.kinds.Placed.{Placed}
 use Rattle.pgn_lex.specs.declared.pieces.Piece.{Piece}
 use Rattle.pgn_lex.specs.Pieces.{spoken_piece, is_white}
 use Rattle.pgn_lex.specs.Tags.{TagRead, tag_at, tag_or_line, tag_piece}
-use Rattle.pgn_lex.specs.Tokens.{piece, placed, line_after, tokens_after, tokens}
+use Rattle.pgn_lex.specs.Tokens.{piece, line_after, tokens_after, tokens}
 use Rattle.pgn_lex.specs.Stages.{Machine, machine}
 use Rattle.pgn_games.specs.declared.marks.ResultMark.{ResultMark}
 use Rattle.pgn_games.specs.declared.marks.ResultMark.TheVariants.{WhiteWins, BlackWins, Draw, Unknown}
 use Rattle.pgn_results.specs.Replacing.{mark_text, with_value, with_tag}
-use Rattle.pgn_results.proofs.TokenKinds.{kinds, kinds_append, passed_kinds}
+use Rattle.pgn_results.proofs.TokenKinds.{kinds, passed_kinds}
 use Rattle.pgn_results.proofs.PieceSorts.{tag_piece_is}
 use Rattle.pgn_results.proofs.Boundaries.{boundary}
 use Rattle.pgn_results.proofs.Found.{Found, found}
@@ -107,3 +107,27 @@ tag_replaced mark bytes us t vs name value cut e is =
       piece_kinds m.at m.line m.first f.b rest' (Tag name (mark_text mark) false) (length rest' - length t'.rest) p'
           ∙ ap (λ ks. Tag name (mark_text mark) false ∷ ks) (behind_tag rest' t'.rest (m.at + 1) (line_after m.line f.b) (not (in_class InLine f.b)) again.1 ∙ sym old),
     )
+
+-- what follows such a text stays as it is
+pub tag_within : (mark : ResultMark) (bytes : List ℕ) (us : List Placed) (t : Placed) (vs : List Placed) (name value : List ℕ) (cut : Bool) → tokens bytes ≡ us ++ t ∷ vs → t.token ≡ Tag name value cut
+    → (more : List ℕ) → with_tag mark t.offset (bytes ++ more) ≡ with_tag mark t.offset bytes ++ more
+unfolding with_value
+tag_within mark bytes us t vs name value cut e is more =
+    let told : Some t.token ≡ Some (Tag name value cut) = ap (λ x. Some x) is in
+    let f : Found bytes us t vs = found bytes us t vs e (λ first b r g. no_mark b (tag_piece_is first b r name value cut (g ∙ told)).0) in
+    let m : Machine = machine f.front in
+    let inv = tag_piece_is m.first f.b f.rest name value cut (f.token_is ∙ told) in
+    let tag = read f.rest name value cut (ap (λ (p : Piece). p.token) (sym inv.1) ∙ f.token_is ∙ told) in
+    let alters = tag_alters mark f.rest tag.0 tag.1 in
+    let a = f.front in
+    let short : with_value mark (f.b ∷ f.rest) ≡ f.b ∷ with_value mark f.rest = rw (inv.0) refl in
+    let long : with_value mark (f.b ∷ (f.rest ++ more)) ≡ f.b ∷ with_value mark (f.rest ++ more) = rw (inv.0) refl in
+    let here : with_tag mark t.offset bytes ≡ a ++ f.b ∷ with_value mark f.rest =
+    ap (λ n. with_tag mark n bytes) f.offset_is ∙ ap (with_tag mark (length a)) f.bytes_are
+    ∙ ap (λ xs. xs ++ with_value mark (drop (length a) (a ++ f.b ∷ f.rest))) (take_front a (f.b ∷ f.rest)) ∙ ap (λ xs. a ++ with_value mark xs) (drop_front a (f.b ∷ f.rest)) ∙ ap (λ xs. a ++ xs) short in
+    let whole : bytes ++ more ≡ a ++ f.b ∷ (f.rest ++ more) = ap (λ xs. xs ++ more) f.bytes_are ∙ append_assoc a (f.b ∷ f.rest) more in
+    let there : with_tag mark t.offset (bytes ++ more) ≡ a ++ f.b ∷ with_value mark (f.rest ++ more) =
+    ap (λ n. with_tag mark n (bytes ++ more)) f.offset_is ∙ ap (with_tag mark (length a)) whole
+    ∙ ap (λ xs. xs ++ with_value mark (drop (length a) (a ++ f.b ∷ (f.rest ++ more)))) (take_front a (f.b ∷ (f.rest ++ more))) ∙ ap (λ xs. a ++ with_value mark xs) (drop_front a (f.b ∷ (f.rest ++ more)))
+    ∙ ap (λ xs. a ++ xs) long in
+    there ∙ ap (λ xs. a ++ f.b ∷ xs) (alters.2 more) ∙ sym (append_assoc a (f.b ∷ with_value mark f.rest) more) ∙ ap (λ xs. xs ++ more) (sym here)

@@ -1,8 +1,6 @@
 -- A text with another result at the end of a game has the same tokens but for that result.
-use Rattle.std.proofs.Common.{◌≡◌, ◌⊎◌, inl, inr, ℕ, zero, suc, ◌+◌, ◌-◌, ◌==◌, Bool, true, false, not, ◌&&◌, ◌||◌, if◌then◌else◌, is_some, List, [], ◌∷◌, ◌++◌, Option, Some, None, length, take, drop, refl, sym, ap, ◌∙◌, subst, arith, length-append, append_assoc}
-use Rattle.std.specs.Prelude.{codes}
+use Rattle.std.proofs.Common.{◌≡◌, ◌⊎◌, inl, inr, ℕ, suc, ◌+◌, ◌==◌, Bool, true, false, not, ◌&&◌, if◌then◌else◌, is_some, List, [], ◌∷◌, ◌++◌, Option, Some, None, length, take, drop, refl, sym, ap, ◌∙◌, arith}
 use Rattle.std.specs.List.{prefix_len, list_all}
-use Rattle.std.specs.Str.{bytes_eq}
 use Rattle.std.proofs.lemmas.Bool.{eqb-true}
 use Rattle.std.proofs.lemmas.Bool.Decides.{nat_tests}
 use Rattle.cha_list.specs.declared.classes.Class.TheVariants.{InLine}
@@ -16,14 +14,14 @@ use Rattle.pgn_lex.specs.declared.pieces.Piece.{Piece}
 use Rattle.pgn_lex.specs.declared.stages.Stage.{Stage}
 use Rattle.pgn_lex.specs.declared.stages.Next.TheVariants.{Over}
 use Rattle.pgn_lex.specs.Pieces.{silent_piece, spoken_piece, is_white, word_token, word_piece}
-use Rattle.pgn_lex.specs.Tokens.{piece, placed, line_after, tokens_after, tokens}
+use Rattle.pgn_lex.specs.Tokens.{piece, line_after, tokens_after, tokens}
 use Rattle.pgn_lex.specs.Stages.{next_stage, Machine, machine}
 use Rattle.pgn_lex.proofs.Runs.{run_grows, run_ends, in_line}
 use Rattle.pgn_games.specs.declared.marks.ResultMark.{ResultMark}
 use Rattle.pgn_games.specs.declared.marks.ResultMark.TheVariants.{WhiteWins, BlackWins, Draw, Unknown}
 use Rattle.pgn_games.specs.Cutting.{mark_of}
 use Rattle.pgn_results.specs.Replacing.{mark_text, leans, begins_word, apart, with_token}
-use Rattle.pgn_results.proofs.TokenKinds.{kinds, kinds_append, kinds_anywhere}
+use Rattle.pgn_results.proofs.TokenKinds.{kinds, kinds_anywhere}
 use Rattle.pgn_results.proofs.PieceSorts.{star_piece, word_piece_is}
 use Rattle.pgn_results.proofs.Boundaries.{boundary}
 use Rattle.pgn_results.proofs.Found.{Found, found}

@@ -1,5 +1,5 @@
 -- A result in place of the one that a game's text tells.
-use Rattle.std.specs.Prelude.{ℕ, ◌==◌, Bool, true, false, not, ◌&&◌, ◌||◌, if◌then◌else◌, List, [], ◌∷◌, ◌++◌, take, drop, Option, Some, None, is_some, codes}
+use Rattle.std.specs.Prelude.{ℕ, ◌==◌, Bool, true, false, not, ◌&&◌, ◌||◌, if◌then◌else◌, List, [], ◌∷◌, ◌++◌, take, drop, is_some, codes}
 use Rattle.std.specs.List.{fold, list_any}
 use Rattle.pgn_lex.specs.declared.classes.PgnClass.TheVariants.{WordByte}
 use Rattle.pgn_lex.specs.Classes.{in_pgn_class}
@@ -24,7 +24,7 @@ past_value escaped [] = []
 past_value true (b ∷ bs) = past_value false bs
 past_value false (b ∷ bs) = if b == 34 then b ∷ bs else past_value (b == 92) bs
 
--- bytes that begin with a tag pair, where the value, between its quotes, is that of a result
+-- bytes that begin with a tag pair, with a result as its value, between its quotes
 unfoldable pub with_value : ResultMark → List ℕ → List ℕ
 with_value mark [] = []
 with_value mark (b ∷ bs) = if b == 34 then b ∷ (mark_text mark ++ past_value false bs) else b ∷ with_value mark bs
@@ -42,7 +42,8 @@ begins_word (b ∷ bs) = in_pgn_class WordByte b
 abbrev pub apart : List ℕ → List ℕ → List ℕ
 apart a b = if leans a && begins_word b then a ++ 32 ∷ b else a ++ b
 
--- a text with a result from one place to another. A star needs no space beside it, and a word that stands for it does.
+-- A text with a result from one place to another. A star may touch a word (PGN standard, 7), and a result that is itself a word may not:
+-- there a space is put between them.
 abbrev pub with_token : ResultMark → ℕ → ℕ → List ℕ → List ℕ
 with_token mark start end bytes = apart (take start bytes) (apart (mark_text mark) (drop end bytes))
 
@@ -58,6 +59,7 @@ is_result_tag token = is_some (value_named (codes "Result") token)
 abbrev pub is_result_at : ℕ → Token → Bool
 is_result_at depth token = (depth == 0) && is_some (mark_of token)
 
+-- the same, or the text as it is
 abbrev pub with_tag_if : Bool → ResultMark → ℕ → List ℕ → List ℕ
 with_tag_if true mark start bytes = with_tag mark start bytes
 with_tag_if false mark start bytes = bytes
@@ -82,10 +84,10 @@ is_word BlackWins = true
 is_word Draw = true
 is_word Unknown = false
 
--- the space that follows a game with another result, where the next byte would go on with its word
+-- the space that follows a game with another result, where the next byte is one of a word
 abbrev pub space_behind : ResultMark → List Placed → List ℕ → List ℕ
 space_behind mark slice behind = if has_result slice && (is_word mark && begins_word behind) then 32 ∷ [] else []
 
--- the bytes of one game with another result, from its first token to its last, where these follow
+-- the bytes of one game, from its first token to its last, with another result; the bytes behind it are known
 abbrev pub game_with_mark : ResultMark → List ℕ → List ℕ → List ℕ
 game_with_mark mark game behind = with_mark false 0 mark (tokens game) game ++ space_behind mark (tokens game) behind

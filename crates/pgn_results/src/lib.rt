@@ -1,7 +1,7 @@
 //! A text of games with other results, where nothing but the results changes.
 //!
-//! `places` finds where a game tells its result, `replacing` writes the text of a game with another one, and `law` has the law that the
-//! games stay the same.
+//! `places` finds where a game tells its result, `replacing` writes the text of a game with another one, and `law` has the laws that the
+//! games stay the same, and that each may be written alone.
 #![tactic(auto)]
 
 mod law;
@@ -9,6 +9,8 @@ mod places;
 mod quotes;
 mod replacing;
 
-pub use law::corrected_games_stay_the_same;
+pub use law::{
+    a_result_alone_has_no_move, corrected_games_stay_the_same, games_are_corrected_one_by_one,
+};
 pub use places::{ResultPlaces, result_places};
 pub use replacing::put_with_mark;

@@ -7,8 +7,6 @@
 #![tactic(auto)]
 
 #[cfg(test)]
-mod busy;
-#[cfg(test)]
 mod cells;
 #[cfg(test)]
 mod crews;

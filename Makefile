@@ -61,6 +61,7 @@ lib-test: lib cha
 	./library/test
 	CHA_LIBRARY=./libcha.so python3 library/test.py ./cha $(FILES)
 	CHA_LIBRARY=./libcha.so python3 library/closed.py
+	CHA_LIBRARY=./libcha.so python3 library/mates.py
 
 # Debian's packages for Python belong to its own interpreter.
 PYTHON ?= /usr/bin/python3

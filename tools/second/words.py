@@ -15,6 +15,15 @@ import sys
 
 RANGES = {"--budget": (1, 100000), "--workers": (1, 16), "--depth": (2, 8), "--entries": (1, 65536)}
 MATES_RANGES = {"--workers": (1, 16), "--depth": (1, 6)}
+FLAGS = {
+    "adjudicate": ["--certs", "--json", "--san", "--fens", "--flagged-draws"],
+    "position": ["--certs", "--json", "--san", "--fens"],
+    "check": [],
+    "mates": ["--json", "--san"],
+    "replay": ["--json"],
+    "gen": [],
+}
+NUMBERED = {"mates": MATES_RANGES, "check": {}, "replay": {}}
 
 
 def number(word, least, most):
@@ -23,17 +32,15 @@ def number(word, least, most):
 
 def is_ordered(words):
     """Whether a list of words is in the language."""
-    if not words or words[0] not in ("adjudicate", "position", "check", "gen", "mates"):
+    if not words or words[0] not in FLAGS:
         return False
     command, rest, seen, plain = words[0], list(words[1:]), set(), []
-    if command == "check":
-        return not rest
-    ranges = MATES_RANGES if command == "mates" else RANGES
+    ranges = NUMBERED.get(command, RANGES)
     while rest:
         word = rest.pop(0)
         name, equals, value = word.partition("=")
-        if word == "--certs":
-            if word in seen or command in ("gen", "mates"):
+        if word in FLAGS["adjudicate"]:
+            if word in seen or word not in FLAGS[command]:
                 return False
             seen.add(word)
         elif word in RANGES or (equals and name in RANGES):
@@ -56,21 +63,23 @@ def is_ordered(words):
 def random_words():
     """A list of words, of which about a half is in the language."""
     values = ["0", "1", "2", "4", "8", "9", "16", "17", "007", "100000", "100001", "65536", "65537", "", "+1", "x", "00000000000000000002"]
-    command = random.choice(["adjudicate", "position", "gen", "check", "Position", "solve", "adjudicate", "position", "gen", "mates", "mates"])
+    command = random.choice(["adjudicate", "position", "gen", "check", "Position", "solve", "adjudicate", "position", "gen", "mates", "mates", "replay", "replay"])
     words = [command]
     if command == "gen":
         words += [random.choice(["0", "7", "18446744073709551615", "18446744073709551616", "-1"]), random.choice(["1", "2", "0", "1001"])]
     if command == "mates":
         words += random.choice([["w"], ["b"], ["w"], ["b"], ["x"], [], ["w", "b"]])
-    for _ in range(random.choice([0, 0, 1, 1, 2, 3])):
+    for _ in range(random.choice([0, 0, 1, 1, 2, 3] if command != "replay" else [0, 0, 0, 1])):
         name = random.choice(list(RANGES))
         least, most = RANGES[name]
         value = random.choice([str(least), str(min(most, 4)), random.choice(values)])
         part = random.choice([[name, value], [name + "=" + value]])
         at = random.randint(1, len(words))
         words[at:at] = part
-    if random.random() < 0.3:
-        words.insert(random.randint(0, len(words)), random.choice(["--certs", "--certs", "--certs=yes", "--", "--help", ""]))
+    for flag in random.sample(FLAGS["adjudicate"], random.choice([0, 0, 0, 1, 1, 2])):
+        words.insert(random.randint(1, len(words)), random.choice([flag] * 9 + [flag + "=1"]))
+    if random.random() < 0.1:
+        words.insert(random.randint(0, len(words)), random.choice(["--certs", "--json", "--", "--help", ""]))
     return words
 
 
@@ -84,7 +93,7 @@ def main(program, count, seed):
             print(f"status {ended.returncode} on {words}")
             return 1
         good += is_ordered(words)
-    print(f"lists of words: {count}, in the language: {good}, all told alike")
+    print(f"lists of words: {count}, in the language: {good}, the same answers")
     return 0
 
 

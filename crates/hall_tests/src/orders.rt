@@ -46,6 +46,8 @@ const ROWS: &[(&str, &str)] = &[
         "position --budget 00000000000000000070",
         "positions 70 4 2 4096 false",
     ),
+    ("replay", "replay"),
+    ("replay --json", "replay json"),
     ("gen 7 20", "gen 20000 4 1 4096 7 20"),
     ("gen 7 20 --budget 500", "gen 500 4 1 4096 7 20"),
     ("gen --budget 500 7 20", "gen 500 4 1 4096 7 20"),
@@ -162,6 +164,10 @@ const ROWS: &[(&str, &str)] = &[
     ("check --certs", NOTHING),
     ("check --budget 7", NOTHING),
     ("check check", NOTHING),
+    ("replay --san", NOTHING),
+    ("replay --json --json", NOTHING),
+    ("replay --budget 7", NOTHING),
+    ("replay w", NOTHING),
     ("check ", NOTHING),
     ("gen", NOTHING),
     ("gen 1", NOTHING),
@@ -254,6 +260,9 @@ fn said_of(alloc: Global, order: &Option<Order>) -> Result<String, Fail> {
                 count,
             },
         ) => { format!(in alloc; "gen {} {seed} {count}", spent(alloc, limits)?)? }
+        Some(Order::ReplayGames { printing }) => {
+            format!(in alloc; "replay{}", style_of(printing))?
+        }
     };
     Ok(text)
 }
@@ -351,6 +360,8 @@ const FAULTS: &[(&str, usize, &str)] = &[
     ("mates w --depth 7", 3, "1 to 6"),
     ("mates w --depth", 3, "1 to 6"),
     ("mates --workers=3 --depth 2", 4, " SIDE --json --san"),
+    ("replay --san", 1, " --json"),
+    ("replay --json w", 2, ""),
 ];
 
 /// What may stand at a place, as a text.

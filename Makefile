@@ -6,7 +6,7 @@
 # make lib-test   runs both from C, under sanitizers, and from Python, and cuts texts of games apart and joins their reports
 # make wheel      builds Python's wheel, python/dist/cha-*.whl, with the library in it
 # make data-test  tests the Python package: databases, tables, clusters, the wheel in a fresh environment (tools/packages data)
-# make text-test  runs the command lines that the documents print, and compares the completions with the usage
+# make text-test  runs the command lines that the documents print, compares the completions with the usage, and checks certificates of each kind
 # make page       builds page/dist: the page in one file (also dist/cha.html), and the module for JavaScript; make page-test tests both
 # make dist       makes a release in dist/; make dist-test uses it elsewhere, without the kit
 PREFIX ?= /usr/local
@@ -77,6 +77,7 @@ data-test: wheel
 text-test: cha
 	tools/printed.py ./cha
 	tools/completions.py --check ./cha
+	tools/certificates.sh ./cha
 
 # The module is made of the static library, whose proof it waits for; the page is the module and the files of web/.
 MODULE = page/dist/cha.wasm

@@ -78,6 +78,8 @@ text-test: cha
 	tools/printed.py ./cha
 	tools/completions.py --check ./cha
 	tools/certificates.sh ./cha
+	tools/words.py
+	tools/draw.py --check
 
 # The module is made of the static library, whose proof it waits for; the page is the module and the files of web/.
 MODULE = page/dist/cha.wasm

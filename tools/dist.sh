@@ -19,7 +19,8 @@ trap 'rm -rf "$room"' EXIT
 make --no-print-directory install install-lib DESTDIR="$room/$name" PREFIX=/ > /dev/null
 sed -i 's|^prefix=.*|prefix=${pcfiledir}/../..|' "$room/$name/lib/pkgconfig/cha.pc"
 install -d "$room/$name/share/doc/cha"
-install -m 644 README.md CHANGELOG.md docs/*.md docs/sample.pgn "$room/$name/share/doc/cha"
+install -m 644 README.md CHANGELOG.md docs/*.md docs/*.svg docs/sample.pgn "$room/$name/share/doc/cha"
+install -D -m 644 web/page.png "$room/$name/share/doc/cha/web/page.png"
 install -m 644 LICENSE "$room/$name"
 cat > "$room/$name/PROVED.txt" << NOTE
 cha $version, commit $commit
@@ -27,7 +28,7 @@ cha $version, commit $commit
 Program and library are built from crates of which each function was proved, by
 $(rt version)
 What is proved, crate by crate and with the contract that carries it, is in share/doc/cha/PROVED.md. The proofs rest on the definitions
-that the contracts cite, on that toolchain and the statements of its libraries, and on the C library and the compiler behind them.
+that the contracts cite, on that toolchain and the contracts of the libraries it uses, and on the C library and the compiler behind them.
 NOTE
 tar -C "$room" --sort=name --owner=0 --group=0 --numeric-owner --mtime="@$(git log -1 --format=%ct 2> /dev/null || date +%s)" -cf - "$name" | gzip -n > "dist/$name.tar.gz"
 for made in python/dist/*.whl page/dist/*; do

@@ -2,7 +2,7 @@
 
 A man is named by the square on which it stands in the position, its origin. `reach` has for an origin and a kind the squares on
 which that man may ever stand so, and `loose` has the origins whose men may ever leave or be captured there. A man that is not
-loose is fixed. The rules are those of docs/DEFINITIONS.md, 'Why closed sets prove that a side cannot win'.
+loose is fixed. The rules are those of docs/LAW.md.
 """
 
 from board import AHEAD, beside, captures, lines, other

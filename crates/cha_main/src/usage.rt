@@ -21,9 +21,9 @@ fn about_command(command: Command) -> &'static str {
         Command::Mates => {
             "lists the shortest mates by a side in positions in FEN: a block for each, and a summary"
         }
-        Command::Replay => "tells the moves of games in PGN, and the position after each",
+        Command::Replay => "prints the moves of games in PGN, and the position after each",
         Command::Gen =>
-            "makes games of numbers, judges them, and writes the summary; reads nothing",
+            "generates random games from a seed, judges them and prints only the summary; reads nothing",
     }
 }
 
@@ -102,7 +102,7 @@ fn say_usage(rt: &HostRuntime) -> io::Result<()> {
 fn say_version(rt: &HostRuntime) -> io::Result<()> {
     eprintln!(rt; "cha {VERSION}")?;
     eprintln!(rt;
-        "Every function is proved with rattle-kit-13f, logic dac8208d650f15bf, where this is the build that 'make' leaves. The proofs rest on the definitions that the contracts cite, on that toolchain and the statements of its libraries, and on the C library and the compiler behind them."
+        "Every function is proved with rattle-kit-13f, logic dac8208d650f15bf, where this is the build that 'make' leaves. The proofs rest on the definitions that the contracts cite, on that toolchain and the contracts of the libraries it uses, and on the C library and the compiler behind them."
     )
 }
 

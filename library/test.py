@@ -42,6 +42,12 @@ class Library(unittest.TestCase):
             thread.join()
         self.assertEqual(found, [wanted, wanted])
 
+    def test_words_with_bytes_that_are_not_ascii(self):
+        for byte in range(128, 256):
+            first, last = cha.report(["adjudicate", "--json"], b"1. N" + bytes([byte]) + b"4 e5 *\n").splitlines()
+            self.assertEqual(first, b'{"game":1,"bytes":[3,11],"line":1,"unreadable":"bad token at byte 4"}')
+            self.assertEqual(last, b'{"games":1,"unreadable":1,"changed":0,"undecided":0,"closed":true}')
+
     def test_errors_have_their_kind(self):
         self.assertRaises(cha.UsageError, cha.report, ["gen", "1"], "")
         self.assertEqual([found.reason for found in cha.games("1. e4 ] *")], ["bad token at byte 6"])

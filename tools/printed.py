@@ -1,6 +1,7 @@
 #!/usr/bin/env python3
 """Runs each command line that README.md, docs/ and the manual page print behind `$`, and compares what comes out with what is printed
-below it, standard error with standard output. A line that the manual page displays alone has to end well.
+below it, standard error with standard output. A line that the manual page displays alone has to end well. And the manual page has to have
+the options of docs/MANUAL.md with their numbers, and its exit statuses.
 
     tools/printed.py [PROGRAM]
 
@@ -47,6 +48,21 @@ def examples_of_page(text):
     return [(command, None) for command in alone] + [it for block in blocks for it in examples(re.sub(r"(?m)^", "    ", block.rstrip("\n")) + "\n")]
 
 
+def numbers(text):
+    """The numbers of a text, without the commas between their digits."""
+    return set(re.findall(r"\b\d+\b", re.sub(r"(?<=\d),(?=\d{3})", "", text)))
+
+
+def differences(manual, page):
+    """What the manual and the manual page say differently of options and exit statuses."""
+    rows = dict(re.findall(r"^\| `(--[\w-]+)[^`]*` \|((?:[^|]*\|){3})", manual, re.M))
+    items = {f"-{name}": text for name, text in re.findall(r"^\.It Fl (-[\w-]+).*\n((?:(?!\.It|\.El).*\n)*)", page, re.M)}
+    found = [f"options: {list(rows)} and {list(items)}"] if not rows or list(rows) != list(items) else []
+    found += [f"{name}: {sorted(numbers(cells))}" for name, cells in rows.items() if numbers(cells) and numbers(cells) != numbers(items.get(name, ""))]
+    statuses = re.findall(r"^\| (\d) \|", manual, re.M), re.findall(r"^\.It (\d)$", page, re.M)
+    return found + ([f"exit statuses: {statuses}"] if not statuses[0] or statuses[0] != statuses[1] else [])
+
+
 def main():
     program = os.path.abspath(sys.argv[1] if len(sys.argv) > 1 else os.path.join(TOP, "cha"))
     wrong = run = 0
@@ -68,6 +84,12 @@ def main():
                 if done.returncode != 0 if printed is None else done.stdout.splitlines() != printed:
                     wrong += 1
                     print(f"{os.path.relpath(path, TOP)}: {command}\n--- printed\n" + "\n".join(printed or []) + f"\n--- comes out\n{done.stdout}")
+    texts = [open(f"{TOP}/docs/{name}", encoding="utf-8").read() for name in ("MANUAL.md", "cha.1")]
+    run += 1
+    unlike = differences(*texts)
+    if unlike:
+        wrong += 1
+        print("docs/MANUAL.md and docs/cha.1 differ:", *unlike, sep="\n")
     print(f"{run - wrong} passed, {wrong} failed")
     return 1 if wrong else 0
 

@@ -3,7 +3,8 @@
 # make test       the whole gate: rt ci, and the tests of the library, the Python package, the page, the documents and the release
 # make install    copies the program to PREFIX/bin (PREFIX=/usr/local)
 # make lib        builds libcha.a and libcha.so; make install-lib copies them, the header and cha.pc
-# make lib-test   runs both from C, under sanitizers, and from Python, and cuts texts of games apart and joins their reports
+# make lib-test   runs both from C, under sanitizers, and from Python
+# make join-test  cuts files of games apart, judges the pieces and joins their reports (tools/packages games)
 # make wheel      builds Python's wheel, python/dist/cha-*.whl, with the library in it
 # make data-test  tests the Python package: databases, tables, clusters, the wheel in a fresh environment (tools/packages data)
 # make text-test  runs the command lines that the documents print, compares the completions with the usage, and checks certificates of each kind
@@ -13,7 +14,7 @@ PREFIX ?= /usr/local
 PROGRAM = crates/cha_main/out/cha_main
 SOURCES = HANDLES crates.txt $(shell find crates/*/src crates/*/specs crates/*/proofs -type f)
 
-.PHONY: all run test install clean kit lib lib-test install-lib wheel data-test text-test page page-test dist dist-test
+.PHONY: all run test install clean kit lib lib-test join-test install-lib wheel data-test text-test page page-test dist dist-test
 
 all: cha
 
@@ -60,8 +61,10 @@ lib-test: lib cha
 	$(CC) -std=c11 -Wall -Wextra -g -fsanitize=address,undefined -Iinclude -Wl,--wrap=malloc,--wrap=realloc,--wrap=free -o library/test library/test.c libcha.a
 	./library/test
 	CHA_LIBRARY=./libcha.so python3 library/test.py ./cha $(FILES)
-	CHA_LIBRARY=./libcha.so python3 library/closed.py
 	CHA_LIBRARY=./libcha.so python3 library/mates.py
+
+join-test: lib
+	CHA_LIBRARY=./libcha.so python3 library/closed.py
 
 # Debian's packages for Python belong to its own interpreter.
 PYTHON ?= /usr/bin/python3

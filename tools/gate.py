@@ -17,13 +17,14 @@ TOP = os.path.dirname(os.path.dirname(os.path.abspath(__file__)))
 SUITES = [
     (["rt", "ci"], None),
     (["make", "lib-test"], []),
+    (["make", "join-test"], ["games"]),
     (["make", "data-test"], ["data"]),
     (["make", "page-test"], ["page"]),
     (["make", "text-test"], None),
     (["make", "dist-test"], []),
 ]
-# what is passed over where its packages cannot be had, with CI=true too: a browser, and Python's libraries for databases
-OPTIONAL = ("data-test", "page-test")
+# what is passed over where its packages cannot be had, with CI=true too: real games, a browser, and Python's libraries for databases
+OPTIONAL = ("join-test", "data-test", "page-test")
 COUNTS = re.compile(r"^(\d+) passed, (\d+) failed")
 
 

@@ -10,7 +10,7 @@ use Rattle.cha_outcome.specs.declared.questions.FlaggedDraws.{FlaggedDraws}
 use Rattle.cha_outcome.specs.declared.questions.FlaggedDraws.TheVariants.{Stand, Examined}
 use Rattle.cha_outcome.specs.declared.questions.Question.{Question}
 use Rattle.cha_outcome.specs.declared.questions.Question.TheVariants as questions
-use Rattle.cha_outcome.specs.Items.{line_item, game_item, replay_item}
+use Rattle.cha_outcome.specs.Items.{line_item, game_item, kept_item, replay_item}
 use Rattle.cha_outcome.specs.Totals.{totals_of}
 use Rattle.flag_report.specs.declared.forms.Notation.TheVariants.{Coordinates, San}
 use Rattle.flag_report.specs.declared.styles.Style.{Style}
@@ -20,7 +20,7 @@ use Rattle.flag_report.specs.declared.styles.Subject.TheVariants.{Games, Positio
 use Rattle.flag_report.specs.Styles.{summary}
 use Rattle.cha_words.specs.declared.orders.Order.{Order}
 use Rattle.cha_words.specs.declared.orders.Printing.{Printing}
-use Rattle.cha_words.specs.declared.orders.Order.TheVariants.{AdjudicateGames, JudgePositions, CheckCert, GenGames, ListMates, ReplayGames}
+use Rattle.cha_words.specs.declared.orders.Order.TheVariants.{AdjudicateGames, CorrectGames, JudgePositions, CheckCert, GenGames, ListMates, ReplayGames}
 
 -- the items of a text of positions: its lines that count, in order
 abbrev pub position_items : List ℕ → List Item
@@ -29,6 +29,10 @@ position_items bytes = map (λ line. line_item line.number line.text) (text_line
 -- the items of a text of games, in order
 abbrev pub game_items : List ℕ → List Item
 game_items bytes = map game_item (placed_games bytes)
+
+-- the items of a text of games whose results may be corrected, in order
+abbrev pub kept_items : List ℕ → List Item
+kept_items bytes = map kept_item (placed_games bytes)
 
 -- the items of a text of games whose moves are told, in order
 abbrev pub replay_items : List ℕ → List Item
@@ -55,6 +59,10 @@ on_lines question style subject = record { reads = true; items = position_items;
 abbrev pub on_replays : Question → Style → Job
 on_replays question style = record { reads = true; items = replay_items; settled = settled_games; question = question; closed = is_closed; style = style; subject = Plies }
 
+-- a job on games whose results may be corrected; its report is the summary alone
+abbrev pub on_kept_games : Question → Job
+on_kept_games question = record { reads = true; items = kept_items; settled = settled_games; question = question; closed = is_closed; style = SummaryAlone; subject = Games }
+
 -- a job on games that are made of a seed, whose blocks are not printed
 abbrev pub on_made : Question → ℕ → ℕ → Job
 on_made question seed count = record { reads = false; items = λ _. game_items (made seed count); settled = λ _. 0; question = question; closed = λ _. is_closed (made seed count); style = SummaryAlone; subject = Games }
@@ -72,6 +80,7 @@ draws_by flagged = if flagged then Examined else Stand
 -- the job that an order is; the check of a certificate is none
 abbrev pub job : Order → Option Job
 job (AdjudicateGames limits flagged printing) = Some (on_games (questions.Verdicts limits (draws_by flagged)) (style_of printing))
+job (CorrectGames limits flagged changed) = Some (on_kept_games (questions.Verdicts limits (draws_by flagged)))
 job (JudgePositions limits printing) = Some (on_lines (questions.Verdicts limits Stand) (style_of printing) Positions)
 job CheckCert = None
 job (GenGames limits seed count) = Some (on_made (questions.Verdicts limits Stand) seed count)

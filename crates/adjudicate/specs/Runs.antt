@@ -4,10 +4,9 @@ use Rattle.std.specs.declared.option.Option.{Option}
 use Rattle.std.specs.Io.KnownBytes.{Appends, Consumes, IsAtEnd}
 use Rattle.cha_outside.specs.Faults.{Rose}
 use Rattle.cha_outside.specs.Gathering.{Took}
-use Rattle.cha_words.specs.declared.orders.Order.{Order}
 use Rattle.adjudicate.specs.declared.endings.Status.{Status}
 use Rattle.adjudicate.specs.declared.endings.Status.TheVariants.{Done, Usage, ReadFault, WriteFault, TooLong, NoMemory, NotAccepted}
-use Rattle.adjudicate.specs.Report.{Demand, demand, IsFront}
+use Rattle.adjudicate.specs.Report.{Demand, IsFront}
 
 -- A source and a sink at one moment: the bytes that the source still gives and those that the sink took, where they tell them,
 -- and how often each has failed.
@@ -86,6 +85,3 @@ pub record IsRunOf (d : Demand) (status : Status) (before now : Outside) : Type 
   pub never_too_long : (bytes : List ℕ) → before.left ≡ Some bytes → length bytes ≤ most_bytes → status ≢ TooLong
   pub source_later : before.read_faults ≤ now.read_faults
   pub sink_later : before.write_faults ≤ now.write_faults
-
-abbrev pub IsRun : Order → Status → Outside → Outside → Type 0
-IsRun order status before now = IsRunOf (demand order) status before now

@@ -6,7 +6,7 @@ ghost use Rattle.cert_text.specs.Versions.{any_cert_of};
 ghost use Rattle.cha_words.specs.declared.orders.Order.TheVariants.{CheckCert};
 ghost use Rattle.adjudicate.specs.CertFindings.{IsAnswerTo, IsReadAs, IsValidAtFirst};
 ghost use Rattle.adjudicate.specs.Report.{demand};
-ghost use Rattle.adjudicate.specs.Runs.{IsRun, outside};
+ghost use Rattle.adjudicate.specs.Runs.{IsRunOf, outside};
 ghost use Rattle.adjudicate.specs.Steps.{IsWritten, ended_by};
 
 use crate::endings::Status;
@@ -28,7 +28,7 @@ pub fn check_cert<C: Checker, S: Source, K: Sink>(
     sink: &mut K,
 ) -> Status
     requires ready { C.ready checker.now }
-    ensures { IsRun CheckCert result (outside (S.left source.old) (S.faults source.old) (K.written sink.old) (K.faults sink.old)) (outside (S.left source.new) (S.faults source.new) (K.written sink.new) (K.faults sink.new)) }
+    ensures { IsRunOf (demand CheckCert) result (outside (S.left source.old) (S.faults source.old) (K.written sink.old) (K.faults sink.old)) (outside (S.left source.new) (S.faults source.new) (K.written sink.new) (K.faults sink.new)) }
 {
     match read_all(alloc, source, MOST_BYTES) {
         Ok(bytes) => write_answer(alloc, checker, bytes, sink),

@@ -8,9 +8,13 @@ ghost use Rattle.cha_board.specs.declared.men.Color.{Color as Side};
 ghost use Rattle.cha_words.specs.Language.{limits_in};
 ghost use Rattle.cha_words.specs.declared.orders.Printing.{Printing as Printed};
 ghost use Rattle.adjudicate.specs.Jobs.{draws_by, style_of as style_by};
-ghost use Rattle.adjudicate.specs.Runs.{IsRun, outside};
+ghost use Rattle.adjudicate.specs.Corrections.{noted};
+ghost use Rattle.adjudicate.specs.Orders.{IsRun};
+ghost use Rattle.adjudicate.specs.Report.{demand};
+ghost use Rattle.adjudicate.specs.Runs.{IsRunOf, outside};
 
 use crate::checking::check_cert;
+use crate::correcting::correct_games;
 use crate::endings::Status;
 use crate::jobs::{report_games, report_lines, report_made, report_replays};
 use crate::reports::Form;
@@ -58,19 +62,20 @@ fn style_of(printing: Printing) -> Style
 }
 
 /// Reads a source to its end, and writes the report that an order asks for, with a crew of workers that searches.
-pub fn carry_out<C: Crew, S: Source, K: Sink>(
+pub fn carry_out<C: Crew, S: Source, K: Sink, N: Sink>(
     alloc: Global,
     order: &Order,
     crew: &mut C,
     source: &mut S,
     sink: &mut K,
+    notes: &mut N,
 ) -> Status
     requires ready { C.ready crew.old }
     requires searches { IsSome (limits_in order.now) }
     requires some { (spend : Bounds) (seed count : ℕ) → order.now ≡ GenGames spend seed count → (1 ≤ count) × (count ≤ 1000) }
     ensures stays_ready { C.ready crew.new }
     ensures calls { MadeSome C.made crew.old crew.new }
-    ensures run { IsRun order.now result (outside (S.left source.old) (S.faults source.old) (K.written sink.old) (K.faults sink.old)) (outside (S.left source.new) (S.faults source.new) (K.written sink.new) (K.faults sink.new)) }
+    ensures run { IsRun order.now result (outside (S.left source.old) (S.faults source.old) (K.written sink.old) (K.faults sink.old)) (outside (S.left source.new) (S.faults source.new) (K.written sink.new) (K.faults sink.new)) (noted (N.written notes.old) (N.faults notes.old)) (noted (N.written notes.new) (N.faults notes.new)) }
 {
     match order {
         Order::AdjudicateGames {
@@ -84,6 +89,18 @@ pub fn carry_out<C: Crew, S: Source, K: Sink>(
                 crew,
             };
             report_games(alloc, style_of(*printing), &mut judge, source, sink)
+        }
+        Order::CorrectGames {
+            limits,
+            flagged_draws,
+            changed,
+        } => {
+            let mut judge = VerdictsJudge {
+                limits: *limits,
+                draws: draws_of(*flagged_draws),
+                crew,
+            };
+            correct_games(alloc, *changed, &mut judge, source, sink, notes)
         }
         Order::JudgePositions { limits, printing } => {
             let mut judge = VerdictsJudge {
@@ -129,7 +146,7 @@ pub fn carry_out_plain<P: Spread + Drop, C: Checker, S: Source, K: Sink>(
     requires checks { C.ready checker.now }
     requires no_search { limits_in order.now ≡ None }
     requires bounded { (side : Side) (workers depth : ℕ) (printing : Printed) → order.now ≡ ListMates side workers depth printing → ((1 ≤ workers) × (workers ≤ 16)) × ((1 ≤ depth) × (depth ≤ 6)) }
-    ensures { IsRun order.now result (outside (S.left source.old) (S.faults source.old) (K.written sink.old) (K.faults sink.old)) (outside (S.left source.new) (S.faults source.new) (K.written sink.new) (K.faults sink.new)) }
+    ensures { IsRunOf (demand order.now) result (outside (S.left source.old) (S.faults source.old) (K.written sink.old) (K.faults sink.old)) (outside (S.left source.new) (S.faults source.new) (K.written sink.new) (K.faults sink.new)) }
 {
     match order {
         Order::CheckCert => check_cert(alloc, checker, source, sink),
@@ -155,6 +172,7 @@ pub fn carry_out_plain<P: Spread + Drop, C: Checker, S: Source, K: Sink>(
             report_replays(alloc, style_of(*printing), &mut PliesJudge, source, sink)
         }
         Order::AdjudicateGames { .. } => unreachable!(),
+        Order::CorrectGames { .. } => unreachable!(),
         Order::JudgePositions { .. } => unreachable!(),
         Order::GenGames { .. } => unreachable!(),
     }

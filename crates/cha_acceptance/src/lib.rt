@@ -2,7 +2,7 @@
 //!
 //! `running` makes one run. `tables` goes through tables of whole outputs: `positions`, `games`, `printed` and
 //! `certificates`. `styles` has reports in JSON and SAN, and drawn games whose flag fell. `mates` has runs that list the shortest
-//! mates, those of `published` problems among them. `replays` has runs that tell the moves of games. `dead_from` has games that
+//! mates, those of `published` problems among them. `replays` has runs that tell the moves of games, `corrections` those that write games with other results. `dead_from` has games that
 //! were dead from some ply on. `faults` has sources and sinks that fail. `known` goes through the tables of positions with known
 //! verdicts: `walls`, `walls_men`, `bishops`, `knights`, `pawns` and `ends`; `printed` checks what is printed of them.
 #![tactic(auto)]
@@ -11,6 +11,8 @@
 mod bishops;
 #[cfg(test)]
 mod certificates;
+#[cfg(test)]
+mod corrections;
 #[cfg(test)]
 mod dead_from;
 #[cfg(test)]

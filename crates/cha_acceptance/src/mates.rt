@@ -59,9 +59,15 @@ fn ran_alone(alloc: Global, line: &str, input: &str) -> Result<Ran, Fail> {
     let words = words_of(alloc, line)?;
     let mut source = Bytes::new(input.as_bytes().to_vec(alloc)?);
     let mut sink = Kept::new(alloc, 1_000_000, Vec::new(alloc))?;
-    let status = run_alone(alloc, words.as_slice(), &mut source, &mut sink);
+    let mut notes = Kept::new(alloc, 1_000, Vec::new(alloc))?;
+    let status = run_alone(alloc, words.as_slice(), &mut source, &mut sink, &mut notes);
     let written = sink.bytes().to_vec(alloc)?;
-    Ok(Ran { status, written })
+    let noted = notes.bytes().to_vec(alloc)?;
+    Ok(Ran {
+        status,
+        written,
+        noted,
+    })
 }
 
 #[test]

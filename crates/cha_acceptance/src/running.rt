@@ -12,12 +12,19 @@ use std::thread::Threads;
 pub struct Ran {
     pub status: Status,
     pub written: Vec<u8>,
+    /// What the sink for the summary took.
+    pub noted: Vec<u8>,
 }
 
 impl Ran {
     /// What the sink took, which is ASCII.
     pub fn text(&self) -> &str {
         str::from_utf8(&self.written).unwrap_or("")
+    }
+
+    /// What the sink for the summary took, which is ASCII.
+    pub fn notes(&self) -> &str {
+        str::from_utf8(&self.noted).unwrap_or("")
     }
 }
 
@@ -44,9 +51,22 @@ pub fn run_over<R: Threads + Wait + Sync, S: Source>(
 ) -> Result<Ran, Fail> {
     let words = words_of(alloc, line)?;
     let mut sink = Kept::new(alloc, room, fails)?;
-    let status = run(rt, alloc, words.as_slice(), source, &mut sink);
+    let mut notes = Kept::new(alloc, 1_000, Vec::new(alloc))?;
+    let status = run(
+        rt,
+        alloc,
+        words.as_slice(),
+        source,
+        &mut sink,
+        &mut notes,
+    );
     let written = sink.bytes().to_vec(alloc)?;
-    Ok(Ran { status, written })
+    let noted = notes.bytes().to_vec(alloc)?;
+    Ok(Ran {
+        status,
+        written,
+        noted,
+    })
 }
 
 /// A run over this text, where nothing fails and there is room.

@@ -6,7 +6,9 @@ use Rattle.cha_words.specs.declared.orders.Order.{Order}
 use Rattle.cha_words.specs.Language.{order_of}
 use Rattle.adjudicate.specs.declared.endings.Status.{Status}
 use Rattle.adjudicate.specs.declared.endings.Status.TheVariants.{Done, Usage, ReadFault, WriteFault, TooLong, NoMemory, NotAccepted}
-use Rattle.adjudicate.specs.Runs.{IsRun, outside}
+use Rattle.adjudicate.specs.Corrections.{noted}
+use Rattle.adjudicate.specs.Orders.{IsRun}
+use Rattle.adjudicate.specs.Runs.{outside}
 
 -- the command words stand between the zero bytes
 abbrev pub words_at_zeros : List ℕ → List (List ℕ)
@@ -31,10 +33,11 @@ number_in_c TooLong = 4
 number_in_c NoMemory = 5
 number_in_c NotAccepted = 6
 
--- a run over a whole input ended in a status and wrote an output
+-- a run over a whole input ended in a status and wrote an output; the summary that stands on standard error, of a run that corrects
+-- games, is not handed out
 abbrev pub Ran : Order → List ℕ → Status → Kept → Type 0
-Ran order input status kept = (left : Option (List ℕ)) ×
-    IsRun order status (outside (Some input) 0 (Some []) 0) (outside left 0 (Some kept.bytes) kept.faults)
+Ran order input status kept = (left : Option (List ℕ)) × (notes : Kept) ×
+    IsRun order status (outside (Some input) 0 (Some []) 0) (outside left 0 (Some kept.bytes) kept.faults) (noted (Some []) 0) (noted (Some notes.bytes) notes.faults)
 
 -- What is answered of an output of a status: its length; and where it fits into the room, the number of the status with the output
 -- at the front of the room. Where it does not fit, the number is 7.

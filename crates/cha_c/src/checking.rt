@@ -24,7 +24,8 @@ pub fn check_text(alloc: Global, text: &[u8]) -> Result<Status, NoMemory>
     let words = check_words(alloc)?;
     let mut output = Grown::new(alloc);
     let mut source = Slice::new(text);
-    Ok(run_alone(alloc, words.as_slice(), &mut source, &mut output))
+    let mut notes = Grown::new(alloc);
+    Ok(run_alone(alloc, words.as_slice(), &mut source, &mut output, &mut notes))
 }
 
 /// The one word that asks for a check.

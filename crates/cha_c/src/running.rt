@@ -24,6 +24,7 @@ pub fn report_on(alloc: Global, words: &[String], input: &[u8]) -> Report
 {
     let mut text = Grown::new(alloc);
     let mut source = Slice::new(input);
-    let status = run_alone(alloc, words, &mut source, &mut text);
+    let mut notes = Grown::new(alloc);
+    let status = run_alone(alloc, words, &mut source, &mut text, &mut notes);
     Report { status, text }
 }

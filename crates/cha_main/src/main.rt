@@ -41,10 +41,18 @@ fn main(rt: HostRuntime) -> ExitCode {
             Ok(words) => {
                 let mut source = ReadFrom::new(rt.stdin());
                 let mut sink = WriteTo::new(rt.stdout());
+                let mut notes = WriteTo::new(rt.stderr());
                 if let Some(fault) = usage_fault(words.as_slice()) {
                     let _ = usage::say_fault(&rt, words.as_slice(), fault);
                 }
-                run(&rt, alloc, words.as_slice(), &mut source, &mut sink)
+                run(
+                    &rt,
+                    alloc,
+                    words.as_slice(),
+                    &mut source,
+                    &mut sink,
+                    &mut notes,
+                )
             }
             Err(_) => Status::NoMemory,
         },

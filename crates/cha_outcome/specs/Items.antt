@@ -12,10 +12,11 @@ use Rattle.cha_moves.specs.Step.{Move}
 use Rattle.cha_san.specs.declared.faults.PlayFault.{PlayFault}
 use Rattle.cha_san.specs.Playing.{positions, moves_named}
 use Rattle.cha_outcome.specs.declared.unreadable.Unreadable.{Unreadable}
-use Rattle.cha_outcome.specs.declared.unreadable.Unreadable.TheVariants.{Tokens, Moves}
+use Rattle.cha_outcome.specs.declared.unreadable.Unreadable.TheVariants.{Tokens, Moves, TooLong}
 use Rattle.cha_outcome.specs.declared.items.PlayedGame.{PlayedGame}
 use Rattle.cha_outcome.specs.declared.items.ReplayedGame.{ReplayedGame}
 use Rattle.cha_outcome.specs.declared.items.Item.{Item}
+use Rattle.cha_outcome.specs.declared.items.TheConstants.{MOST_GAME_BYTES}
 use Rattle.cha_outcome.specs.declared.items.Item.TheVariants.{Position, RefusedLine, Played, UnreadableGame, Replayed}
 
 -- the most bytes that a line may have
@@ -54,6 +55,10 @@ item_unless (Some fault) span game = UnreadableGame span (Tokens fault)
 -- the item of a game: its first fault, or else its first word that names no move, or else its positions
 unfoldable pub game_item : PlacedGame → Item
 game_item placed = item_unless placed.game.fault placed.span placed.game
+
+-- the same of a game whose result may be corrected: none is read of more bytes than are kept of one
+unfoldable pub kept_item : PlacedGame → Item
+kept_item placed = if nat_lt MOST_GAME_BYTES (placed.span.end - placed.span.start) then UnreadableGame placed.span TooLong else game_item placed
 
 -- why an item is no game that can be read
 abbrev pub reason_of : Item → Option Unreadable

@@ -1,8 +1,9 @@
 -- What is found about an item (this project).
-use Rattle.std.specs.Prelude.{◌≡◌, ℕ, ◌<◌, ◌≤◌, Bool, true, false, ◌||◌, List, [], ◌∷◌, length, Option, Some, None, is_some, ⊤}
+use Rattle.std.specs.Prelude.{◌≡◌, ℕ, ◌<◌, ◌≤◌, Bool, true, false, ◌||◌, if◌then◌else◌, List, [], ◌∷◌, length, Option, Some, None, is_some, ⊤}
 use Rattle.cha_board.specs.declared.men.Color.{Color}
 use Rattle.cha_board.specs.declared.men.Color.TheVariants.{White}
 use Rattle.cha_moves.specs.Standings.{standing_of}
+use Rattle.pgn_games.specs.declared.marks.ResultMark.{ResultMark}
 use Rattle.cha_limits.specs.Bounds.{Bounds}
 use Rattle.cha_verdict.specs.declared.decisions.Decision.{Decision}
 use Rattle.cha_verdict.specs.declared.scans.Scan.{Scan}
@@ -133,6 +134,11 @@ is_dead_position _ = false
 unfoldable pub is_changed_game : Outcome → Bool
 is_changed_game (JudgedGame game d scan status judgment) = is_changed game.recorded judgment.mark
 is_changed_game _ = false
+
+-- the result that a game gets in place of the recorded one
+unfoldable pub new_result : Outcome → Option ResultMark
+new_result (JudgedGame game d scan status judgment) = if is_changed game.recorded judgment.mark then Some judgment.mark else None
+new_result _ = None
 
 -- a side of which nothing was shown
 abbrev pub has_open_side : Decision → Bool

@@ -118,6 +118,11 @@ is_same_mark _ _ = false
 unfoldable pub is_changed : ResultMark → ResultMark → Bool
 is_changed recorded mark = not (is_same_mark mark recorded)
 
+-- a game with another recorded result
+abbrev pub with_recorded : ResultMark → PlayedGame → PlayedGame
+with_recorded mark game =
+    record { span = game.span; last = game.last; positions = game.positions; recorded = mark; forfeit = game.forfeit; flag_fell = game.flag_fell }
+
 -- a position before the last one was dead: the ply of the scan is below the number of moves
 abbrev pub was_dead : List Board → Option Scan → Bool
 was_dead qs None = false

@@ -8,7 +8,7 @@ ghost use Rattle.cha_outcome.specs.declared.questions.FlaggedDraws.{FlaggedDraws
 ghost use Rattle.cha_outcome.specs.declared.questions.Question.{Question};
 ghost use Rattle.cha_outcome.specs.declared.questions.Question.TheVariants.{Verdicts, Plies};
 ghost use Rattle.cha_outcome.specs.Outcomes.{CanBeAsked};
-ghost use Rattle.cha_outcome.specs.Items.{line_item, game_item, played_item, stopped_by, reason_of, start_if_known, moves_before as moves_before_of, replay_item};
+ghost use Rattle.cha_outcome.specs.Items.{line_item, game_item, kept_item, played_item, stopped_by, reason_of, start_if_known, moves_before as moves_before_of, replay_item};
 ghost use Rattle.cha_outcome.specs.declared.items.Item.TheVariants.{UnreadableGame};
 
 use crate::unreadable::Unreadable;
@@ -112,6 +112,26 @@ pub fn item_of_game(alloc: Global, placed: &PlacedGame) -> Result<Item, NoMemory
         }),
         None => played_out(alloc, placed.span, &placed.game),
     }
+}
+
+/// The most bytes of a game whose result may be corrected, from its first token to its last: 16 MiB.
+pub const MOST_GAME_BYTES: u64 = 16_777_216;
+
+/// The item of a game whose result may be corrected: that of `item_of_game`, unless the game has more than 16,777,216 bytes, which are
+/// more than are kept of one. The only error is want of memory.
+#[tactic(auto, unfolding(crate::specs::Items::kept_item))]
+pub fn item_of_kept_game(alloc: Global, placed: &PlacedGame) -> Result<Item, NoMemory>
+    requires { placed.now.game.fault ≡ None → length placed.now.game.words ≤ 12000 }
+    ensures item { IfOk result (λ item. item ≡ kept_item placed.now) }
+    ensures asked { IfOk result (λ item. (limits : Bounds) (draws : DrawRule) → CanBeAsked (Verdicts limits draws) item) }
+{
+    if placed.span.end.saturating_sub(placed.span.start) > MOST_GAME_BYTES {
+        return Ok(Item::UnreadableGame {
+            span: placed.span,
+            why: Unreadable::TooLong,
+        });
+    }
+    item_of_game(alloc, placed)
 }
 
 /// The item of a game whose text has no fault.

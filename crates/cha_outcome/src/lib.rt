@@ -14,12 +14,15 @@ mod status;
 mod totals;
 mod unreadable;
 
-pub use items::{Item, PlayedGame, ReplayedGame, item_of_game, item_of_line, item_of_replay};
+pub use items::{
+    Item, MOST_GAME_BYTES, PlayedGame, ReplayedGame, item_of_game, item_of_kept_game, item_of_line,
+    item_of_replay,
+};
 pub use outcomes::Outcome;
 pub use questions::{FlaggedDraws, Question};
 pub use rulings::{
-    Cause, Claim, Judgment, changes_result, claim_of, fallen_flag, first_examined, judgment_of,
-    ruling,
+    Cause, Claim, Judgment, changes_result, claim_of, fallen_flag, first_examined, found_results_stay,
+    judgment_of, ruling,
 };
 pub use status::{PositionStatus, status_of};
 pub use totals::Totals;

@@ -1,7 +1,7 @@
 //! What is found about an item.
 
 ghost use Rattle.std.specs.Prelude.{◌≡◌};
-ghost use Rattle.cha_outcome.specs.Outcomes.{is_refused as is_refused_of, is_dead_position as is_dead_position_of, is_changed_game as is_changed_game_of, is_open as is_open_of, has_mates as has_mates_of, has_open_side as has_open_side_of};
+ghost use Rattle.cha_outcome.specs.Outcomes.{is_refused as is_refused_of, is_dead_position as is_dead_position_of, is_changed_game as is_changed_game_of, new_result as new_result_of, is_open as is_open_of, has_mates as has_mates_of, has_open_side as has_open_side_of};
 
 use crate::items::{PlayedGame, ReplayedGame};
 use crate::rulings::{Judgment, changes_result};
@@ -11,7 +11,7 @@ use cha_board::Position;
 use cha_fen::FenFault;
 use cha_verdict::{Decision, Scan, is_undecided};
 use helpmate_list::Shortest;
-use pgn_games::Span;
+use pgn_games::{ResultMark, Span};
 
 /// What is found about an item. It holds the item.
 #[derive(Drop)]
@@ -101,6 +101,22 @@ impl Outcome {
         match self {
             Outcome::JudgedGame { game, judgment, .. } => changes_result(game.recorded, *judgment),
             _ => false,
+        }
+    }
+
+    /// The result that a game gets in place of the recorded one, or None where that stays.
+    #[tactic(auto, unfolding(crate::specs::Outcomes::new_result))]
+    pub fn new_result(&self) -> Option<ResultMark>
+        ensures { result ≡ new_result_of self.now }
+    {
+        match self {
+            Outcome::JudgedGame { game, judgment, .. } => {
+                if changes_result(game.recorded, *judgment) {
+                    return Some(judgment.mark);
+                }
+                None
+            }
+            _ => None,
         }
     }
 

@@ -1,10 +1,14 @@
 //! The result that the Laws of Chess give a game.
 
-ghost use Rattle.std.specs.Prelude.{◌≡◌};
+ghost use Rattle.std.specs.Prelude.{◌≡◌, Option, false};
 ghost use Rattle.cha_moves.specs.Standings.{standing_of};
 ghost use Rattle.pgn_games.specs.Wins.{win_of};
 ghost use Rattle.cha_outcome.specs.declared.questions.FlaggedDraws.{FlaggedDraws as DrawRule};
-ghost use Rattle.cha_outcome.specs.Rulings.{winner_ruling_of, flag_ruling_of, drawn_ruling_of, running_ruling_of, ruling_of, claimant_by, claim_of as claim_by, fallen_flag as flag_of, first_by, is_changed, was_dead as was_dead_before, judgment_of as judgment_from};
+ghost use Rattle.cha_outcome.specs.Rulings.{winner_ruling_of, flag_ruling_of, drawn_ruling_of, running_ruling_of, ruling_of, claimant_by, claim_of as claim_by, fallen_flag as flag_of, first_by, is_changed, with_recorded, was_dead as was_dead_before, judgment_of as judgment_from};
+ghost use Rattle.cha_outcome.specs.declared.items.PlayedGame.{PlayedGame as Played};
+ghost use Rattle.cha_outcome.specs.declared.questions.FlaggedDraws.TheVariants.{Stand};
+ghost use Rattle.cha_verdict.specs.declared.decisions.Decision.{Decision as DecisionOf};
+ghost use Rattle.cha_verdict.specs.declared.scans.Scan.{Scan as ScanOf};
 
 use crate::items::PlayedGame;
 use crate::questions::FlaggedDraws;
@@ -249,6 +253,11 @@ pub fn changes_result(recorded: ResultMark, ruling: Judgment) -> bool
 {
     ruling.mark != recorded
 }
+
+/// A game whose recorded result is the one that was found for it keeps that, by the same verdicts, where drawn games stand.
+pub fn found_results_stay()
+    ensures { (game : Played) (d : DecisionOf) (scan : Option ScanOf) → is_changed (judgment_from Stand game d scan).mark (judgment_from Stand (with_recorded (judgment_from Stand game d scan).mark game) d scan).mark ≡ false }
+{}
 
 /// Whether a game was dead before its last position.
 fn was_dead(game: &PlayedGame, scan: &Option<Scan>) -> bool

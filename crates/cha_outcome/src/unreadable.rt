@@ -18,4 +18,6 @@ pub enum Unreadable {
         /// What is wrong with the word.
         fault: SanFault,
     },
+    /// It has more bytes than are kept of a game whose result may be corrected.
+    TooLong,
 }

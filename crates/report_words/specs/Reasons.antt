@@ -7,7 +7,7 @@ use Rattle.pgn_games.specs.declared.faults.GameFault.TheVariants.{BadToken, Uncl
 use Rattle.cha_san.specs.declared.faults.SanFault.{SanFault}
 use Rattle.cha_san.specs.declared.faults.SanFault.TheVariants.{NotSan, NoSuchMove, Ambiguous, NoMemory}
 use Rattle.cha_outcome.specs.declared.unreadable.Unreadable.{Unreadable}
-use Rattle.cha_outcome.specs.declared.unreadable.Unreadable.TheVariants.{Tokens, Moves}
+use Rattle.cha_outcome.specs.declared.unreadable.Unreadable.TheVariants.{Tokens, Moves, TooLong}
 
 -- the name of a fault of FEN
 unfoldable pub fen_fault_text : FenFault → List ℕ
@@ -36,3 +36,4 @@ word_fault_text NoMemory = []
 unfoldable pub reason_text : Unreadable → List ℕ
 reason_text (Tokens fault) = game_fault_text fault
 reason_text (Moves ply word fault) = codes "move " ++ decimal ply ++ codes " " ++ word ++ codes ": " ++ word_fault_text fault
+reason_text TooLong = codes "longer than 16777216 bytes"

@@ -98,5 +98,6 @@ pub fn put_reason(alloc: Global, why: &Unreadable, text: &mut Text) -> Result<()
         Unreadable::Moves { ply, word, fault } => {
             put_word(alloc, *ply, word.items(), *fault, text)
         }
+        Unreadable::TooLong => text.append(b"longer than 16777216 bytes"),
     }
 }

@@ -1,0 +1,41 @@
+-- What a reader keeps of the text of its games, and what is written of each.
+use Rattle.std.specs.Prelude.{◌≡◌, ℕ, ◌+◌, ◌<◌, ◌≤◌, Bool, true, false, List, [], ◌∷◌, ◌++◌, length, drop, Option, Some, None, Global}
+use Rattle.cha_outside.specs.declared.gathering.TheConstants.{MOST_BYTES}
+use Rattle.pgn_games.specs.declared.marks.ResultMark.{ResultMark}
+use Rattle.pgn_games.specs.declared.played.PlacedGame.{PlacedGame}
+use Rattle.pgn_games.specs.declared.played.Span.{Span}
+use Rattle.pgn_games.specs.Splitting.{SplitterState}
+use Rattle.pgn_results.specs.Correcting.{between}
+use Rattle.pgn_results.specs.Replacing.{game_with_mark}
+
+-- the bytes taken from a source, how many of them were written, how many of their games were given, whether the source has ended, and
+-- whether a call failed
+pub record KeptState : Type 0 where
+  pub taken : List ℕ
+  pub written : ℕ
+  pub given : ℕ
+  pub ended : Bool
+  pub failed : Bool
+
+-- The bytes that are kept are the last ones of those taken, as many as were not written at least. As long as no call failed, the
+-- splitter has taken them all, and is open as long as the source is.
+pub record IsKept (games : SplitterState) (kept : List ℕ) (start written : ℕ) (ended failed : Bool) : Type 0 where
+  pub bytes : kept ≡ drop start games.taken
+  pub size : start + length kept ≡ length games.taken
+  pub some : written ≤ length kept
+  pub few : length games.taken ≤ MOST_BYTES + 4096
+  pub goes_on : failed ≡ false → (games.failed ≡ false) × (games.ended ≡ ended) × (length games.taken ≤ MOST_BYTES)
+
+-- what is written of a game, with what stands before it from a place on
+abbrev pub piece_of : List ℕ → ℕ → Span → Option ResultMark → List ℕ
+piece_of bytes start span None = between start span.end bytes
+piece_of bytes start span (Some mark) = between start span.start bytes ++ game_with_mark mark (between span.start span.end bytes) (drop span.end bytes)
+
+-- what is written of a game where those that change are written alone: it and a blank line behind it, or nothing
+abbrev pub changed_piece : List ℕ → Span → Option ResultMark → List ℕ
+changed_piece bytes span None = []
+changed_piece bytes span (Some mark) = game_with_mark mark (between span.start span.end bytes) [] ++ 10 ∷ 10 ∷ []
+
+-- what stands behind a place
+abbrev pub rest_of : ℕ → List ℕ → List ℕ
+rest_of start bytes = drop start bytes

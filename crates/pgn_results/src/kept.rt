@@ -1,0 +1,224 @@
+//! A reader of games that keeps the bytes of their text until they are written.
+
+ghost use Rattle.std.specs.Prelude.{if◌then◌else◌, ◌≡◌, ◌+◌, ◌-◌, ◌^◌, ◌<◌, ◌≤◌, ◌↔◌, [], true, false, length, take, drop, slice_get, is_err, Option, OnErr, OnOk, IfOk, IfSome, IfNone};
+ghost use Rattle.std.specs.declared.result.Result.TheVariants.{Ok, Err};
+ghost use Rattle.std.specs.declared.option.Option.TheVariants.{Some, None};
+ghost use Rattle.std.specs.Io.KnownBytes.{IsAtEnd};
+ghost use Rattle.cha_outside.specs.Faults.{Rose};
+ghost use Rattle.cha_outside.specs.Gathering.{Gathers};
+ghost use Rattle.pgn_games.specs.Games.{placed_games, is_closed as is_closed_text};
+ghost use Rattle.pgn_games.specs.Reading.{gives_game};
+ghost use Rattle.pgn_games.specs.Settling.{settled_games};
+ghost use Rattle.pgn_games.specs.declared.played.PlacedGame.{PlacedGame as GamePlaced};
+ghost use Rattle.pgn_games.specs.declared.marks.ResultMark.{ResultMark as Mark};
+ghost use Rattle.pgn_results.specs.Keeping.{piece_of, changed_piece, rest_of};
+
+use crate::replacing::put_with_mark;
+use cha_list::{NoMemory, Text, text_of};
+use cha_outside::{Got, MOST_BYTES, ReadEnd, Source};
+use pgn_games::{PlacedGame, ResultMark, Span, Splitter};
+use std::alloc::Global;
+use std::marker::Model;
+
+/// How many bytes one read asks for.
+const PIECE: usize = 4096;
+
+/// A reader of the games of a source, one at a time, that keeps the bytes of the text until they are written. What it keeps is the game
+/// that is being read, with what stands before it, and one piece of the source.
+#[derive(Drop)]
+pub struct KeptReader {
+    alloc: Global,
+    /// The games of the text, as far as it has come.
+    games: Splitter,
+    /// The last bytes of the text that have come, those that were not written among them.
+    kept: Text,
+    /// Where the first of these bytes stands in the text.
+    start: u64,
+    /// How many of these bytes were written, from the first on.
+    written: usize,
+    /// Whether the source has ended.
+    ended: bool,
+    /// Whether a call has failed.
+    failed: bool,
+}
+
+/// Contracts see the bytes taken, how many of them were written, the number of games given, whether the source has ended, and whether a
+/// call failed.
+impl Model for KeptReader {
+    ghost use Rattle.pgn_results.specs.Keeping.{KeptState, IsKept};
+
+    ghost Value = { KeptState };
+
+    ghost view = { λ s. record { taken = s.games.taken; written = s.start + s.written; given = s.games.given; ended = s.ended; failed = s.failed } };
+
+    ghost invariant = { λ s. IsKept s.games s.kept s.start s.written s.ended s.failed };
+}
+
+impl KeptReader {
+    /// A reader that has taken nothing. The only error is want of memory.
+    pub fn new(alloc: Global) -> Result<KeptReader, NoMemory>
+        ensures { IfOk result (λ reader. reader ≡ record { taken = []; written = 0; given = 0; ended = false; failed = false }) }
+    {
+        let games = Splitter::new(alloc)?;
+        Ok(KeptReader {
+            alloc,
+            games,
+            kept: Text::new(alloc),
+            start: 0,
+            written: 0,
+            ended: false,
+            failed: false,
+        })
+    }
+
+    /// Whether the text that was taken is closed, once its source has ended.
+    pub fn is_closed(&self) -> bool
+        ensures { self.now.ended ≡ true → self.now.failed ≡ false → result ≡ is_closed_text self.now.taken }
+    {
+        self.games.is_closed()
+    }
+
+    /// The next game of a source, or None where the source has ended and all its games were given. It says and reads what
+    /// `pgn_games::Reader::next` does.
+    pub fn next<S: Source>(&mut self, source: &mut S) -> Result<Option<PlacedGame>, ReadEnd>
+        requires { self.old.failed ≡ false }
+        ensures bytes { Gathers (S.left source.old) (S.left source.new) self.old.taken self.new.taken }
+        ensures written { self.new.written ≡ self.old.written }
+        ensures game { IfOk result (λ found. IfSome found (λ game. slice_get (placed_games self.new.taken) self.old.given ≡ Some game)) }
+        ensures given { self.new.given ≡ (if gives_game result then self.old.given + 1 else self.old.given) }
+        ensures few_games { IfOk result (λ found. IfSome found (λ game. self.old.given < 2 ^ 62)) }
+        ensures none { result ≡ Ok None → (self.new.ended ≡ true) × (length (placed_games self.new.taken) ≤ self.old.given) }
+        ensures first { take self.old.given (placed_games self.new.taken) ≡ take self.old.given (placed_games self.old.taken) }
+        ensures before_end { self.new.ended ≡ false → IfOk result (λ found. IfSome found (λ game. self.old.given < settled_games self.new.taken)) }
+        ensures still { self.old.ended ≡ true → (self.new.taken ≡ self.old.taken) × (self.new.ended ≡ true) }
+        ensures no_more_reads { self.old.ended ≡ true → source.new ≡ source.old }
+        ensures end { self.old.ended ≡ false → self.new.ended ≡ true → IsAtEnd (S.left source.new) }
+        ensures read_fault { result ≡ Err ReadEnd.ReadFault → Rose (S.faults source.old) (S.faults source.new) }
+        ensures settled { result ≡ Err ReadEnd.ReadFault → settled_games self.new.taken ≤ self.old.given }
+        ensures too_long { (result ≡ Err ReadEnd.TooLong) ↔ (MOST_BYTES < length self.new.taken) }
+        ensures few { length self.new.taken ≤ MOST_BYTES + 4096 }
+        ensures failed { self.new.failed ≡ is_err result }
+        ensures later { S.faults source.old ≤ S.faults source.new }
+    {
+        loop {
+            let Ok(found) = self.games.next() else {
+                self.failed = true;
+                return Err(ReadEnd::NoMemory);
+            };
+            if let Some(game) = found {
+                return Ok(Some(game));
+            }
+            if self.ended {
+                return Ok(None);
+            }
+            match self.refill(source) {
+                Ok(()) => {}
+                Err(end) => {
+                    self.failed = true;
+                    return Err(end);
+                }
+            }
+        }
+    }
+
+    /// Reads the next piece of the source, or finds that it has ended.
+    fn refill<S: Source>(&mut self, source: &mut S) -> Result<(), ReadEnd> {
+        let mut buffer = [0u8; PIECE];
+        match source.read(&mut buffer) {
+            Got::Bytes(n) => {
+                let taken = self.start + self.kept.items().len() as u64;
+                match self.take(&buffer[..n]) {
+                    Ok(()) => {}
+                    Err(_) => return Err(ReadEnd::NoMemory),
+                }
+                if taken + n as u64 > MOST_BYTES as u64 {
+                    return Err(ReadEnd::TooLong);
+                }
+                Ok(())
+            }
+            Got::End => {
+                self.ended = true;
+                match self.games.end() {
+                    Ok(()) => Ok(()),
+                    Err(_) => Err(ReadEnd::NoMemory),
+                }
+            }
+            Got::Failed => Err(ReadEnd::ReadFault),
+        }
+    }
+
+    /// Takes a piece that was read. What was written goes.
+    fn take(&mut self, piece: &[u8]) -> Result<(), NoMemory> {
+        if self.written > 0 {
+            let left = text_of(self.alloc, self.unwritten())?;
+            self.start += self.written as u64;
+            self.written = 0;
+            self.kept = left;
+        }
+        self.kept.append(piece)?;
+        self.games.put(piece)
+    }
+
+    /// The bytes that have come and were not written: once all games are written, what stands behind them.
+    pub fn unwritten(&self) -> &[u8]
+        ensures { result.now ≡ rest_of self.now.written self.now.taken }
+    {
+        self.kept.items().split_at(self.written).1
+    }
+
+    /// What is written of the game that was given last, with what stands before it: the bytes as they are, or the game with another
+    /// result. They count as written, up to the end of the game.
+    pub fn with_game(&mut self, span: Span, mark: Option<ResultMark>) -> Result<Text, NoMemory>
+        requires { (self.old.written ≤ span.start) × (span.start ≤ span.end) × (span.end ≤ length self.old.taken) }
+        ensures text { IfOk result (λ text. text ≡ piece_of self.old.taken self.old.written span mark) }
+        ensures written { OnOk result (self.new.written ≡ span.end) }
+        ensures same { (self.new.taken ≡ self.old.taken) × (self.new.given ≡ self.old.given) × (self.new.ended ≡ self.old.ended) × (self.new.failed ≡ self.old.failed) }
+    {
+        let end = (span.end - self.start) as usize;
+        let text = match mark {
+            Some(mark) => self.marked(span, mark)?,
+            None => text_of(self.alloc, &self.kept.items()[self.written..end])?,
+        };
+        self.written = end;
+        Ok(text)
+    }
+
+    /// What stands before the game that was given last and was not written, and the game with another result.
+    fn marked(&self, span: Span, mark: ResultMark) -> Result<Text, NoMemory>
+        requires { (self.now.written ≤ span.start) × (span.start ≤ span.end) × (span.end ≤ length self.now.taken) }
+        ensures { IfOk result (λ text. text ≡ piece_of self.now.taken self.now.written span (Some mark)) }
+    {
+        let begin = (span.start - self.start) as usize;
+        let end = (span.end - self.start) as usize;
+        let bytes = self.kept.items();
+        let mut text = text_of(self.alloc, &bytes[self.written..begin])?;
+        put_with_mark(
+            self.alloc,
+            mark,
+            &bytes[begin..end],
+            &bytes[end..],
+            &mut text,
+        )?;
+        Ok(text)
+    }
+
+    /// The game that was given last with another result, and a blank line behind it; nothing where its result stays. All up to its end
+    /// counts as written.
+    pub fn changed_game(&mut self, span: Span, mark: Option<ResultMark>) -> Result<Text, NoMemory>
+        requires { (self.old.written ≤ span.start) × (span.start ≤ span.end) × (span.end ≤ length self.old.taken) }
+        ensures text { IfOk result (λ text. text ≡ changed_piece self.old.taken span mark) }
+        ensures written { OnOk result (self.new.written ≡ span.end) }
+        ensures same { (self.new.taken ≡ self.old.taken) × (self.new.given ≡ self.old.given) × (self.new.ended ≡ self.old.ended) × (self.new.failed ≡ self.old.failed) }
+    {
+        let begin = (span.start - self.start) as usize;
+        let end = (span.end - self.start) as usize;
+        let mut text = Text::new(self.alloc);
+        if let Some(mark) = mark {
+            let game = &self.kept.items()[begin..end];
+            put_with_mark(self.alloc, mark, game, &[], &mut text)?;
+            text.append(b"\n\n")?;
+        }
+        self.written = end;
+        Ok(text)
+    }
+}

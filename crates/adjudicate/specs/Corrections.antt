@@ -8,8 +8,8 @@ use Rattle.pgn_games.specs.declared.token_turns.Place.TheVariants.{Before}
 use Rattle.pgn_games.specs.Cutting.{cut}
 use Rattle.pgn_games.specs.Games.{placed_games, games}
 use Rattle.pgn_results.specs.Kept.{told, told_games}
-use Rattle.pgn_results.specs.Replacing.{game_with_mark}
-use Rattle.pgn_results.specs.Correcting.{corrected, between, written_games}
+use Rattle.pgn_results.specs.Correcting.{corrected, written_games}
+use Rattle.pgn_results.specs.Keeping.{changed_piece}
 use Rattle.cha_outcome.specs.declared.items.Item.{Item}
 use Rattle.cha_outcome.specs.declared.outcomes.Outcome.{Outcome}
 use Rattle.cha_outcome.specs.Outcomes.{item_of, new_result, AllSound}
@@ -44,7 +44,7 @@ changed_games bytes [] marks = []
 changed_games bytes (game ∷ games) [] = []
 changed_games bytes (game ∷ games) (None ∷ marks) = changed_games bytes games marks
 changed_games bytes (game ∷ games) (Some mark ∷ marks) =
-    game_with_mark mark (between game.span.start game.span.end bytes) [] ++ 10 ∷ 10 ∷ changed_games bytes games marks
+    changed_piece bytes game.span (Some mark) ++ changed_games bytes games marks
 
 -- the whole output on a text whose games have these outcomes: the text with each result that changes, or the games that change
 abbrev pub corrected_text : Bool → List ℕ → List Outcome → List ℕ

@@ -2,7 +2,7 @@
 //!
 //! `endings` has how a run ends, `readers` the items of an input, one at a time,
 //! `writing` how what is printed goes out, `reports` the one loop over items, `jobs` where the items of each job come from,
-//! `correcting` the games with the right results, over `kept_text`, `checking` the check of a certificate, `commands` what each order does, `top` the call `run`, and `alone` the same call without a
+//! `correcting` the games with the right results, `checking` the check of a certificate, `commands` what each order does, `top` the call `run`, and `alone` the same call without a
 //! runtime.
 #![tactic(auto)]
 
@@ -12,7 +12,6 @@ mod commands;
 mod correcting;
 mod endings;
 mod jobs;
-mod kept_text;
 mod readers;
 mod reports;
 mod top;

@@ -25,6 +25,7 @@ mod whole;
 
 pub use cha_outside::ReadEnd;
 pub use faults::GameFault;
+pub use filling::{Filled, fill};
 pub use joining::closed_texts_join;
 pub use marks::ResultMark;
 pub use played::{Game, PlacedGame, Span, Words};

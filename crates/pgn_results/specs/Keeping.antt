@@ -1,5 +1,5 @@
 -- What a reader keeps of the text of its games, and what is written of each.
-use Rattle.std.specs.Prelude.{◌≡◌, ℕ, ◌+◌, ◌<◌, ◌≤◌, Bool, true, false, List, [], ◌∷◌, ◌++◌, length, drop, Option, Some, None, Global}
+use Rattle.std.specs.Prelude.{◌≡◌, ℕ, ◌+◌, ◌<◌, ◌≤◌, Bool, true, false, List, [], ◌∷◌, ◌++◌, length, drop, Option, Some, None}
 use Rattle.cha_outside.specs.declared.gathering.TheConstants.{MOST_BYTES}
 use Rattle.pgn_games.specs.declared.marks.ResultMark.{ResultMark}
 use Rattle.pgn_games.specs.declared.played.PlacedGame.{PlacedGame}
@@ -17,14 +17,15 @@ pub record KeptState : Type 0 where
   pub ended : Bool
   pub failed : Bool
 
--- The bytes that are kept are the last ones of those taken, as many as were not written at least. As long as no call failed, the
--- splitter has taken them all, and is open as long as the source is.
-pub record IsKept (games : SplitterState) (kept : List ℕ) (start written : ℕ) (ended failed : Bool) : Type 0 where
-  pub bytes : kept ≡ drop start games.taken
-  pub size : start + length kept ≡ length games.taken
-  pub some : written ≤ length kept
-  pub few : length games.taken ≤ MOST_BYTES + 4096
-  pub goes_on : failed ≡ false → (games.failed ≡ false) × (games.ended ≡ ended) × (length games.taken ≤ MOST_BYTES)
+-- As long as no call failed, the splitter has taken all bytes, and is open as long as the source is; the bytes that are kept are the last
+-- ones of them, as many as were not written at least.
+pub record IsKept (games : SplitterState) (kept : List ℕ) (start written : ℕ) (piece : List ℕ) (ended failed : Bool) : Type 0 where
+  pub handed_on : failed ≡ false → piece ≡ []
+  pub open : failed ≡ false → (games.failed ≡ false) × (games.ended ≡ ended)
+  pub few : failed ≡ false → length games.taken ≤ MOST_BYTES
+  pub bytes : failed ≡ false → kept ≡ drop start games.taken
+  pub size : failed ≡ false → start + length kept ≡ length games.taken
+  pub some : failed ≡ false → written ≤ length kept
 
 -- what is written of a game, with what stands before it from a place on
 abbrev pub piece_of : List ℕ → ℕ → Span → Option ResultMark → List ℕ

@@ -3,3 +3,4 @@ pub mod Places
 pub mod Replacing
 pub mod Correcting
 pub mod Kept
+pub mod Keeping

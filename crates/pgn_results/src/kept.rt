@@ -15,13 +15,10 @@ ghost use Rattle.pgn_results.specs.Keeping.{piece_of, changed_piece, rest_of};
 
 use crate::replacing::put_with_mark;
 use cha_list::{NoMemory, Text, text_of};
-use cha_outside::{Got, MOST_BYTES, ReadEnd, Source};
-use pgn_games::{PlacedGame, ResultMark, Span, Splitter};
+use cha_outside::{MOST_BYTES, ReadEnd, Source};
+use pgn_games::{Filled, PlacedGame, ResultMark, Span, Splitter, fill};
 use std::alloc::Global;
 use std::marker::Model;
-
-/// How many bytes one read asks for.
-const PIECE: usize = 4096;
 
 /// A reader of the games of a source, one at a time, that keeps the bytes of the text until they are written. What it keeps is the game
 /// that is being read, with what stands before it, and one piece of the source.
@@ -36,6 +33,8 @@ pub struct KeptReader {
     start: u64,
     /// How many of these bytes were written, from the first on.
     written: usize,
+    /// What was read and not handed on yet.
+    piece: Vec<u8>,
     /// Whether the source has ended.
     ended: bool,
     /// Whether a call has failed.
@@ -49,9 +48,9 @@ impl Model for KeptReader {
 
     ghost Value = { KeptState };
 
-    ghost view = { λ s. record { taken = s.games.taken; written = s.start + s.written; given = s.games.given; ended = s.ended; failed = s.failed } };
+    ghost view = { λ s. record { taken = s.games.taken ++ s.piece.items; written = s.start + s.written; given = s.games.given; ended = s.ended; failed = s.failed } };
 
-    ghost invariant = { λ s. IsKept s.games s.kept s.start s.written s.ended s.failed };
+    ghost invariant = { λ s. IsKept s.games s.kept s.start s.written s.piece.items s.ended s.failed };
 }
 
 impl KeptReader {
@@ -66,6 +65,7 @@ impl KeptReader {
             kept: Text::new(alloc),
             start: 0,
             written: 0,
+            piece: Vec::new(alloc),
             ended: false,
             failed: false,
         })
@@ -123,44 +123,48 @@ impl KeptReader {
 
     /// Reads the next piece of the source, or finds that it has ended.
     fn refill<S: Source>(&mut self, source: &mut S) -> Result<(), ReadEnd> {
-        let mut buffer = [0u8; PIECE];
-        match source.read(&mut buffer) {
-            Got::Bytes(n) => {
-                let taken = self.start + self.kept.items().len() as u64;
-                match self.take(&buffer[..n]) {
-                    Ok(()) => {}
-                    Err(_) => return Err(ReadEnd::NoMemory),
-                }
-                if taken + n as u64 > MOST_BYTES as u64 {
-                    return Err(ReadEnd::TooLong);
-                }
-                Ok(())
-            }
-            Got::End => {
+        match fill(&mut self.piece, source) {
+            Ok(Filled::More) => {}
+            Ok(Filled::End) => {
                 self.ended = true;
-                match self.games.end() {
+                return match self.games.end() {
                     Ok(()) => Ok(()),
                     Err(_) => Err(ReadEnd::NoMemory),
-                }
+                };
             }
-            Got::Failed => Err(ReadEnd::ReadFault),
+            Err(end) => return Err(end),
+        }
+        if self.taken() > MOST_BYTES as u64 {
+            return Err(ReadEnd::TooLong);
+        }
+        match self.hand_on() {
+            Ok(()) => Ok(()),
+            Err(_) => Err(ReadEnd::NoMemory),
         }
     }
 
-    /// Takes a piece that was read. What was written goes.
-    fn take(&mut self, piece: &[u8]) -> Result<(), NoMemory> {
+    /// How many bytes have come.
+    fn taken(&self) -> u64 {
+        self.start + (self.kept.items().len() + self.piece.len()) as u64
+    }
+
+    /// Keeps the piece that was read, and hands it on. What was written goes.
+    fn hand_on(&mut self) -> Result<(), NoMemory> {
         if self.written > 0 {
             let left = text_of(self.alloc, self.unwritten())?;
             self.start += self.written as u64;
             self.written = 0;
             self.kept = left;
         }
-        self.kept.append(piece)?;
-        self.games.put(piece)
+        self.kept.append(self.piece.as_slice())?;
+        self.games.put(self.piece.as_slice())?;
+        self.piece.clear();
+        Ok(())
     }
 
     /// The bytes that have come and were not written: once all games are written, what stands behind them.
     pub fn unwritten(&self) -> &[u8]
+        requires { self.now.failed ≡ false }
         ensures { result.now ≡ rest_of self.now.written self.now.taken }
     {
         self.kept.items().split_at(self.written).1
@@ -169,7 +173,7 @@ impl KeptReader {
     /// What is written of the game that was given last, with what stands before it: the bytes as they are, or the game with another
     /// result. They count as written, up to the end of the game.
     pub fn with_game(&mut self, span: Span, mark: Option<ResultMark>) -> Result<Text, NoMemory>
-        requires { (self.old.written ≤ span.start) × (span.start ≤ span.end) × (span.end ≤ length self.old.taken) }
+        requires { (self.old.written ≤ span.start) × (span.start ≤ span.end) × (span.end ≤ length self.old.taken) × (self.old.failed ≡ false) }
         ensures text { IfOk result (λ text. text ≡ piece_of self.old.taken self.old.written span mark) }
         ensures written { OnOk result (self.new.written ≡ span.end) }
         ensures same { (self.new.taken ≡ self.old.taken) × (self.new.given ≡ self.old.given) × (self.new.ended ≡ self.old.ended) × (self.new.failed ≡ self.old.failed) }
@@ -185,7 +189,7 @@ impl KeptReader {
 
     /// What stands before the game that was given last and was not written, and the game with another result.
     fn marked(&self, span: Span, mark: ResultMark) -> Result<Text, NoMemory>
-        requires { (self.now.written ≤ span.start) × (span.start ≤ span.end) × (span.end ≤ length self.now.taken) }
+        requires { (self.now.written ≤ span.start) × (span.start ≤ span.end) × (span.end ≤ length self.now.taken) × (self.now.failed ≡ false) }
         ensures { IfOk result (λ text. text ≡ piece_of self.now.taken self.now.written span (Some mark)) }
     {
         let begin = (span.start - self.start) as usize;
@@ -205,7 +209,7 @@ impl KeptReader {
     /// The game that was given last with another result, and a blank line behind it; nothing where its result stays. All up to its end
     /// counts as written.
     pub fn changed_game(&mut self, span: Span, mark: Option<ResultMark>) -> Result<Text, NoMemory>
-        requires { (self.old.written ≤ span.start) × (span.start ≤ span.end) × (span.end ≤ length self.old.taken) }
+        requires { (self.old.written ≤ span.start) × (span.start ≤ span.end) × (span.end ≤ length self.old.taken) × (self.old.failed ≡ false) }
         ensures text { IfOk result (λ text. text ≡ changed_piece self.old.taken span mark) }
         ensures written { OnOk result (self.new.written ≡ span.end) }
         ensures same { (self.new.taken ≡ self.old.taken) × (self.new.given ≡ self.old.given) × (self.new.ended ≡ self.old.ended) × (self.new.failed ≡ self.old.failed) }

@@ -1,14 +1,17 @@
 //! A text of games with other results, where nothing but the results changes.
 //!
-//! `places` finds where a game tells its result, `replacing` writes the text of a game with another one, and `law` has the laws that the
+//! `places` finds where a game tells its result, `replacing` writes the text of a game with another one, `kept` reads games and keeps the bytes that are
+//! not written yet, and `law` has the laws that the
 //! games stay the same, and that each may be written alone.
 #![tactic(auto)]
 
+mod kept;
 mod law;
 mod places;
 mod quotes;
 mod replacing;
 
+pub use kept::KeptReader;
 pub use law::{
     a_result_alone_has_no_move, corrected_games_stay_the_same, games_are_corrected_one_by_one,
 };

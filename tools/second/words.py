@@ -15,8 +15,10 @@ import sys
 
 RANGES = {"--budget": (1, 100000), "--workers": (1, 16), "--depth": (2, 8), "--entries": (1, 65536)}
 MATES_RANGES = {"--workers": (1, 16), "--depth": (1, 6)}
+ALL_FLAGS = ["--certs", "--json", "--san", "--fens", "--flagged-draws", "--changed"]
 FLAGS = {
     "adjudicate": ["--certs", "--json", "--san", "--fens", "--flagged-draws"],
+    "correct": ["--flagged-draws", "--changed"],
     "position": ["--certs", "--json", "--san", "--fens"],
     "check": [],
     "mates": ["--json", "--san"],
@@ -39,7 +41,7 @@ def is_ordered(words):
     while rest:
         word = rest.pop(0)
         name, equals, value = word.partition("=")
-        if word in FLAGS["adjudicate"]:
+        if word in ALL_FLAGS:
             if word in seen or word not in FLAGS[command]:
                 return False
             seen.add(word)
@@ -63,7 +65,7 @@ def is_ordered(words):
 def random_words():
     """A list of words, of which about a half is in the language."""
     values = ["0", "1", "2", "4", "8", "9", "16", "17", "007", "100000", "100001", "65536", "65537", "", "+1", "x", "00000000000000000002"]
-    command = random.choice(["adjudicate", "position", "gen", "check", "Position", "solve", "adjudicate", "position", "gen", "mates", "mates", "replay", "replay"])
+    command = random.choice(["adjudicate", "position", "gen", "check", "Position", "solve", "adjudicate", "position", "gen", "mates", "mates", "replay", "replay", "correct", "correct"])
     words = [command]
     if command == "gen":
         words += [random.choice(["0", "7", "18446744073709551615", "18446744073709551616", "-1"]), random.choice(["1", "2", "0", "1001"])]
@@ -76,7 +78,7 @@ def random_words():
         part = random.choice([[name, value], [name + "=" + value]])
         at = random.randint(1, len(words))
         words[at:at] = part
-    for flag in random.sample(FLAGS["adjudicate"], random.choice([0, 0, 0, 1, 1, 2])):
+    for flag in random.sample(ALL_FLAGS, random.choice([0, 0, 0, 1, 1, 2])):
         words.insert(random.randint(1, len(words)), random.choice([flag] * 9 + [flag + "=1"]))
     if random.random() < 0.1:
         words.insert(random.randint(0, len(words)), random.choice(["--certs", "--json", "--", "--help", ""]))

@@ -14,6 +14,9 @@ const VERSION: &str = "1.0.0";
 fn about_command(command: Command) -> &'static str {
     match command {
         Command::Adjudicate => "judges games in PGN: a block for each, and a summary",
+        Command::Correct => {
+            "writes games in PGN with the right results, and the summary to standard error"
+        }
         Command::Position => {
             "judges positions in FEN, one on a line: a block for each, and a summary"
         }
@@ -39,6 +42,7 @@ fn about_setting(setting: Setting) -> &'static str {
         Setting::San => "prints moves as words, as Nf2#",
         Setting::Fens => "prints the position after each move, behind --json",
         Setting::FlaggedDraws => "examines drawn games in which a flag fell",
+        Setting::Changed => "writes only the games whose result changes",
     }
 }
 

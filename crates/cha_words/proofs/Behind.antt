@@ -5,7 +5,7 @@ use Rattle.cha_words.specs.declared.orders.Order.{Order}
 use Rattle.cha_words.specs.declared.orders.Order.TheVariants.{CheckCert}
 use Rattle.cha_words.specs.declared.table.Command.{Command}
 use Rattle.cha_words.specs.declared.table.Setting.{Setting}
-use Rattle.cha_words.specs.declared.table.Setting.TheVariants.{Budget, Workers, Depth, Entries, Certs, Json, San, Fens, FlaggedDraws}
+use Rattle.cha_words.specs.declared.table.Setting.TheVariants.{Budget, Workers, Depth, Entries, Certs, Json, San, Fens, FlaggedDraws, Changed}
 use Rattle.cha_words.specs.declared.given.Progress.{Progress}
 use Rattle.cha_words.specs.declared.faults.Expected.{Expected}
 use Rattle.cha_words.specs.declared.faults.Expected.TheVariants.{First, Behind}
@@ -35,6 +35,7 @@ nothing_stands c = record { fits = record { settings = open_; said = tt }; await
     open_ San = tt
     open_ Fens = tt
     open_ FlaggedDraws = tt
+    open_ Changed = tt
 
 -- one word more
 pub next_word : (words : List (String Global)) (i : ℕ) (item : String Global) (text : List ℕ) → i < length words → item ≡ get_or words i item → text ≡ string_bytes item → (more : List (List ℕ)) → take (suc i) (map string_bytes words) ++ more ≡ take i (map string_bytes words) ++ (text ∷ more)

@@ -3,7 +3,7 @@ use Rattle.std.proofs.Common.{◌≡◌, ℕ, ◌≤◌, false, List, [], ◌∷
 use Rattle.cha_words.specs.declared.table.Command.{Command}
 use Rattle.cha_words.specs.declared.table.Command.TheVariants.{Gen, Mates}
 use Rattle.cha_words.specs.declared.table.Setting.{Setting}
-use Rattle.cha_words.specs.declared.table.Setting.TheVariants.{Budget, Workers, Depth, Entries, Certs, Json, San, Fens, FlaggedDraws}
+use Rattle.cha_words.specs.declared.table.Setting.TheVariants.{Budget, Workers, Depth, Entries, Certs, Json, San, Fens, FlaggedDraws, Changed}
 use Rattle.cha_words.specs.declared.table.Range.{Range}
 use Rattle.cha_words.specs.declared.given.Given.{Given}
 use Rattle.cha_words.specs.declared.given.Said.{Said}
@@ -32,77 +32,90 @@ good_chosen r (Some m) range v n vs e h = cc
 good_chosen r None range v n [] e h = rw e h
 good_chosen r None range v n (w ∷ vs) e h = rw e refl
 
-no_workers : (b d e c j s f x : Option ℕ) → all_of b None d e c j s f x ≡ None
-no_workers None d e c j s f x = refl
-no_workers (Some b) d e c j s f x = refl
+no_workers : (b d e c j s f x y : Option ℕ) → all_of b None d e c j s f x y ≡ None
+no_workers None d e c j s f x y = refl
+no_workers (Some b) d e c j s f x y = refl
 
-no_depth : (b w e c j s f x : Option ℕ) → all_of b w None e c j s f x ≡ None
-no_depth None w e c j s f x = refl
-no_depth (Some b) None e c j s f x = refl
-no_depth (Some b) (Some w) e c j s f x = refl
+no_depth : (b w e c j s f x y : Option ℕ) → all_of b w None e c j s f x y ≡ None
+no_depth None w e c j s f x y = refl
+no_depth (Some b) None e c j s f x y = refl
+no_depth (Some b) (Some w) e c j s f x y = refl
 
-no_entries : (b w d c j s f x : Option ℕ) → all_of b w d None c j s f x ≡ None
-no_entries None w d c j s f x = refl
-no_entries (Some b) None d c j s f x = refl
-no_entries (Some b) (Some w) None c j s f x = refl
-no_entries (Some b) (Some w) (Some d) c j s f x = refl
+no_entries : (b w d c j s f x y : Option ℕ) → all_of b w d None c j s f x y ≡ None
+no_entries None w d c j s f x y = refl
+no_entries (Some b) None d c j s f x y = refl
+no_entries (Some b) (Some w) None c j s f x y = refl
+no_entries (Some b) (Some w) (Some d) c j s f x y = refl
 
-no_certs : (b w d e j s f x : Option ℕ) → all_of b w d e None j s f x ≡ None
-no_certs None w d e j s f x = refl
-no_certs (Some b) None d e j s f x = refl
-no_certs (Some b) (Some w) None e j s f x = refl
-no_certs (Some b) (Some w) (Some d) None j s f x = refl
-no_certs (Some b) (Some w) (Some d) (Some e) j s f x = refl
+no_certs : (b w d e j s f x y : Option ℕ) → all_of b w d e None j s f x y ≡ None
+no_certs None w d e j s f x y = refl
+no_certs (Some b) None d e j s f x y = refl
+no_certs (Some b) (Some w) None e j s f x y = refl
+no_certs (Some b) (Some w) (Some d) None j s f x y = refl
+no_certs (Some b) (Some w) (Some d) (Some e) j s f x y = refl
 
-no_json : (b w d e c s f x : Option ℕ) → all_of b w d e c None s f x ≡ None
-no_json None w d e c s f x = refl
-no_json (Some b) None d e c s f x = refl
-no_json (Some b) (Some w) None e c s f x = refl
-no_json (Some b) (Some w) (Some d) None c s f x = refl
-no_json (Some b) (Some w) (Some d) (Some e) None s f x = refl
-no_json (Some b) (Some w) (Some d) (Some e) (Some c) s f x = refl
+no_json : (b w d e c s f x y : Option ℕ) → all_of b w d e c None s f x y ≡ None
+no_json None w d e c s f x y = refl
+no_json (Some b) None d e c s f x y = refl
+no_json (Some b) (Some w) None e c s f x y = refl
+no_json (Some b) (Some w) (Some d) None c s f x y = refl
+no_json (Some b) (Some w) (Some d) (Some e) None s f x y = refl
+no_json (Some b) (Some w) (Some d) (Some e) (Some c) s f x y = refl
 
-no_san : (b w d e c j f x : Option ℕ) → all_of b w d e c j None f x ≡ None
-no_san None w d e c j f x = refl
-no_san (Some b) None d e c j f x = refl
-no_san (Some b) (Some w) None e c j f x = refl
-no_san (Some b) (Some w) (Some d) None c j f x = refl
-no_san (Some b) (Some w) (Some d) (Some e) None j f x = refl
-no_san (Some b) (Some w) (Some d) (Some e) (Some c) None f x = refl
-no_san (Some b) (Some w) (Some d) (Some e) (Some c) (Some j) f x = refl
+no_san : (b w d e c j f x y : Option ℕ) → all_of b w d e c j None f x y ≡ None
+no_san None w d e c j f x y = refl
+no_san (Some b) None d e c j f x y = refl
+no_san (Some b) (Some w) None e c j f x y = refl
+no_san (Some b) (Some w) (Some d) None c j f x y = refl
+no_san (Some b) (Some w) (Some d) (Some e) None j f x y = refl
+no_san (Some b) (Some w) (Some d) (Some e) (Some c) None f x y = refl
+no_san (Some b) (Some w) (Some d) (Some e) (Some c) (Some j) f x y = refl
 
-no_fens : (b w d e c j s x : Option ℕ) → all_of b w d e c j s None x ≡ None
-no_fens None w d e c j s x = refl
-no_fens (Some b) None d e c j s x = refl
-no_fens (Some b) (Some w) None e c j s x = refl
-no_fens (Some b) (Some w) (Some d) None c j s x = refl
-no_fens (Some b) (Some w) (Some d) (Some e) None j s x = refl
-no_fens (Some b) (Some w) (Some d) (Some e) (Some c) None s x = refl
-no_fens (Some b) (Some w) (Some d) (Some e) (Some c) (Some j) None x = refl
-no_fens (Some b) (Some w) (Some d) (Some e) (Some c) (Some j) (Some s) x = refl
+no_fens : (b w d e c j s x y : Option ℕ) → all_of b w d e c j s None x y ≡ None
+no_fens None w d e c j s x y = refl
+no_fens (Some b) None d e c j s x y = refl
+no_fens (Some b) (Some w) None e c j s x y = refl
+no_fens (Some b) (Some w) (Some d) None c j s x y = refl
+no_fens (Some b) (Some w) (Some d) (Some e) None j s x y = refl
+no_fens (Some b) (Some w) (Some d) (Some e) (Some c) None s x y = refl
+no_fens (Some b) (Some w) (Some d) (Some e) (Some c) (Some j) None x y = refl
+no_fens (Some b) (Some w) (Some d) (Some e) (Some c) (Some j) (Some s) x y = refl
 
-no_flagged_draws : (b w d e c j s f : Option ℕ) → all_of b w d e c j s f None ≡ None
-no_flagged_draws None w d e c j s f = refl
-no_flagged_draws (Some b) None d e c j s f = refl
-no_flagged_draws (Some b) (Some w) None e c j s f = refl
-no_flagged_draws (Some b) (Some w) (Some d) None c j s f = refl
-no_flagged_draws (Some b) (Some w) (Some d) (Some e) None j s f = refl
-no_flagged_draws (Some b) (Some w) (Some d) (Some e) (Some c) None s f = refl
-no_flagged_draws (Some b) (Some w) (Some d) (Some e) (Some c) (Some j) None f = refl
-no_flagged_draws (Some b) (Some w) (Some d) (Some e) (Some c) (Some j) (Some s) None = refl
-no_flagged_draws (Some b) (Some w) (Some d) (Some e) (Some c) (Some j) (Some s) (Some f) = refl
+no_flagged_draws : (b w d e c j s f y : Option ℕ) → all_of b w d e c j s f None y ≡ None
+no_flagged_draws None w d e c j s f y = refl
+no_flagged_draws (Some b) None d e c j s f y = refl
+no_flagged_draws (Some b) (Some w) None e c j s f y = refl
+no_flagged_draws (Some b) (Some w) (Some d) None c j s f y = refl
+no_flagged_draws (Some b) (Some w) (Some d) (Some e) None j s f y = refl
+no_flagged_draws (Some b) (Some w) (Some d) (Some e) (Some c) None s f y = refl
+no_flagged_draws (Some b) (Some w) (Some d) (Some e) (Some c) (Some j) None f y = refl
+no_flagged_draws (Some b) (Some w) (Some d) (Some e) (Some c) (Some j) (Some s) None y = refl
+no_flagged_draws (Some b) (Some w) (Some d) (Some e) (Some c) (Some j) (Some s) (Some f) y = refl
+
+no_changed : (b w d e c j s f x : Option ℕ) → all_of b w d e c j s f x None ≡ None
+no_changed None w d e c j s f x = refl
+no_changed (Some b) None d e c j s f x = refl
+no_changed (Some b) (Some w) None e c j s f x = refl
+no_changed (Some b) (Some w) (Some d) None c j s f x = refl
+no_changed (Some b) (Some w) (Some d) (Some e) None j s f x = refl
+no_changed (Some b) (Some w) (Some d) (Some e) (Some c) None s f x = refl
+no_changed (Some b) (Some w) (Some d) (Some e) (Some c) (Some j) None f x = refl
+no_changed (Some b) (Some w) (Some d) (Some e) (Some c) (Some j) (Some s) None x = refl
+no_changed (Some b) (Some w) (Some d) (Some e) (Some c) (Some j) (Some s) (Some f) None = refl
+no_changed (Some b) (Some w) (Some d) (Some e) (Some c) (Some j) (Some s) (Some f) (Some x) = refl
 
 -- one option without a number
-absent : (s : Setting) (f : Setting → Option ℕ) → f s ≡ None → all_of (f Budget) (f Workers) (f Depth) (f Entries) (f Certs) (f Json) (f San) (f Fens) (f FlaggedDraws) ≡ None
+absent : (s : Setting) (f : Setting → Option ℕ) → f s ≡ None → all_of (f Budget) (f Workers) (f Depth) (f Entries) (f Certs) (f Json) (f San) (f Fens) (f FlaggedDraws) (f Changed) ≡ None
 absent Budget f e = rw e refl
-absent Workers f e = ap (λ x. all_of (f Budget) x (f Depth) (f Entries) (f Certs) (f Json) (f San) (f Fens) (f FlaggedDraws)) e ∙ no_workers _ _ _ _ _ _ _ _
-absent Depth f e = ap (λ x. all_of (f Budget) (f Workers) x (f Entries) (f Certs) (f Json) (f San) (f Fens) (f FlaggedDraws)) e ∙ no_depth _ _ _ _ _ _ _ _
-absent Entries f e = ap (λ x. all_of (f Budget) (f Workers) (f Depth) x (f Certs) (f Json) (f San) (f Fens) (f FlaggedDraws)) e ∙ no_entries _ _ _ _ _ _ _ _
-absent Certs f e = ap (λ x. all_of (f Budget) (f Workers) (f Depth) (f Entries) x (f Json) (f San) (f Fens) (f FlaggedDraws)) e ∙ no_certs _ _ _ _ _ _ _ _
-absent Json f e = ap (λ x. all_of (f Budget) (f Workers) (f Depth) (f Entries) (f Certs) x (f San) (f Fens) (f FlaggedDraws)) e ∙ no_json _ _ _ _ _ _ _ _
-absent San f e = ap (λ x. all_of (f Budget) (f Workers) (f Depth) (f Entries) (f Certs) (f Json) x (f Fens) (f FlaggedDraws)) e ∙ no_san _ _ _ _ _ _ _ _
-absent Fens f e = ap (λ x. all_of (f Budget) (f Workers) (f Depth) (f Entries) (f Certs) (f Json) (f San) x (f FlaggedDraws)) e ∙ no_fens _ _ _ _ _ _ _ _
-absent FlaggedDraws f e = ap (λ x. all_of (f Budget) (f Workers) (f Depth) (f Entries) (f Certs) (f Json) (f San) (f Fens) x) e ∙ no_flagged_draws _ _ _ _ _ _ _ _
+absent Workers f e = ap (λ x. all_of (f Budget) x (f Depth) (f Entries) (f Certs) (f Json) (f San) (f Fens) (f FlaggedDraws) (f Changed)) e ∙ no_workers _ _ _ _ _ _ _ _ _
+absent Depth f e = ap (λ x. all_of (f Budget) (f Workers) x (f Entries) (f Certs) (f Json) (f San) (f Fens) (f FlaggedDraws) (f Changed)) e ∙ no_depth _ _ _ _ _ _ _ _ _
+absent Entries f e = ap (λ x. all_of (f Budget) (f Workers) (f Depth) x (f Certs) (f Json) (f San) (f Fens) (f FlaggedDraws) (f Changed)) e ∙ no_entries _ _ _ _ _ _ _ _ _
+absent Certs f e = ap (λ x. all_of (f Budget) (f Workers) (f Depth) (f Entries) x (f Json) (f San) (f Fens) (f FlaggedDraws) (f Changed)) e ∙ no_certs _ _ _ _ _ _ _ _ _
+absent Json f e = ap (λ x. all_of (f Budget) (f Workers) (f Depth) (f Entries) (f Certs) x (f San) (f Fens) (f FlaggedDraws) (f Changed)) e ∙ no_json _ _ _ _ _ _ _ _ _
+absent San f e = ap (λ x. all_of (f Budget) (f Workers) (f Depth) (f Entries) (f Certs) (f Json) x (f Fens) (f FlaggedDraws) (f Changed)) e ∙ no_san _ _ _ _ _ _ _ _ _
+absent Fens f e = ap (λ x. all_of (f Budget) (f Workers) (f Depth) (f Entries) (f Certs) (f Json) (f San) x (f FlaggedDraws) (f Changed)) e ∙ no_fens _ _ _ _ _ _ _ _ _
+absent FlaggedDraws f e = ap (λ x. all_of (f Budget) (f Workers) (f Depth) (f Entries) (f Certs) (f Json) (f San) (f Fens) x (f Changed)) e ∙ no_flagged_draws _ _ _ _ _ _ _ _ _
+absent Changed f e = ap (λ x. all_of (f Budget) (f Workers) (f Depth) (f Entries) (f Certs) (f Json) (f San) (f Fens) (f FlaggedDraws) x) e ∙ no_changed _ _ _ _ _ _ _ _ _
 
 no_numbers : (c : Command) (said : Option Said) → made_of c None said ≡ None
 no_numbers c None = refl
@@ -128,6 +141,7 @@ own_value Json v ps = refl
 own_value San v ps = refl
 own_value Fens v ps = refl
 own_value FlaggedDraws v ps = refl
+own_value Changed v ps = refl
 
 -- an option that may not be given
 pub value_closed : (c : Command) (g : Given) (s : Setting) (v : List ℕ) → open_in c g s ≡ None → (ps : List Part) → order_from c g (Value s v ∷ ps) ≡ None
@@ -149,6 +163,7 @@ value_taken c g Json r v n e h ps = rw (good_chosen (range c Json) g.json r v n 
 value_taken c g San r v n e h ps = rw (good_chosen (range c San) g.san r v n (filter_map (value_for San) ps) e h) refl
 value_taken c g Fens r v n e h ps = rw (good_chosen (range c Fens) g.fens r v n (filter_map (value_for Fens) ps) e h) refl
 value_taken c g FlaggedDraws r v n e h ps = rw (good_chosen (range c FlaggedDraws) g.flagged_draws r v n (filter_map (value_for FlaggedDraws) ps) e h) refl
+value_taken c g Changed r v n e h ps = rw (good_chosen (range c Changed) g.changed r v n (filter_map (value_for Changed) ps) e h) refl
 
 silent : (c : Command) (words : List (List ℕ)) → say_all c None words ≡ None
 silent c [] = refl
@@ -185,6 +200,7 @@ given_in c g Json Json r n fits e h = own_given (range c Json) r n e h
 given_in c g San San r n fits e h = own_given (range c San) r n e h
 given_in c g Fens Fens r n fits e h = own_given (range c Fens) r n e h
 given_in c g FlaggedDraws FlaggedDraws r n fits e h = own_given (range c FlaggedDraws) r n e h
+given_in c g Changed Changed r n fits e h = own_given (range c Changed) r n e h
 given_in c g s t r n fits e h = fits.settings t
 
 put_said : (s : Setting) (n : ℕ) (g : Given) → g.said ≡ (put s n g).said
@@ -197,6 +213,7 @@ put_said Json n g = refl
 put_said San n g = refl
 put_said Fens n g = refl
 put_said FlaggedDraws n g = refl
+put_said Changed n g = refl
 
 pub put_fits : (c : Command) (g : Given) (s : Setting) (r : Range) (v : List ℕ) (n : ℕ) → Fits c g → open_in c g s ≡ Some r → number r.least r.most v ≡ Some n → Fits c (put s n g)
 put_fits c g s r v n fits e h = record {
@@ -236,6 +253,7 @@ said_fits c g word said fits e = record { settings = λ t. same t; said = can_be
     same San = fits.settings San
     same Fens = fits.settings Fens
     same FlaggedDraws = fits.settings FlaggedDraws
+    same Changed = fits.settings Changed
 
 -- the name of an option that takes a number
 pub closed_words : (c : Command) (g : Given) (s : Setting) → open_in c g s ≡ None → (words : List (List ℕ)) → order_from c g (parts_awaiting (Some s) words) ≡ None

@@ -1,18 +1,18 @@
 -- Words that can be continued to an order.
 use Rattle.std.proofs.Common.{◌≡◌, ℕ, ◌==◌, List, [], ◌∷◌, codes, Option, Some, None, refl, ap, ◌∙◌, subst}
 use Rattle.cha_words.specs.declared.orders.Order.{Order}
-use Rattle.cha_words.specs.declared.orders.Order.TheVariants.{AdjudicateGames, JudgePositions, CheckCert, GenGames, ListMates, ReplayGames}
+use Rattle.cha_words.specs.declared.orders.Order.TheVariants.{AdjudicateGames, CorrectGames, JudgePositions, CheckCert, GenGames, ListMates, ReplayGames}
 use Rattle.cha_board.specs.declared.men.Color.TheVariants.{White}
 use Rattle.cha_words.specs.declared.table.Command.{Command}
-use Rattle.cha_words.specs.declared.table.Command.TheVariants.{Adjudicate, Position, Check, Gen, Mates, Replay}
+use Rattle.cha_words.specs.declared.table.Command.TheVariants.{Adjudicate, Correct, Position, Check, Gen, Mates, Replay}
 use Rattle.cha_words.specs.declared.table.Setting.{Setting}
-use Rattle.cha_words.specs.declared.table.Setting.TheVariants.{Budget, Workers, Depth, Entries, Certs, Json, San, Fens, FlaggedDraws}
+use Rattle.cha_words.specs.declared.table.Setting.TheVariants.{Budget, Workers, Depth, Entries, Certs, Json, San, Fens, FlaggedDraws, Changed}
 use Rattle.cha_words.specs.declared.table.Range.{Range}
 use Rattle.cha_words.specs.declared.given.Given.{Given}
 use Rattle.cha_words.specs.declared.given.Said.{Said}
 use Rattle.cha_words.specs.declared.given.Said.TheVariants.{Nothing, Seeded, Games, Sided}
 use Rattle.cha_words.specs.declared.given.Progress.{Progress}
-use Rattle.cha_words.specs.Language.{Numbers, number, is_number, side_named, setting_named, part_of, piece, range, for_search, say_all, bounds, examines, printing, made_of}
+use Rattle.cha_words.specs.Language.{Numbers, number, is_number, side_named, setting_named, part_of, piece, range, for_search, say_all, bounds, examines, selects, printing, made_of}
 use Rattle.cha_words.specs.Language.Part.{Plain}
 use Rattle.cha_words.specs.Reading.{value_in, put, open_in, numbers_from, order_from, order_with, parts_awaiting, IsSaid, Fits, IsOpen, Stands}
 use Rattle.cha_words.proofs.Cutting.{awaited_part}
@@ -71,6 +71,7 @@ ends c g n said order e s m = ([], order, rw none_part (no_more c g (Some n) e �
 
 by_said : (c : Command) (g : Given) (n : Numbers) (said : Said) → numbers_from c g [] ≡ Some n → g.said ≡ said → IsSaid c said → CanGo (λ more. order_from c g (parts_awaiting None more))
 by_said Adjudicate g n Nothing e s h = ends Adjudicate g n Nothing (AdjudicateGames (bounds n) (examines n) (printing n)) e s refl
+by_said Correct g n Nothing e s h = ends Correct g n Nothing (CorrectGames (bounds n) (examines n) (selects n)) e s refl
 by_said Position g n Nothing e s h = ends Position g n Nothing (JudgePositions (bounds n) (printing n)) e s refl
 by_said Check g n Nothing e s h = ends Check g n Nothing CheckCert e s refl
 by_said Gen g n Nothing e s h = (codes "0" ∷ codes "1" ∷ [], GenGames (bounds n) 0 1, rw zero_part (two_more Gen g (Some n) (Some (Games 0 1)) (codes "0") (codes "1") e (ap (λ t. say_all Gen (Some t) (codes "0" ∷ codes "1" ∷ [])) s ∙ both_said)))
@@ -91,6 +92,7 @@ some_number Json = codes "1"
 some_number San = codes "1"
 some_number Fens = codes "1"
 some_number FlaggedDraws = codes "1"
+some_number Changed = codes "1"
 some_number _ = codes "2"
 
 abbrev HasNumber : Option Range → Setting → Type 0
@@ -108,11 +110,32 @@ searched workers Json = (1, refl)
 searched workers San = (1, refl)
 searched workers Fens = (1, refl)
 searched workers FlaggedDraws = (1, refl)
+searched workers Changed = (1, refl)
 
 has_number : (c : Command) (s : Setting) → HasNumber (range c s) s
 unfolding number is_number
-has_number Adjudicate s = searched 2 s
+has_number Adjudicate Changed = tt
+has_number Adjudicate Budget = searched 2 Budget
+has_number Adjudicate Workers = searched 2 Workers
+has_number Adjudicate Depth = searched 2 Depth
+has_number Adjudicate Entries = searched 2 Entries
+has_number Adjudicate Certs = searched 2 Certs
+has_number Adjudicate Json = searched 2 Json
+has_number Adjudicate San = searched 2 San
+has_number Adjudicate Fens = searched 2 Fens
+has_number Adjudicate FlaggedDraws = searched 2 FlaggedDraws
+has_number Correct Certs = tt
+has_number Correct Json = tt
+has_number Correct San = tt
+has_number Correct Fens = tt
+has_number Correct Budget = searched 2 Budget
+has_number Correct Workers = searched 2 Workers
+has_number Correct Depth = searched 2 Depth
+has_number Correct Entries = searched 2 Entries
+has_number Correct FlaggedDraws = searched 2 FlaggedDraws
+has_number Correct Changed = searched 2 Changed
 has_number Position FlaggedDraws = tt
+has_number Position Changed = tt
 has_number Position Budget = searched 2 Budget
 has_number Position Workers = searched 2 Workers
 has_number Position Depth = searched 2 Depth
@@ -127,6 +150,7 @@ has_number Gen Json = tt
 has_number Gen San = tt
 has_number Gen Fens = tt
 has_number Gen FlaggedDraws = tt
+has_number Gen Changed = tt
 has_number Gen Budget = searched 1 Budget
 has_number Gen Workers = searched 1 Workers
 has_number Gen Depth = searched 1 Depth
@@ -140,6 +164,7 @@ has_number Mates Json = (1, refl)
 has_number Mates San = (1, refl)
 has_number Mates Fens = tt
 has_number Mates FlaggedDraws = tt
+has_number Mates Changed = tt
 has_number Replay Json = (1, refl)
 has_number Replay Budget = tt
 has_number Replay Workers = tt
@@ -149,6 +174,7 @@ has_number Replay Certs = tt
 has_number Replay San = tt
 has_number Replay Fens = tt
 has_number Replay FlaggedDraws = tt
+has_number Replay Changed = tt
 
 pub has_own : (c : Command) (s : Setting) (r : Range) → range c s ≡ Some r → (n : ℕ) × (number r.least r.most (some_number s) ≡ Some n)
 has_own c s r e = subst (λ o. HasNumber o s) e (has_number c s)

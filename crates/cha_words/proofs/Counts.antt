@@ -5,7 +5,7 @@ use Rattle.cha_board.specs.declared.men.Color.{Color}
 use Rattle.cha_words.specs.declared.orders.Printing.{Printing}
 use Rattle.cha_words.specs.declared.orders.Order.TheVariants.{GenGames, ListMates}
 use Rattle.cha_words.specs.declared.table.Command.{Command}
-use Rattle.cha_words.specs.declared.table.Command.TheVariants.{Adjudicate, Position, Check, Gen, Mates, Replay}
+use Rattle.cha_words.specs.declared.table.Command.TheVariants.{Adjudicate, Correct, Position, Check, Gen, Mates, Replay}
 use Rattle.cha_words.specs.declared.table.Setting.TheVariants.{Workers, Depth}
 use Rattle.cha_words.specs.declared.table.Range.{Range}
 use Rattle.cha_words.specs.declared.given.Said.{Said}
@@ -14,7 +14,7 @@ use Rattle.cha_words.specs.Language.{Part, Numbers, next_argument, say, say_all,
 use Rattle.cha_words.specs.Reading.{IsSaid}
 use Rattle.cha_words.proofs.Digits.{number_in_range}
 use Rattle.cha_words.proofs.Choosing.{can_be_said}
-use Rattle.cha_words.proofs.Ending.{nine, of_some}
+use Rattle.cha_words.proofs.Ending.{ten, of_some}
 
 said_all : (c : Command) (words : List (List ℕ)) (o : Option Said) (t : Said) → ((s : Said) → o ≡ Some s → IsSaid c s) → say_all c o words ≡ Some t → IsSaid c t
 said_all c [] None t h e = cc
@@ -28,6 +28,8 @@ games_of Gen n (Games s k) b seed count e = (refl, let one : s ≡ seed = cc in 
 games_of Gen n s b seed count e = cc
 games_of Adjudicate n Nothing b seed count e = cc
 games_of Adjudicate n s b seed count e = cc
+games_of Correct n Nothing b seed count e = cc
+games_of Correct n s b seed count e = cc
 games_of Position n Nothing b seed count e = cc
 games_of Position n s b seed count e = cc
 games_of Check n Nothing b seed count e = cc
@@ -55,6 +57,8 @@ mates_of Mates n (Sided t) side w d p e = record { mates = refl; numbers = n; is
 mates_of Mates n s side w d p e = cc
 mates_of Adjudicate n Nothing side w d p e = cc
 mates_of Adjudicate n s side w d p e = cc
+mates_of Correct n Nothing side w d p e = cc
+mates_of Correct n s side w d p e = cc
 mates_of Position n Nothing side w d p e = cc
 mates_of Position n s side w d p e = cc
 mates_of Check n Nothing side w d p e = cc
@@ -94,7 +98,7 @@ chosen_in r (value ∷ more ∷ values) n low high e = cc
 
 mates_in : (n : Numbers) (cut : List Part) (w d : ℕ) → numbers Mates cut ≡ Some n → n.workers ≡ w → n.depth ≡ d → ((1 ≤ w) × (w ≤ 16)) × ((1 ≤ d) × (d ≤ 6))
 mates_in n cut w d e hw hd =
-    let each = nine _ _ _ _ _ _ _ _ _ n e in
+    let each = ten _ _ _ _ _ _ _ _ _ _ n e in
     let workers = chosen_in (record { least = 1; most = 16; usual = 2 }) (filter_map (value_for Workers) cut) n.workers (omega arith) (omega arith) each.workers in
     let depth = chosen_in (record { least = 1; most = 6; usual = 4 }) (filter_map (value_for Depth) cut) n.depth (omega arith) (omega arith) each.depth in
     let w_in : (1 ≤ w) × (w ≤ 16) = subst (λ k. (1 ≤ k) × (k ≤ 16)) hw workers in

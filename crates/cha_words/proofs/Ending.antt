@@ -4,17 +4,17 @@ use Rattle.cha_limits.specs.Bounds.{Bounds}
 use Rattle.cha_board.specs.declared.men.Color.{Color}
 use Rattle.cha_words.specs.declared.orders.Order.{Order}
 use Rattle.cha_words.specs.declared.orders.Printing.{Printing}
-use Rattle.cha_words.specs.declared.orders.Order.TheVariants.{AdjudicateGames, JudgePositions, CheckCert, GenGames, ListMates, ReplayGames}
+use Rattle.cha_words.specs.declared.orders.Order.TheVariants.{AdjudicateGames, CorrectGames, JudgePositions, CheckCert, GenGames, ListMates, ReplayGames}
 use Rattle.cha_words.specs.declared.table.Command.{Command}
-use Rattle.cha_words.specs.declared.table.Command.TheVariants.{Adjudicate, Position, Check, Gen, Mates, Replay}
+use Rattle.cha_words.specs.declared.table.Command.TheVariants.{Adjudicate, Correct, Position, Check, Gen, Mates, Replay}
 use Rattle.cha_words.specs.declared.table.Setting.{Setting}
-use Rattle.cha_words.specs.declared.table.Setting.TheVariants.{Budget, Workers, Depth, Entries, Certs, Json, San, Fens, FlaggedDraws}
+use Rattle.cha_words.specs.declared.table.Setting.TheVariants.{Budget, Workers, Depth, Entries, Certs, Json, San, Fens, FlaggedDraws, Changed}
 use Rattle.cha_words.specs.declared.table.Range.{Range}
 use Rattle.cha_words.specs.declared.given.Given.{Given}
 use Rattle.cha_words.specs.declared.given.Said.{Said}
 use Rattle.cha_words.specs.declared.given.Said.TheVariants.{Nothing, Games, Sided}
 use Rattle.cha_words.specs.declared.given.Progress.{Progress}
-use Rattle.cha_words.specs.Language.{Numbers, range, all_of, bounds, examines, printing, made, made_of}
+use Rattle.cha_words.specs.Language.{Numbers, range, all_of, bounds, examines, selects, printing, made, made_of}
 use Rattle.cha_words.specs.Language.Part.{Value}
 use Rattle.cha_words.specs.Reading.{open_in, chosen_from, numbers_from, order_from, order_with}
 use Rattle.cha_words.proofs.Digits.{no_number}
@@ -27,14 +27,14 @@ ends None None = (0, refl)
 ends (Some r) None = (r.usual, refl)
 ends r (Some n) = (n, refl)
 
-all_nine : (b w d e c j s f x : Option ℕ) → ((n : ℕ) × (b ≡ Some n)) → ((n : ℕ) × (w ≡ Some n)) → ((n : ℕ) × (d ≡ Some n)) → ((n : ℕ) × (e ≡ Some n)) → ((n : ℕ) × (c ≡ Some n)) → ((n : ℕ) × (j ≡ Some n)) → ((n : ℕ) × (s ≡ Some n)) → ((n : ℕ) × (f ≡ Some n)) → ((n : ℕ) × (x ≡ Some n)) → (n : Numbers) × (all_of b w d e c j s f x ≡ Some n)
-all_nine b w d e c j s f x hb hw hd he hc hj hs hf hx = (record { budget = hb.0; workers = hw.0; depth = hd.0; entries = he.0; certs = hc.0; json = hj.0; san = hs.0; fens = hf.0; flagged_draws = hx.0 }, rw (hb.1, hw.1, hd.1, he.1, hc.1, hj.1, hs.1, hf.1, hx.1) refl)
+all_ten : (b w d e c j s f x y : Option ℕ) → ((n : ℕ) × (b ≡ Some n)) → ((n : ℕ) × (w ≡ Some n)) → ((n : ℕ) × (d ≡ Some n)) → ((n : ℕ) × (e ≡ Some n)) → ((n : ℕ) × (c ≡ Some n)) → ((n : ℕ) × (j ≡ Some n)) → ((n : ℕ) × (s ≡ Some n)) → ((n : ℕ) × (f ≡ Some n)) → ((n : ℕ) × (x ≡ Some n)) → ((n : ℕ) × (y ≡ Some n)) → (n : Numbers) × (all_of b w d e c j s f x y ≡ Some n)
+all_ten b w d e c j s f x y hb hw hd he hc hj hs hf hx hy = (record { budget = hb.0; workers = hw.0; depth = hd.0; entries = he.0; certs = hc.0; json = hj.0; san = hs.0; fens = hf.0; flagged_draws = hx.0; changed = hy.0 }, rw (hb.1, hw.1, hd.1, he.1, hc.1, hj.1, hs.1, hf.1, hx.1, hy.1) refl)
 
 pub whole : (c : Command) (g : Given) → (n : Numbers) × (numbers_from c g [] ≡ Some n)
-whole c g = all_nine _ _ _ _ _ _ _ _ _ (ends (range c Budget) g.budget) (ends (range c Workers) g.workers) (ends (range c Depth) g.depth) (ends (range c Entries) g.entries) (ends (range c Certs) g.certs) (ends (range c Json) g.json) (ends (range c San) g.san) (ends (range c Fens) g.fens) (ends (range c FlaggedDraws) g.flagged_draws)
+whole c g = all_ten _ _ _ _ _ _ _ _ _ _ (ends (range c Budget) g.budget) (ends (range c Workers) g.workers) (ends (range c Depth) g.depth) (ends (range c Entries) g.entries) (ends (range c Certs) g.certs) (ends (range c Json) g.json) (ends (range c San) g.san) (ends (range c Fens) g.fens) (ends (range c FlaggedDraws) g.flagged_draws) (ends (range c Changed) g.changed)
 
--- each of nine numbers
-pub record Nine (b w d e c j s f x : Option ℕ) (n : Numbers) : Type 0 where
+-- each of ten numbers
+pub record Ten (b w d e c j s f x y : Option ℕ) (n : Numbers) : Type 0 where
   pub budget : b ≡ Some n.budget
   pub workers : w ≡ Some n.workers
   pub depth : d ≡ Some n.depth
@@ -44,10 +44,11 @@ pub record Nine (b w d e c j s f x : Option ℕ) (n : Numbers) : Type 0 where
   pub san : s ≡ Some n.san
   pub fens : f ≡ Some n.fens
   pub flagged_draws : x ≡ Some n.flagged_draws
+  pub changed : y ≡ Some n.changed
 
-pub nine : (b w d e c j s f x : Option ℕ) (n : Numbers) → all_of b w d e c j s f x ≡ Some n → Nine b w d e c j s f x n
-nine (Some b) (Some w) (Some d) (Some e) (Some c) (Some j) (Some s) (Some f) (Some x) n h =
-    let same : record { budget = b; workers = w; depth = d; entries = e; certs = c; json = j; san = s; fens = f; flagged_draws = x } ≡ n = cc in record {
+pub ten : (b w d e c j s f x y : Option ℕ) (n : Numbers) → all_of b w d e c j s f x y ≡ Some n → Ten b w d e c j s f x y n
+ten (Some b) (Some w) (Some d) (Some e) (Some c) (Some j) (Some s) (Some f) (Some x) (Some y) n h =
+    let same : record { budget = b; workers = w; depth = d; entries = e; certs = c; json = j; san = s; fens = f; flagged_draws = x; changed = y } ≡ n = cc in record {
       budget = ap (λ (m : Numbers). Some m.budget) same;
       workers = ap (λ (m : Numbers). Some m.workers) same;
       depth = ap (λ (m : Numbers). Some m.depth) same;
@@ -57,16 +58,18 @@ nine (Some b) (Some w) (Some d) (Some e) (Some c) (Some j) (Some s) (Some f) (So
       san = ap (λ (m : Numbers). Some m.san) same;
       fens = ap (λ (m : Numbers). Some m.fens) same;
       flagged_draws = ap (λ (m : Numbers). Some m.flagged_draws) same;
+      changed = ap (λ (m : Numbers). Some m.changed) same;
     }
-nine None w d e c j s f x n h = cc
-nine (Some b) None d e c j s f x n h = cc
-nine (Some b) (Some w) None e c j s f x n h = cc
-nine (Some b) (Some w) (Some d) None c j s f x n h = cc
-nine (Some b) (Some w) (Some d) (Some e) None j s f x n h = cc
-nine (Some b) (Some w) (Some d) (Some e) (Some c) None s f x n h = cc
-nine (Some b) (Some w) (Some d) (Some e) (Some c) (Some j) None f x n h = cc
-nine (Some b) (Some w) (Some d) (Some e) (Some c) (Some j) (Some s) None x n h = cc
-nine (Some b) (Some w) (Some d) (Some e) (Some c) (Some j) (Some s) (Some f) None n h = cc
+ten None w d e c j s f x y n h = cc
+ten (Some b) None d e c j s f x y n h = cc
+ten (Some b) (Some w) None e c j s f x y n h = cc
+ten (Some b) (Some w) (Some d) None c j s f x y n h = cc
+ten (Some b) (Some w) (Some d) (Some e) None j s f x y n h = cc
+ten (Some b) (Some w) (Some d) (Some e) (Some c) None s f x y n h = cc
+ten (Some b) (Some w) (Some d) (Some e) (Some c) (Some j) None f x y n h = cc
+ten (Some b) (Some w) (Some d) (Some e) (Some c) (Some j) (Some s) None x y n h = cc
+ten (Some b) (Some w) (Some d) (Some e) (Some c) (Some j) (Some s) (Some f) None y n h = cc
+ten (Some b) (Some w) (Some d) (Some e) (Some c) (Some j) (Some s) (Some f) (Some x) None n h = cc
 
 pub of_some : {A : Type 0} (x y : A) → Some x ≡ Some y → x ≡ y
 of_some x y e = cc
@@ -75,19 +78,20 @@ pub at_end : (c : Command) (g : Given) (n : Numbers) → numbers_from c g [] ≡
 unfolding order_from
 at_end c g n e = ap (λ o. made_of c o (Some g.said)) e
 
-unmade : (c : Command) (said : Said) (n : Numbers) → (c ≡ Adjudicate → said ≡ Nothing → ⊥) → (c ≡ Position → said ≡ Nothing → ⊥) → (c ≡ Check → said ≡ Nothing → ⊥) → ((seed count : ℕ) → c ≡ Gen → said ≡ Games seed count → ⊥)
+unmade : (c : Command) (said : Said) (n : Numbers) → (c ≡ Adjudicate → said ≡ Nothing → ⊥) → (c ≡ Correct → said ≡ Nothing → ⊥) → (c ≡ Position → said ≡ Nothing → ⊥) → (c ≡ Check → said ≡ Nothing → ⊥) → ((seed count : ℕ) → c ≡ Gen → said ≡ Games seed count → ⊥)
     → ((side : Color) → c ≡ Mates → said ≡ Sided side → ⊥) → (c ≡ Replay → said ≡ Nothing → ⊥) → made c n said ≡ None
-unmade Adjudicate Nothing n ha hp hc hg hm hr = absurd (ha refl refl)
-unmade Position Nothing n ha hp hc hg hm hr = absurd (hp refl refl)
-unmade Check Nothing n ha hp hc hg hm hr = absurd (hc refl refl)
-unmade Gen (Games seed count) n ha hp hc hg hm hr = absurd (hg seed count refl refl)
-unmade Mates (Sided side) n ha hp hc hg hm hr = absurd (hm side refl refl)
-unmade Replay Nothing n ha hp hc hg hm hr = absurd (hr refl refl)
-unmade c said n ha hp hc hg hm hr = refl
+unmade Adjudicate Nothing n ha ho hp hc hg hm hr = absurd (ha refl refl)
+unmade Correct Nothing n ha ho hp hc hg hm hr = absurd (ho refl refl)
+unmade Position Nothing n ha ho hp hc hg hm hr = absurd (hp refl refl)
+unmade Check Nothing n ha ho hp hc hg hm hr = absurd (hc refl refl)
+unmade Gen (Games seed count) n ha ho hp hc hg hm hr = absurd (hg seed count refl refl)
+unmade Mates (Sided side) n ha ho hp hc hg hm hr = absurd (hm side refl refl)
+unmade Replay Nothing n ha ho hp hc hg hm hr = absurd (hr refl refl)
+unmade c said n ha ho hp hc hg hm hr = refl
 
 module _ (c : Command) (g : Given) (n : Numbers) (is : numbers_from c g [] ≡ Some n) where
-  each : Nine (chosen_from (range c Budget) g.budget []) (chosen_from (range c Workers) g.workers []) (chosen_from (range c Depth) g.depth []) (chosen_from (range c Entries) g.entries []) (chosen_from (range c Certs) g.certs []) (chosen_from (range c Json) g.json []) (chosen_from (range c San) g.san []) (chosen_from (range c Fens) g.fens []) (chosen_from (range c FlaggedDraws) g.flagged_draws []) n
-  each = nine _ _ _ _ _ _ _ _ _ n is
+  each : Ten (chosen_from (range c Budget) g.budget []) (chosen_from (range c Workers) g.workers []) (chosen_from (range c Depth) g.depth []) (chosen_from (range c Entries) g.entries []) (chosen_from (range c Certs) g.certs []) (chosen_from (range c Json) g.json []) (chosen_from (range c San) g.san []) (chosen_from (range c Fens) g.fens []) (chosen_from (range c FlaggedDraws) g.flagged_draws []) (chosen_from (range c Changed) g.changed []) n
+  each = ten _ _ _ _ _ _ _ _ _ _ n is
 
   limited : (l : Bounds) → IfSome (numbers_from c g []) (λ n. l ≡ bounds n) → l ≡ bounds n
   limited l h = let k = rw is at h in k
@@ -98,12 +102,22 @@ module _ (c : Command) (g : Given) (n : Numbers) (is : numbers_from c g [] ≡ S
   examined : (x : Bool) → IfSome (numbers_from c g []) (λ n. x ≡ examines n) → x ≡ examines n
   examined x h = let k = rw is at h in k
 
+  selected : (x : Bool) → IfSome (numbers_from c g []) (λ n. x ≡ selects n) → x ≡ selects n
+  selected x h = let k = rw is at h in k
+
+  -- only changed games are written, by what is chosen
+  pub changes_chosen : (k : ℕ) → chosen_from (range c Changed) g.changed [] ≡ Some k → IfSome (numbers_from c g []) (λ n. (k == 1) ≡ selects n)
+  changes_chosen k h = let same : k ≡ n.changed = of_some k n.changed (sym h ∙ each.changed) in rw (is, same) refl
+
   -- drawn games are examined, by what is chosen
   pub draws_chosen : (k : ℕ) → chosen_from (range c FlaggedDraws) g.flagged_draws [] ≡ Some k → IfSome (numbers_from c g []) (λ n. (k == 1) ≡ examines n)
   draws_chosen k h = let same : k ≡ n.flagged_draws = of_some k n.flagged_draws (sym h ∙ each.flagged_draws) in rw (is, same) refl
 
   pub games_made : (l : Bounds) (x : Bool) (p : Printing) → c ≡ Adjudicate → g.said ≡ Nothing → IfSome (numbers_from c g []) (λ n. l ≡ bounds n) → IfSome (numbers_from c g []) (λ n. x ≡ examines n) → IfSome (numbers_from c g []) (λ n. p ≡ printing n) → Some (AdjudicateGames l x p) ≡ order_from c g []
   games_made l x p e s h hx hp = rw (at_end c g n is, e, s, limited l h, examined x hx, printed p hp) refl
+
+  pub games_corrected : (l : Bounds) (x y : Bool) → c ≡ Correct → g.said ≡ Nothing → IfSome (numbers_from c g []) (λ n. l ≡ bounds n) → IfSome (numbers_from c g []) (λ n. x ≡ examines n) → IfSome (numbers_from c g []) (λ n. y ≡ selects n) → Some (CorrectGames l x y) ≡ order_from c g []
+  games_corrected l x y e s h hx hy = rw (at_end c g n is, e, s, limited l h, examined x hx, selected y hy) refl
 
   pub positions_made : (l : Bounds) (p : Printing) → c ≡ Position → g.said ≡ Nothing → IfSome (numbers_from c g []) (λ n. l ≡ bounds n) → IfSome (numbers_from c g []) (λ n. p ≡ printing n) → Some (JudgePositions l p) ≡ order_from c g []
   positions_made l p e s h hp = rw (at_end c g n is, e, s, limited l h, printed p hp) refl
@@ -135,9 +149,9 @@ module _ (c : Command) (g : Given) (n : Numbers) (is : numbers_from c g [] ≡ S
   replays_made p e s hp = rw (at_end c g n is, e, s, printed p hp) refl
 
   -- a command whose further words are not complete
-  pub not_made : (c ≡ Adjudicate → g.said ≡ Nothing → ⊥) → (c ≡ Position → g.said ≡ Nothing → ⊥) → (c ≡ Check → g.said ≡ Nothing → ⊥) → ((seed count : ℕ) → c ≡ Gen → g.said ≡ Games seed count → ⊥)
+  pub not_made : (c ≡ Adjudicate → g.said ≡ Nothing → ⊥) → (c ≡ Correct → g.said ≡ Nothing → ⊥) → (c ≡ Position → g.said ≡ Nothing → ⊥) → (c ≡ Check → g.said ≡ Nothing → ⊥) → ((seed count : ℕ) → c ≡ Gen → g.said ≡ Games seed count → ⊥)
       → ((side : Color) → c ≡ Mates → g.said ≡ Sided side → ⊥) → (c ≡ Replay → g.said ≡ Nothing → ⊥) → None ≡ order_from c g []
-  not_made ha hp hc hg hm hr = rw (at_end c g n is) (sym (unmade c g.said n ha hp hc hg hm hr))
+  not_made ha ho hp hc hg hm hr = rw (at_end c g n is) (sym (unmade c g.said n ha ho hp hc hg hm hr))
 
 -- an option whose number never comes
 none_awaited : (c : Command) (g : Given) (s : Setting) (o : Option Range) → open_in c g s ≡ o → order_from c g (Value s [] ∷ []) ≡ None

@@ -3,7 +3,7 @@ use Rattle.std.proofs.Common.{◌≡◌, ◌↔◌, ℕ, Bool, true, false, List
 use Rattle.cha_words.specs.declared.orders.Order.{Order}
 use Rattle.cha_words.specs.declared.table.Command.{Command}
 use Rattle.cha_words.specs.declared.table.Setting.{Setting}
-use Rattle.cha_words.specs.declared.table.Setting.TheVariants.{Budget, Workers, Depth, Entries, Certs, Json, San, Fens, FlaggedDraws}
+use Rattle.cha_words.specs.declared.table.Setting.TheVariants.{Budget, Workers, Depth, Entries, Certs, Json, San, Fens, FlaggedDraws, Changed}
 use Rattle.cha_words.specs.declared.table.Range.{Range}
 use Rattle.cha_words.specs.declared.given.Given.{Given}
 use Rattle.cha_words.specs.declared.given.Said.{Said}
@@ -51,6 +51,7 @@ flag_number Json e = refl
 flag_number San e = refl
 flag_number Fens e = refl
 flag_number FlaggedDraws e = refl
+flag_number Changed e = refl
 flag_number Budget e = cc
 flag_number Workers e = cc
 flag_number Depth e = cc

@@ -10,11 +10,11 @@ use Rattle.cha_board.specs.declared.men.Color.TheVariants.{White, Black}
 use Rattle.cha_limits.specs.Bounds.{Bounds}
 use Rattle.cha_words.specs.declared.orders.Order.{Order}
 use Rattle.cha_words.specs.declared.orders.Printing.{Printing}
-use Rattle.cha_words.specs.declared.orders.Order.TheVariants.{AdjudicateGames, JudgePositions, CheckCert, GenGames, ListMates, ReplayGames}
+use Rattle.cha_words.specs.declared.orders.Order.TheVariants.{AdjudicateGames, CorrectGames, JudgePositions, CheckCert, GenGames, ListMates, ReplayGames}
 use Rattle.cha_words.specs.declared.table.Command.{Command}
-use Rattle.cha_words.specs.declared.table.Command.TheVariants.{Adjudicate, Position, Check, Gen, Mates, Replay}
+use Rattle.cha_words.specs.declared.table.Command.TheVariants.{Adjudicate, Correct, Position, Check, Gen, Mates, Replay}
 use Rattle.cha_words.specs.declared.table.Setting.{Setting}
-use Rattle.cha_words.specs.declared.table.Setting.TheVariants.{Budget, Workers, Depth, Entries, Certs, Json, San, Fens, FlaggedDraws}
+use Rattle.cha_words.specs.declared.table.Setting.TheVariants.{Budget, Workers, Depth, Entries, Certs, Json, San, Fens, FlaggedDraws, Changed}
 use Rattle.cha_words.specs.declared.table.Range.{Range}
 use Rattle.cha_words.specs.declared.table.Argument.{Argument}
 use Rattle.cha_words.specs.declared.table.Argument.TheVariants.{Seed, Count, Side}
@@ -35,11 +35,12 @@ number least most word = if is_number least most word then Some (digits_value 10
 unfoldable pub command_named : List ℕ → Option Command
 command_named word =
     if bytes_eq word (codes "adjudicate") then Some Adjudicate
+    else (if bytes_eq word (codes "correct") then Some Correct
     else (if bytes_eq word (codes "position") then Some Position
     else (if bytes_eq word (codes "check") then Some Check
     else (if bytes_eq word (codes "gen") then Some Gen
     else (if bytes_eq word (codes "mates") then Some Mates
-    else (if bytes_eq word (codes "replay") then Some Replay else None)))))
+    else (if bytes_eq word (codes "replay") then Some Replay else None))))))
 
 -- the option that a word names, letter by letter
 unfoldable pub setting_named : List ℕ → Option Setting
@@ -52,7 +53,8 @@ setting_named word =
     else (if bytes_eq word (codes "--json") then Some Json
     else (if bytes_eq word (codes "--san") then Some San
     else (if bytes_eq word (codes "--fens") then Some Fens
-    else (if bytes_eq word (codes "--flagged-draws") then Some FlaggedDraws else None))))))))
+    else (if bytes_eq word (codes "--flagged-draws") then Some FlaggedDraws
+    else (if bytes_eq word (codes "--changed") then Some Changed else None)))))))))
 
 -- a flag stands alone, which counts as the number 1; any other option stands with a number
 abbrev pub is_flag : Setting → Bool
@@ -61,6 +63,7 @@ is_flag Json = true
 is_flag San = true
 is_flag Fens = true
 is_flag FlaggedDraws = true
+is_flag Changed = true
 is_flag _ = false
 
 -- numbers from least to most, and the one that counts where the option does not stand
@@ -78,11 +81,19 @@ for_search workers Json = from_to 0 1 0
 for_search workers San = from_to 0 1 0
 for_search workers Fens = from_to 0 1 0
 for_search workers FlaggedDraws = from_to 0 1 0
+for_search workers Changed = from_to 0 1 0
 
 -- the table of options: the numbers that an option takes behind a command, or None where it does not stand there
 abbrev pub range : Command → Setting → Option Range
+range Adjudicate Changed = None
 range Adjudicate setting = Some (for_search 2 setting)
+range Correct Certs = None
+range Correct Json = None
+range Correct San = None
+range Correct Fens = None
+range Correct setting = Some (for_search 2 setting)
 range Position FlaggedDraws = None
+range Position Changed = None
 range Position setting = Some (for_search 2 setting)
 range Check setting = None
 range Gen Certs = None
@@ -90,6 +101,7 @@ range Gen Json = None
 range Gen San = None
 range Gen Fens = None
 range Gen FlaggedDraws = None
+range Gen Changed = None
 range Gen setting = Some (for_search 1 setting)
 range Mates Workers = Some (from_to 1 16 2)
 range Mates Depth = Some (from_to 1 6 4)
@@ -165,6 +177,7 @@ value_for Json (Value Json word) = Some word
 value_for San (Value San word) = Some word
 value_for Fens (Value Fens word) = Some word
 value_for FlaggedDraws (Value FlaggedDraws word) = Some word
+value_for Changed (Value Changed word) = Some word
 value_for _ _ = None
 
 -- the word that a part is
@@ -192,12 +205,13 @@ pub record Numbers : Type 0 where
   pub san : ℕ
   pub fens : ℕ
   pub flagged_draws : ℕ
+  pub changed : ℕ
 
 -- all of them, where each is one
-abbrev pub all_of : Option ℕ → Option ℕ → Option ℕ → Option ℕ → Option ℕ → Option ℕ → Option ℕ → Option ℕ → Option ℕ → Option Numbers
-all_of (Some budget) (Some workers) (Some depth) (Some entries) (Some certs) (Some json) (Some san) (Some fens) (Some draws) =
-    Some (record { budget = budget; workers = workers; depth = depth; entries = entries; certs = certs; json = json; san = san; fens = fens; flagged_draws = draws })
-all_of _ _ _ _ _ _ _ _ _ = None
+abbrev pub all_of : Option ℕ → Option ℕ → Option ℕ → Option ℕ → Option ℕ → Option ℕ → Option ℕ → Option ℕ → Option ℕ → Option ℕ → Option Numbers
+all_of (Some budget) (Some workers) (Some depth) (Some entries) (Some certs) (Some json) (Some san) (Some fens) (Some draws) (Some changed) =
+    Some (record { budget = budget; workers = workers; depth = depth; entries = entries; certs = certs; json = json; san = san; fens = fens; flagged_draws = draws; changed = changed })
+all_of _ _ _ _ _ _ _ _ _ _ = None
 
 -- what a word says that is no option, behind those that said the second argument
 abbrev pub say : Option Argument → Said → List ℕ → Option Said
@@ -220,6 +234,10 @@ bounds n = record { budget = n.budget; depth = n.depth; workers = n.workers; ent
 abbrev pub examines : Numbers → Bool
 examines n = n.flagged_draws == 1
 
+-- only the games whose result changes are written, by the numbers of the options
+abbrev pub selects : Numbers → Bool
+selects n = n.changed == 1
+
 -- how a report is printed, by the numbers of the options
 abbrev pub printing : Numbers → Printing
 printing n = record { certs = n.certs == 1; json = n.json == 1; san = n.san == 1; fens = n.fens == 1 }
@@ -227,6 +245,7 @@ printing n = record { certs = n.certs == 1; json = n.json == 1; san = n.san == 1
 -- the order of a command, by the numbers of its options and what its further words say
 abbrev pub made : Command → Numbers → Said → Option Order
 made Adjudicate n Nothing = Some (AdjudicateGames (bounds n) (examines n) (printing n))
+made Correct n Nothing = Some (CorrectGames (bounds n) (examines n) (selects n))
 made Position n Nothing = Some (JudgePositions (bounds n) (printing n))
 made Check n Nothing = Some CheckCert
 made Gen n (Games seed count) = Some (GenGames (bounds n) seed count)
@@ -242,7 +261,7 @@ made_of command _ _ = None
 -- the numbers of all options, by the parts of the words
 abbrev pub numbers : Command → List Part → Option Numbers
 numbers command cut = let number_of : Setting → Option ℕ = λ setting. chosen (range command setting) (filter_map (value_for setting) cut) in
-    all_of (number_of Budget) (number_of Workers) (number_of Depth) (number_of Entries) (number_of Certs) (number_of Json) (number_of San) (number_of Fens) (number_of FlaggedDraws)
+    all_of (number_of Budget) (number_of Workers) (number_of Depth) (number_of Entries) (number_of Certs) (number_of Json) (number_of San) (number_of Fens) (number_of FlaggedDraws) (number_of Changed)
 
 -- what a command orders with the words behind it
 unfoldable pub order_by : Command → List (List ℕ) → Option Order
@@ -265,6 +284,7 @@ order words = order_of (map string_bytes words)
 -- what an order lets a search of verdicts spend; a check, the shortest mates and the moves of games have none
 abbrev pub limits_in : Order → Option Bounds
 limits_in (AdjudicateGames spend draws printing) = Some spend
+limits_in (CorrectGames spend draws changed) = Some spend
 limits_in (JudgePositions spend printing) = Some spend
 limits_in CheckCert = None
 limits_in (GenGames spend seed count) = Some spend

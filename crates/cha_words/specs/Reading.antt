@@ -4,7 +4,7 @@ use Rattle.cha_words.specs.declared.orders.Order.{Order}
 use Rattle.cha_words.specs.declared.table.Command.{Command}
 use Rattle.cha_words.specs.declared.table.Command.TheVariants.{Check, Gen, Mates, Replay}
 use Rattle.cha_words.specs.declared.table.Setting.{Setting}
-use Rattle.cha_words.specs.declared.table.Setting.TheVariants.{Budget, Workers, Depth, Entries, Certs, Json, San, Fens, FlaggedDraws}
+use Rattle.cha_words.specs.declared.table.Setting.TheVariants.{Budget, Workers, Depth, Entries, Certs, Json, San, Fens, FlaggedDraws, Changed}
 use Rattle.cha_words.specs.declared.table.Range.{Range}
 use Rattle.cha_words.specs.declared.given.Given.{Given}
 use Rattle.cha_words.specs.declared.given.Said.{Said}
@@ -37,6 +37,7 @@ value_in Json given = given.json
 value_in San given = given.san
 value_in Fens given = given.fens
 value_in FlaggedDraws given = given.flagged_draws
+value_in Changed given = given.changed
 
 -- the same with an option given
 abbrev pub put : Setting → ℕ → Given → Given
@@ -49,10 +50,11 @@ put Json n given = record given { json = Some n }
 put San n given = record given { san = Some n }
 put Fens n given = record given { fens = Some n }
 put FlaggedDraws n given = record given { flagged_draws = Some n }
+put Changed n given = record given { changed = Some n }
 
 -- nothing is given
 abbrev pub nothing : Given
-nothing = record { budget = None; workers = None; depth = None; entries = None; certs = None; json = None; san = None; fens = None; flagged_draws = None; said = Nothing }
+nothing = record { budget = None; workers = None; depth = None; entries = None; certs = None; json = None; san = None; fens = None; flagged_draws = None; changed = None; said = Nothing }
 
 -- the numbers that an option may be given now: none where it is given already, or where the command does not take it
 abbrev pub open_by : Option ℕ → Option Range → Option Range
@@ -71,7 +73,7 @@ chosen_from range (Some n) (word ∷ words) = None
 -- the numbers of all options, with the parts that are still to come
 abbrev pub numbers_from : Command → Given → List Part → Option Numbers
 numbers_from command given parts = let number_of : Setting → Option ℕ = λ setting. chosen_from (range command setting) (value_in setting given) (filter_map (value_for setting) parts) in
-    all_of (number_of Budget) (number_of Workers) (number_of Depth) (number_of Entries) (number_of Certs) (number_of Json) (number_of San) (number_of Fens) (number_of FlaggedDraws)
+    all_of (number_of Budget) (number_of Workers) (number_of Depth) (number_of Entries) (number_of Certs) (number_of Json) (number_of San) (number_of Fens) (number_of FlaggedDraws) (number_of Changed)
 
 -- what a command orders with what is given and the parts that are still to come
 unfoldable pub order_from : Command → Given → List Part → Option Order

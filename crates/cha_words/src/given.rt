@@ -45,6 +45,8 @@ pub struct Given {
     pub fens: Option<u64>,
     /// Of `--flagged-draws`.
     pub flagged_draws: Option<u64>,
+    /// Of `--changed`.
+    pub changed: Option<u64>,
     /// What words said that are no options.
     pub said: Said,
 }
@@ -72,6 +74,7 @@ pub fn value(given: Given, setting: Setting) -> Option<u64>
         Setting::San => given.san,
         Setting::Fens => given.fens,
         Setting::FlaggedDraws => given.flagged_draws,
+        Setting::Changed => given.changed,
     }
 }
 
@@ -100,6 +103,7 @@ fn with(given: Given, setting: Setting, value: u64) -> Given
         Setting::San => next.san = Some(value),
         Setting::Fens => next.fens = Some(value),
         Setting::FlaggedDraws => next.flagged_draws = Some(value),
+        Setting::Changed => next.changed = Some(value),
     }
     next
 }

@@ -1,11 +1,12 @@
 //! The language of the words behind the program's name.
 //!
 //! `table` has the commands, their options and further words, `numbers` the numbers, `given` what the words behind the command give,
-//! `orders` what the words order, and `faults` where words leave the language.
+//! `orders` what the words order, `making` what a command makes of what is given, and `faults` where words leave the language.
 #![tactic(auto)]
 
 mod faults;
 mod given;
+mod making;
 mod numbers;
 mod orders;
 mod table;

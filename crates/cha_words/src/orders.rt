@@ -2,16 +2,17 @@
 
 ghost use Rattle.std.specs.Prelude.{◌≡◌, ◌≤◌, ℕ, List, Some, [], map, string_bytes, IfOk, IfErr, IfSome, IsNone, IsSome, ◌↔◌};
 ghost use Rattle.cha_limits.specs.Bounds.{Bounds};
-ghost use Rattle.cha_words.specs.Language.{limits_in, bounds, examines, printing as printing_by, order, order_by, order_of, range};
+ghost use Rattle.cha_words.specs.Language.{limits_in, order, order_by, order_of};
 ghost use Rattle.cha_words.specs.Faults.{IsFault, IsFaultOf};
-ghost use Rattle.cha_words.specs.Reading.{Fits, IsIn, IsSearch, Stands, chosen_from, numbers_from, order_from, order_with, value_in};
+ghost use Rattle.cha_words.specs.Reading.{Stands, order_with};
 ghost use Rattle.cha_words.specs.declared.orders.Order.TheVariants.{GenGames, ListMates};
 ghost use Rattle.cha_board.specs.declared.men.Color.{Color as Side};
 ghost use Rattle.cha_words.specs.declared.orders.Printing.{Printing as Printed};
 
 use crate::faults::{Expected, UsageFault};
-use crate::given::{Given, Progress, Said, value, with_word};
-use crate::table::{Command, Setting, command_of, range_of};
+use crate::given::{Given, Progress, Said, with_word};
+use crate::making::made;
+use crate::table::{Command, command_of};
 use cha_board::Color;
 use cha_limits::Limits;
 
@@ -39,6 +40,15 @@ pub enum Order {
         flagged_draws: bool,
         /// How the report is printed.
         printing: Printing,
+    },
+    /// `correct`: write the input, which is in PGN, with the right results.
+    CorrectGames {
+        /// What a search may spend on a side.
+        limits: Limits,
+        /// Whether drawn games whose flag fell are examined.
+        flagged_draws: bool,
+        /// Whether only the games whose result changes are written.
+        changed: bool,
     },
     /// `position`: judge each line of the input as a position in FEN.
     JudgePositions {
@@ -83,6 +93,7 @@ impl Order {
     {
         match self {
             Order::AdjudicateGames { limits, .. }
+            | Order::CorrectGames { limits, .. }
             | Order::JudgePositions { limits, .. }
             | Order::GenGames { limits, .. } => Some(*limits),
             Order::CheckCert | Order::ListMates { .. } | Order::ReplayGames { .. } => None,
@@ -95,14 +106,15 @@ impl Order {
 /// | Command | Options, each at most once and in any order | Further words |
 /// |---|---|---|
 /// | `adjudicate` | `--budget`, `--workers`, `--depth`, `--entries`, `--certs`, `--json`, `--san`, `--fens`, `--flagged-draws` | none |
+/// | `correct` | `--budget`, `--workers`, `--depth`, `--entries`, `--flagged-draws`, `--changed` | none |
 /// | `position` | `--budget`, `--workers`, `--depth`, `--entries`, `--certs`, `--json`, `--san`, `--fens` | none |
 /// | `gen` | `--budget`, `--workers`, `--depth`, `--entries` | the seed, and then the number of games |
 /// | `check` | none | none |
 /// | `mates` | `--workers`, `--depth`, `--json`, `--san` | the side, `w` or `b` |
 /// | `replay` | `--json` | none |
 ///
-/// An option with a number is `--name N` in two words or `--name=N` in one, and `--certs`, `--json`, `--san`, `--fens` and
-/// `--flagged-draws` take no value. A number is 1 to 20 ASCII digits, leading zeros among them.
+/// An option with a number is `--name N` in two words or `--name=N` in one, and `--certs`, `--json`, `--san`, `--fens`,
+/// `--flagged-draws` and `--changed` take no value. A number is 1 to 20 ASCII digits, leading zeros among them.
 ///
 /// | Number | From | To | Where it does not stand |
 /// |---|---|---|---|
@@ -185,6 +197,7 @@ fn read_behind(command: Command, words: &[String]) -> Result<Order, UsageFault>
             san: None,
             fens: None,
             flagged_draws: None,
+            changed: None,
             said: Said::Nothing,
         },
         awaited: None,
@@ -219,88 +232,5 @@ fn ended(command: Command, progress: Progress) -> Option<Order>
     match progress.awaited {
         Some(_) => None,
         None => made(command, progress.given),
-    }
-}
-
-/// What a command orders with what is given.
-fn made(command: Command, given: Given) -> Option<Order>
-    requires { Fits command given }
-    ensures { result ≡ order_from command given [] }
-{
-    match (command, given.said) {
-        (Command::Adjudicate, Said::Nothing) => Some(Order::AdjudicateGames {
-            limits: limits(command, given),
-            flagged_draws: draws(command, given),
-            printing: printed(command, given),
-        }),
-        (Command::Position, Said::Nothing) => Some(Order::JudgePositions {
-            limits: limits(command, given),
-            printing: printed(command, given),
-        }),
-        (Command::Check, Said::Nothing) => Some(Order::CheckCert),
-        (Command::Gen, Said::Games(seed, count)) => Some(Order::GenGames {
-            limits: limits(command, given),
-            seed,
-            count: count as u32,
-        }),
-        (Command::Mates, Said::Sided(side)) => Some(Order::ListMates {
-            side,
-            workers: chosen(command, given, Setting::Workers) as u32,
-            depth: chosen(command, given, Setting::Depth) as u8,
-            printing: printed(command, given),
-        }),
-        (Command::Replay, Said::Nothing) => Some(Order::ReplayGames {
-            printing: printed(command, given),
-        }),
-        _ => None,
-    }
-}
-
-/// How the report is printed.
-fn printed(command: Command, given: Given) -> Printing
-    requires { Fits command given }
-    ensures { IfSome (numbers_from command given []) (λ n. result ≡ printing_by n) }
-{
-    Printing {
-        certs: chosen(command, given, Setting::Certs) == 1,
-        json: chosen(command, given, Setting::Json) == 1,
-        san: chosen(command, given, Setting::San) == 1,
-        fens: chosen(command, given, Setting::Fens) == 1,
-    }
-}
-
-/// Whether drawn games whose flag fell are examined.
-fn draws(command: Command, given: Given) -> bool
-    requires { Fits command given }
-    ensures { IfSome (numbers_from command given []) (λ n. result ≡ examines n) }
-{
-    chosen(command, given, Setting::FlaggedDraws) == 1
-}
-
-/// What a search of verdicts may spend.
-fn limits(command: Command, given: Given) -> Limits
-    requires fits { Fits command given }
-    requires search { IsSearch command }
-    ensures { IfSome (numbers_from command given []) (λ n. result ≡ bounds n) }
-{
-    let budget = chosen(command, given, Setting::Budget);
-    let depth = chosen(command, given, Setting::Depth);
-    let workers = chosen(command, given, Setting::Workers);
-    let entries = chosen(command, given, Setting::Entries);
-    Limits::new(budget as u32, depth as u8, workers as u32, entries as u32)
-}
-
-/// The number that is given to an option, or else its usual one, or 0 where the command does not take it.
-fn chosen(command: Command, given: Given, setting: Setting) -> u64
-    requires { Fits command given }
-    ensures value { chosen_from (range command setting) (value_in setting given) [] ≡ Some result }
-    ensures range { IsIn (range command setting) result }
-{
-    match value(given, setting) {
-        Some(number) => number,
-        None => match range_of(command, setting) {
-            Some(range) => range.usual,
-            None => 0,
-        },
     }
 }

@@ -13,6 +13,8 @@ use cha_board::Color;
 pub enum Command {
     /// To judge games.
     Adjudicate,
+    /// To write games with the right results.
+    Correct,
     /// To judge positions.
     Position,
     /// To check a certificate.
@@ -26,8 +28,9 @@ pub enum Command {
 }
 
 /// Each command.
-pub const COMMANDS: [Command; 6] = [
+pub const COMMANDS: [Command; 7] = [
     Command::Adjudicate,
+    Command::Correct,
     Command::Position,
     Command::Check,
     Command::Mates,
@@ -56,10 +59,12 @@ pub enum Setting {
     Fens,
     /// `--flagged-draws`, a flag: whether drawn games whose flag fell are examined.
     FlaggedDraws,
+    /// `--changed`, a flag: whether only the games whose result changes are written.
+    Changed,
 }
 
 /// Each option.
-pub const SETTINGS: [Setting; 9] = [
+pub const SETTINGS: [Setting; 10] = [
     Setting::Budget,
     Setting::Workers,
     Setting::Depth,
@@ -69,6 +74,7 @@ pub const SETTINGS: [Setting; 9] = [
     Setting::San,
     Setting::Fens,
     Setting::FlaggedDraws,
+    Setting::Changed,
 ];
 
 /// The numbers that an option takes behind a command.
@@ -100,6 +106,8 @@ pub fn command_of(word: &str) -> Option<Command>
 {
     if word == "adjudicate" {
         Some(Command::Adjudicate)
+    } else if word == "correct" {
+        Some(Command::Correct)
     } else if word == "position" {
         Some(Command::Position)
     } else if word == "check" {
@@ -122,6 +130,7 @@ pub fn command_name(command: Command) -> &'static str
 {
     match command {
         Command::Adjudicate => "adjudicate",
+        Command::Correct => "correct",
         Command::Position => "position",
         Command::Check => "check",
         Command::Gen => "gen",
@@ -153,6 +162,8 @@ pub fn setting_of(word: &str) -> Option<Setting>
         Some(Setting::Fens)
     } else if word == "--flagged-draws" {
         Some(Setting::FlaggedDraws)
+    } else if word == "--changed" {
+        Some(Setting::Changed)
     } else {
         None
     }
@@ -173,6 +184,7 @@ pub fn setting_name(setting: Setting) -> &'static str
         Setting::San => "--san",
         Setting::Fens => "--fens",
         Setting::FlaggedDraws => "--flagged-draws",
+        Setting::Changed => "--changed",
     }
 }
 
@@ -181,8 +193,12 @@ pub fn is_flag(setting: Setting) -> bool
     ensures { result ≡ stands_alone setting }
 {
     match setting {
-        Setting::Certs | Setting::Json | Setting::San | Setting::Fens | Setting::FlaggedDraws =>
-            true,
+        Setting::Certs
+        | Setting::Json
+        | Setting::San
+        | Setting::Fens
+        | Setting::FlaggedDraws
+        | Setting::Changed => true,
         Setting::Budget | Setting::Workers | Setting::Depth | Setting::Entries => false,
     }
 }
@@ -203,8 +219,7 @@ fn for_search(workers: u64, setting: Setting) -> Range
         Setting::Workers => from_to(1, 16, workers),
         Setting::Depth => from_to(2, 8, 4),
         Setting::Entries => from_to(1, 65_536, 4_096),
-        Setting::Certs | Setting::Json | Setting::San | Setting::Fens | Setting::FlaggedDraws =>
-            from_to(0, 1, 0),
+        _ => from_to(0, 1, 0),
     }
 }
 
@@ -213,16 +228,24 @@ pub fn range_of(command: Command, setting: Setting) -> Option<Range>
     ensures { result ≡ range command setting }
 {
     match command {
-        Command::Adjudicate => Some(for_search(2, setting)),
+        Command::Adjudicate => match setting {
+            Setting::Changed => None,
+            _ => Some(for_search(2, setting)),
+        },
+        Command::Correct => match setting {
+            Setting::Certs | Setting::Json | Setting::San | Setting::Fens => None,
+            _ => Some(for_search(2, setting)),
+        },
         Command::Position => match setting {
-            Setting::FlaggedDraws => None,
+            Setting::FlaggedDraws | Setting::Changed => None,
             _ => Some(for_search(2, setting)),
         },
         Command::Check => None,
         Command::Gen => match setting {
-            Setting::Certs | Setting::Json | Setting::San | Setting::Fens | Setting::FlaggedDraws =>
-                None,
-            _ => Some(for_search(1, setting)),
+            Setting::Budget | Setting::Workers | Setting::Depth | Setting::Entries => Some(
+                for_search(1, setting),
+            ),
+            _ => None,
         },
         Command::Mates => match setting {
             Setting::Workers => Some(from_to(1, 16, 2)),
@@ -232,7 +255,8 @@ pub fn range_of(command: Command, setting: Setting) -> Option<Range>
             | Setting::Entries
             | Setting::Certs
             | Setting::Fens
-            | Setting::FlaggedDraws => None,
+            | Setting::FlaggedDraws
+            | Setting::Changed => None,
         },
         Command::Replay => match setting {
             Setting::Json => Some(from_to(0, 1, 0)),

@@ -15,7 +15,7 @@ pub const NOTHING: &str = "nothing";
 
 /// Each row is words between single spaces, and then what they order: the command, the positions expanded for a side, the plies
 /// of the rounds, the workers, the rows of each shard, and whether certificates are printed, or the seed and the number of games;
-/// behind that how the report is printed, and whether drawn games whose flag fell are examined.
+/// behind that how the report is printed, whether drawn games whose flag fell are examined, and whether only changed games are written.
 const ROWS: &[(&str, &str)] = &[
     ("adjudicate", "games 20000 4 2 4096 false"),
     ("position", "positions 20000 4 2 4096 false"),
@@ -89,6 +89,35 @@ const ROWS: &[(&str, &str)] = &[
         "adjudicate --flagged-draws --budget=5 --json --certs",
         "games 5 4 2 4096 true json draws",
     ),
+    ("correct", "correct 20000 4 2 4096"),
+    ("correct --changed", "correct 20000 4 2 4096 changed"),
+    ("correct --flagged-draws", "correct 20000 4 2 4096 draws"),
+    (
+        "correct --changed --flagged-draws",
+        "correct 20000 4 2 4096 draws changed",
+    ),
+    (
+        "correct --entries 9 --depth=3 --changed --workers 16 --budget=100000",
+        "correct 100000 3 16 9 changed",
+    ),
+    ("correct --changed --changed", NOTHING),
+    ("correct --changed=1", NOTHING),
+    ("correct --changed 1", NOTHING),
+    ("correct --certs", NOTHING),
+    ("correct --json", NOTHING),
+    ("correct --san", NOTHING),
+    ("correct --fens", NOTHING),
+    ("correct --depth 1", NOTHING),
+    ("correct --budget 100001", NOTHING),
+    ("correct w", NOTHING),
+    ("Correct", NOTHING),
+    ("corrected", NOTHING),
+    ("adjudicate --changed", NOTHING),
+    ("position --changed", NOTHING),
+    ("check --changed", NOTHING),
+    ("mates w --changed", NOTHING),
+    ("replay --changed", NOTHING),
+    ("gen 1 2 --changed", NOTHING),
     ("adjudicate --flagged-draws --flagged-draws", NOTHING),
     ("adjudicate --flagged-draws=1", NOTHING),
     ("position --flagged-draws", NOTHING),
@@ -245,6 +274,17 @@ fn said_of(alloc: Global, order: &Option<Order>) -> Result<String, Fail> {
                 style_of(printing)
             )?
         }
+        Some(
+            Order::CorrectGames {
+                limits,
+                flagged_draws,
+                changed,
+            },
+        ) => {
+            let draws = if *flagged_draws { " draws" } else { "" };
+            let changed = if *changed { " changed" } else { "" };
+            format!(in alloc; "correct {}{draws}{changed}", spent(alloc, limits)?)?
+        }
         Some(Order::JudgePositions { limits, printing }) => {
             let certs = printing.certs;
             format!(in alloc;
@@ -304,6 +344,9 @@ const JUDGING: &str = " --budget --workers --depth --entries --certs --json --sa
 const OF_GAMES: &str =
     " --budget --workers --depth --entries --certs --json --san --fens --flagged-draws";
 
+/// The options of `correct`.
+const OF_CORRECTED: &str = " --budget --workers --depth --entries --flagged-draws --changed";
+
 /// Lists of words that order nothing, how many words stand before the first at which they leave the language, and what may stand there:
 /// a command, a number, or the next further word and the options that did not stand.
 const FAULTS: &[(&str, usize, &str)] = &[
@@ -338,6 +381,15 @@ const FAULTS: &[(&str, usize, &str)] = &[
         3,
         " --workers --depth --entries --certs --json --san --fens",
     ),
+    ("correct --json", 1, OF_CORRECTED),
+    ("correct --changed=1", 1, OF_CORRECTED),
+    ("adjudicate --changed", 1, OF_GAMES),
+    (
+        "correct --depth 4 --changed --flagged-draws w",
+        5,
+        " --budget --workers --entries",
+    ),
+    ("correct --changed --depth 9", 3, "2 to 8"),
     ("adjudicate --workers 17", 2, "1 to 16"),
     ("adjudicate --entries", 2, "1 to 65536"),
     ("gen", 1, " SEED --budget --workers --depth --entries"),

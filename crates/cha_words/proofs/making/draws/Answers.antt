@@ -1,5 +1,5 @@
 use Rattle.cha_words.proofs.Ending.{whole, draws_chosen}
-use Rattle.cha_words.proofs.orders.draws.Goals as goal
+use Rattle.cha_words.proofs.making.draws.Goals as goal
 
 pub returns : goal.returns
 returns c =

@@ -1,5 +1,5 @@
 use Rattle.cha_words.proofs.Ending.{whole, printing_chosen}
-use Rattle.cha_words.proofs.orders.printed.Goals as goal
+use Rattle.cha_words.proofs.making.printed.Goals as goal
 
 pub returns : goal.returns
 returns c =

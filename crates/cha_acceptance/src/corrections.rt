@@ -100,7 +100,7 @@ const ROWS: &[(&str, &str, &str, &str)] = &[
         "games: 4, unreadable: 1, changed: 2, undecided: 0\n",
     ),
     ("correct", "", "", "games: 0, unreadable: 0, changed: 0, undecided: 0\n"),
-    ("correct", "\n % \n", "\n % \n", "games: 0, unreadable: 0, changed: 0, undecided: 0\n"),
+    ("correct", "\n% e4\n", "\n% e4\n", "games: 0, unreadable: 0, changed: 0, undecided: 0\n"),
     ("correct --changed", "\n\n", "", "games: 0, unreadable: 0, changed: 0, undecided: 0\n"),
 ];
 

@@ -32,3 +32,12 @@ written start bytes (game ∷ games) (None ∷ marks) = written start bytes game
 written start bytes (game ∷ games) (Some mark ∷ marks) =
     between start game.span.start bytes
     ++ (game_with_mark mark (between game.span.start game.span.end bytes) (drop game.span.end bytes) ++ written game.span.end bytes games marks)
+
+-- The same up to the end of the last of these games.
+unfoldable pub written_games : ℕ → List ℕ → List PlacedGame → List (Option ResultMark) → List ℕ
+written_games start bytes [] marks = []
+written_games start bytes (game ∷ games) [] = []
+written_games start bytes (game ∷ games) (None ∷ marks) = between start game.span.end bytes ++ written_games game.span.end bytes games marks
+written_games start bytes (game ∷ games) (Some mark ∷ marks) =
+    between start game.span.start bytes
+    ++ (game_with_mark mark (between game.span.start game.span.end bytes) (drop game.span.end bytes) ++ written_games game.span.end bytes games marks)

@@ -1,6 +1,7 @@
 -- What a cutter of games keeps.
-use Rattle.std.specs.Prelude.{◌≡◌, ℕ, Bool, true, false, List, ◌++◌, drop, length, Option, Some, None, Result, Ok, Err}
+use Rattle.std.specs.Prelude.{◌≡◌, ℕ, ◌≤◌, Bool, true, false, List, [], ◌++◌, drop, length, Option, Some, None, Result, Ok, Err}
 use Rattle.cha_list.specs.declared.memory.NoMemory.{NoMemory}
+use Rattle.cha_outside.specs.declared.gathering.TheConstants.{MOST_BYTES}
 use Rattle.pgn_games.specs.declared.played.PlacedGame.{PlacedGame}
 use Rattle.pgn_games.specs.declared.token_turns.Place.TheVariants.{Before}
 use Rattle.pgn_games.specs.declared.cutter.Cutter.{Cutter}
@@ -35,3 +36,13 @@ pub record IsHeld (c : Cutter) (ended failed : Bool) : Type 0 where
   pub open_yet : ended ≡ false → failed ≡ false → IsOpenAt c × IsScannedAt c
   pub closed_is : ended ≡ true → c.closed ≡ is_closed (taken_by c)
   pub at_last : ended ≡ true → failed ≡ false → IsLastAt c × IsScannedAt c
+
+-- nothing is left of a cutter's piece
+abbrev pub IsUsedUp : Cutter → Type 0
+IsUsedUp c = (c.behind.items ≡ []) × (c.used ≡ length c.piece.items)
+
+-- what a splitter keeps, as long as no call failed
+pub record IsSplit (c : Cutter) (spent ended failed : Bool) : Type 0 where
+  pub held : IsHeld c ended failed
+  pub used_up : spent ≡ true → ended ≡ false → failed ≡ false → IsUsedUp c
+  pub few : length (taken_by c) ≤ MOST_BYTES

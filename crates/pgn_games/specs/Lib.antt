@@ -5,6 +5,7 @@ pub mod Games
 pub mod Moving
 pub mod Reading
 pub mod Settling
+pub mod Splitting
 pub mod Keeping
 pub mod Wins
 -- what only loops and lemmas use

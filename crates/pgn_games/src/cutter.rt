@@ -1,6 +1,6 @@
 //! What a reader keeps: what one game says, the tokens of one byte, and the rest of the piece that was read last.
 
-ghost use Rattle.std.specs.Prelude.{if◌then◌else◌, ◌≡◌, ◌+◌, ◌-◌, ◌^◌, ◌<◌, ◌≤◌, ◌↔◌, [], length, take, slice_get, OnOk, IfOk, IfSome};
+ghost use Rattle.std.specs.Prelude.{if◌then◌else◌, ◌≡◌, ◌+◌, ◌-◌, ◌^◌, ◌<◌, ◌≤◌, ◌↔◌, ◌++◌, [], length, take, slice_get, OnErr, OnOk, IfOk, IfSome};
 ghost use Rattle.std.specs.declared.result.Result.TheVariants.{Ok, Err};
 ghost use Rattle.std.specs.declared.option.Option.TheVariants.{Some, None};
 ghost use Rattle.std.specs.Io.KnownBytes.{IsAtEnd};
@@ -80,7 +80,7 @@ impl Cutter {
     }
 
     /// Feeds the piece byte by byte, until the game is whole or the piece is used up.
-    fn feed_piece(&mut self) -> Result<Standing, NoMemory>
+    pub fn feed_piece(&mut self) -> Result<Standing, NoMemory>
         requires open { IsOpenAt self.old }
         requires scanned { IsScannedAt self.old }
         ensures taken { taken_by self.new ≡ taken_by self.old }
@@ -127,6 +127,24 @@ impl Cutter {
         Ok(filled)
     }
 
+    /// Takes a piece that is handed in, where the last one is used up.
+    pub fn take_piece(&mut self, piece: &[u8]) -> Result<(), NoMemory>
+        requires open { IsOpenAt self.old }
+        requires used_up { self.old.used ≡ length self.old.piece.items }
+        requires few { length (taken_by self.old) + length piece.now ≤ MOST_BYTES }
+        ensures taken { OnOk result (taken_by self.new ≡ taken_by self.old ++ piece.now) }
+        ensures err { OnErr result (taken_by self.new ≡ taken_by self.old) }
+        ensures first { OnOk result (take self.old.given (placed_games (taken_by self.new)) ≡ take self.old.given (placed_games (taken_by self.old))) }
+        ensures same { (self.new.given ≡ self.old.given) × (self.new.lexer ≡ self.old.lexer) × (self.new.game ≡ self.old.game) × (self.new.behind ≡ self.old.behind) × (self.new.place ≡ self.old.place) }
+        ensures open { OnOk result (IsOpenAt self.new) }
+    {
+        self.used = 0;
+        self.piece.clear();
+        self.piece.extend_from_slice(piece)?;
+        self.taken += piece.len();
+        Ok(())
+    }
+
     /// Takes the end of the source.
     fn take_end(&mut self) -> Result<(), NoMemory>
         requires open { IsOpenAt self.old }
@@ -141,6 +159,21 @@ impl Cutter {
         let place = led_to(self.place, self.behind.as_slice());
         self.closed = is_as_new(self.lexer.is_at_line(), place);
         Ok(())
+    }
+
+    /// Takes the end of a text that is handed in, where its last piece is used up.
+    pub fn close(&mut self) -> Result<(), NoMemory>
+        requires open { IsOpenAt self.old }
+        requires scanned { IsScannedAt self.old }
+        requires used_up { (self.old.behind.items ≡ []) × (self.old.used ≡ length self.old.piece.items) }
+        ensures taken { taken_by self.new ≡ taken_by self.old }
+        ensures given { self.new.given ≡ self.old.given }
+        ensures last { OnOk result (IsLastAt self.new × IsScannedAt self.new) }
+        ensures closed { OnOk result (self.new.closed ≡ is_closed (taken_by self.new)) }
+    {
+        self.used = 0;
+        self.piece.clear();
+        self.take_end()
     }
 
     /// Reads on until the game is whole, or to the end of the source. No piece is read before the last one is used up.

@@ -1,6 +1,6 @@
 //! The games of a text in PGN, of any bytes whatever, one at a time.
 //!
-//! `played`, `marks` and `faults` have the game that is given, and `reading` the reader; `token_turns` says what a
+//! `played`, `marks` and `faults` have the game that is given, `reading` the reader, and `splitting` the splitter of pieces; `token_turns` says what a
 //! token does to a game, and `cutter` keeps what a reader needs of its source, over `filling`, which reads it in
 //! pieces, and `gathering`, which moves tokens to their game; `whole` has the law that no token is lost, `settling`
 //! that of the games that are known before the rest, and `joining` that of closed texts; `summary` keeps what the tokens of one game say, by `tag_pairs`
@@ -18,6 +18,7 @@ mod movetext;
 mod played;
 mod reading;
 mod settling;
+mod splitting;
 mod summary;
 mod tag_pairs;
 mod token_turns;
@@ -30,5 +31,6 @@ pub use marks::ResultMark;
 pub use played::{Game, PlacedGame, Span, Words};
 pub use reading::Reader;
 pub use settling::settled_games_are_the_first;
+pub use splitting::Splitter;
 pub use token_turns::{deeper, mark};
 pub use whole::each_token_is_in_one_game;

@@ -1,7 +1,7 @@
 //! A text of games with other results, where nothing but the results changes.
 //!
 //! `places` finds where a game tells its result, `replacing` writes the text of a game with another one, and `law` has the laws that the
-//! games stay the same, and that each may be written alone.
+//! games stay the same, that each may be written alone, and before the rest of its text.
 #![tactic(auto)]
 
 mod law;
@@ -11,6 +11,7 @@ mod replacing;
 
 pub use law::{
     a_result_alone_has_no_move, corrected_games_stay_the_same, games_are_corrected_one_by_one,
+    written_games_are_a_front,
 };
 pub use places::{ResultPlaces, result_places};
 pub use replacing::put_with_mark;

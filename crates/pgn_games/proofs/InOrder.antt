@@ -21,7 +21,7 @@ use Rattle.pgn_lex.proofs.Feeding.{begins, begun_plain, settled_first}
 use Rattle.pgn_games.specs.declared.played.PlacedGame.{PlacedGame}
 use Rattle.pgn_games.specs.declared.token_turns.Place.TheVariants.{Before}
 use Rattle.pgn_games.specs.Cutting.{cut}
-use Rattle.pgn_games.specs.Games.{span_of, game_of, placed_game_of, placed_games}
+use Rattle.pgn_games.specs.Games.{span_of, placed_game_of, placed_games}
 use Rattle.pgn_games.specs.Order.{AreInOrder}
 use Rattle.pgn_games.specs.Settling.{games_ended, settled_games}
 use Rattle.pgn_games.proofs.EachToken.{none_lost, none_empty}

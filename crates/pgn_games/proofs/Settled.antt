@@ -1,5 +1,5 @@
 -- The games that are settled.
-use Rattle.std.proofs.Common.{◌≡◌, ℕ, ◌+◌, ◌<◌, ◌≤◌, List, [], ◌∷◌, ◌++◌, Some, length, take, drop, map, refl, sym, ap, ◌∙◌, arith, append-nil, append_assoc}
+use Rattle.std.proofs.Common.{◌≡◌, ℕ, ◌+◌, ◌<◌, ◌≤◌, List, [], ◌∷◌, ◌++◌, Some, length, take, drop, map, sym, ap, ◌∙◌, arith, append-nil, append_assoc}
 use Rattle.std.proofs.lemmas.List.{length-map, take-map, drop_all}
 use Rattle.pgn_lex.specs.declared.kinds.Placed.{Placed}
 use Rattle.pgn_lex.specs.Tokens.{tokens, settled_tokens}
@@ -8,7 +8,7 @@ use Rattle.pgn_games.specs.declared.token_turns.Place.{Place}
 use Rattle.pgn_games.specs.declared.token_turns.Place.TheVariants.{Before}
 use Rattle.pgn_games.specs.Cutting.{turn, place_after, cut}
 use Rattle.pgn_games.specs.Games.{placed_game_of, placed_games}
-use Rattle.pgn_games.specs.Settling.{ends_by, games_ended, settled_games}
+use Rattle.pgn_games.specs.Settling.{games_ended, settled_games}
 use Rattle.pgn_games.specs.Holding.{first_end, IsCut}
 use Rattle.pgn_games.proofs.GameEnds.{cut_alike, ended_are_there, closes}
 

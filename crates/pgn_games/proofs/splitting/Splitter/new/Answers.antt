@@ -1,4 +1,4 @@
-use Rattle.std.proofs.Common.{false, ◌≡◌, ℕ, List, length, ap, arith}
+use Rattle.std.proofs.Common.{ℕ, List, length, ap, arith}
 use Rattle.pgn_games.proofs.splitting.Splitter.new.Goals as goal
 
 pub invariant_of-result : goal.invariant_of-result

@@ -1,4 +1,4 @@
-use Rattle.std.proofs.Common.{Ok, ap, ◌∙◌, refl, sym, arith}
+use Rattle.std.proofs.Common.{Ok, ap, ◌∙◌, refl, arith}
 use Rattle.pgn_games.specs.Keeping.{taken_by}
 use Rattle.pgn_games.specs.Splitting.{SplitterState}
 use Rattle.pgn_games.proofs.KeptTokens.{all_settled}

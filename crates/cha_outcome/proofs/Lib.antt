@@ -1,3 +1,4 @@
 pub mod Asked
 pub mod Examples
+pub mod FoundResults
 pub mod NamedLegal

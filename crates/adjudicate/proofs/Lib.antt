@@ -1,6 +1,9 @@
 pub mod Items
 pub mod Progress
 pub mod RunEndings
+pub mod OrderRuns
+pub mod CorrectedGames
+pub mod Fronts
 pub mod Answering
 pub mod GivenGames
 pub mod ReportLoop

@@ -24,7 +24,7 @@ use Rattle.adjudicate.specs.Statuses.{status_of_end}
 use Rattle.adjudicate.specs.CertFindings.{IsTextOf, IsUnwinnableAtFirst}
 use Rattle.adjudicate.specs.Jobs.{Job, job, game_items, on_games, on_made}
 use Rattle.adjudicate.specs.Report.{Demand, demand, demand_by, HasBlocks, HasReport, HasCutBlock}
-use Rattle.adjudicate.specs.Runs.{Outside, outside, Ended, BeginsWhole, Takes, HasReadAll, IsRunOf, IsRun}
+use Rattle.adjudicate.specs.Runs.{Outside, outside, Ended, BeginsWhole, Takes, HasReadAll, IsRunOf}
 use Rattle.adjudicate.specs.Steps.{IsWritten, made_status}
 
 -- the first position is valid
@@ -49,8 +49,8 @@ law_of_check Done before now ended done =
       (cert, any_is_spelled ended.0 cert read.1, (read.2.0, valid.begins, first_is_valid read.2.0 cert.cert valid.begins valid.positions, valid_is_unwinnable read.2.0 cert.winner cert.cert valid)),
     )
 
-pub law_holds : (order : Order) (s : Status) (before now : Outside) → IsRun order s before now → s ≡ Done → order ≡ CheckCert → Took before.left now.left (IsTextOf IsUnwinnableAtFirst)
-law_holds order s before now run done check = law_of_check s before now (subst (λ o. IsRun o s before now) check run).ended done
+pub law_holds : (order : Order) (s : Status) (before now : Outside) → IsRunOf (demand order) s before now → s ≡ Done → order ≡ CheckCert → Took before.left now.left (IsTextOf IsUnwinnableAtFirst)
+law_holds order s before now run done check = law_of_check s before now (subst (λ o. IsRunOf (demand o) s before now) check run).ended done
 
 -- What was read and written makes a run, where its causes are known.
 module _ (d : Demand) (before now : Outside) (reads : d.reads ≡ true) (source_later : before.read_faults ≤ now.read_faults) (sink_later : before.write_faults ≤ now.write_faults) where
@@ -173,9 +173,6 @@ not_begun_by j left a f g =
     nothing_taken : (reads : Bool) → Takes reads (outside left f a g) (outside left f a g) []
     nothing_taken true = Consumes-nil left
     nothing_taken false = (refl, refl, refl)
-
-pub not_begun : (order : Order) (left a : Option (List ℕ)) (f g : ℕ) → IsRun order NoMemory (outside left f a g) (outside left f a g)
-not_begun order left a f g = not_begun_by (job order) left a f g
 
 -- A run over games that were made, by the run over their text: how each status of the one is a status of the other.
 module _ (question : Question) (seed count : ℕ) (left a a' : Option (List ℕ)) (f g g' : ℕ) (text rest : List ℕ) (f' : ℕ) (text_is : text ≡ made seed count) where

@@ -1,10 +1,15 @@
 -- What the writing of an answer gives.
-use Rattle.std.specs.Prelude.{◌≡◌, ◌≢◌, ℕ, ◌≤◌, Bool, if◌then◌else◌, List, Option}
+use Rattle.std.specs.Prelude.{◌≡◌, ◌≢◌, ℕ, ◌≤◌, ◌⊎◌, Bool, true, false, if◌then◌else◌, List, [], Option}
+use Rattle.std.specs.Io.KnownBytes.{Appends}
 use Rattle.cha_outside.specs.Faults.{Rose}
+use Rattle.pgn_games.specs.declared.marks.ResultMark.{ResultMark}
+use Rattle.pgn_games.specs.declared.played.Span.{Span}
+use Rattle.pgn_results.specs.Keeping.{piece_of, changed_piece, rest_of}
 use Rattle.adjudicate.specs.declared.endings.Status.{Status}
 use Rattle.adjudicate.specs.declared.endings.Status.TheVariants.{Done, Usage, ReadFault, WriteFault, TooLong, NoMemory, NotAccepted}
 use Rattle.adjudicate.specs.Report.{Demand, IsFront}
 use Rattle.adjudicate.specs.Runs.{Grew}
+use Rattle.adjudicate.specs.Corrections.{Noted}
 
 -- how the writing of the answer on a certificate ended, where all of it was written
 abbrev pub ended_by : Bool → Status
@@ -28,3 +33,23 @@ pub record IsWritten (d : Demand) (bytes : List ℕ) (status : Status) (old : Op
   pub no_memory : status ≡ NoMemory → Grew old new (d.blocks 0 bytes)
   pub no_other : (status ≢ Usage) × (status ≢ ReadFault) × (status ≢ TooLong)
   pub later : faults ≤ faults'
+
+-- what is written of a game, with what stands before it from a place on, or of a game that changes alone
+abbrev pub game_piece : Bool → List ℕ → ℕ → Span → Option ResultMark → List ℕ
+game_piece true bytes start span mark = changed_piece bytes span mark
+game_piece false bytes start span mark = piece_of bytes start span mark
+
+-- what is written of the text behind its last game
+abbrev pub end_piece : Bool → List ℕ → ℕ → List ℕ
+end_piece true bytes start = []
+end_piece false bytes start = rest_of start bytes
+
+-- What two sinks took at the end of a run that corrects games, by the status: the end of the text and the summary, before and after.
+pub record IsEnded (status : Status) (text summary : List ℕ) (old : Option (List ℕ)) (faults : ℕ) (new : Option (List ℕ)) (faults' : ℕ) (notes notes' : Noted) : Type 0 where
+  pub done : status ≡ Done → Appends old new text × Appends notes.taken notes'.taken summary
+  pub cut : status ≡ WriteFault → Grew old new (λ out. IsFront out text) × Grew notes.taken notes'.taken (λ out. IsFront out summary)
+  pub cause : status ≡ WriteFault → Rose faults faults' ⊎ Rose notes.faults notes'.faults
+  pub no_memory : status ≡ NoMemory → (new ≡ old) × (notes'.taken ≡ notes.taken)
+  pub either : (status ≡ Done) ⊎ ((status ≡ WriteFault) ⊎ (status ≡ NoMemory))
+  pub later : faults ≤ faults'
+  pub notes_later : notes.faults ≤ notes'.faults

@@ -1,6 +1,14 @@
 //! Games with the right results: each is written as soon as it is judged, and all other bytes as they are.
 
-ghost use Rattle.std.specs.Prelude.{◌≡◌, ℕ, List, IfOk, OnErr, ◌≢◌, []};
+ghost use Rattle.std.specs.Prelude.{◌≡◌, ◌≤◌, ℕ, List, length, true, false, IfOk, OnOk};
+ghost use Rattle.std.specs.declared.option.Option.TheVariants.{None};
+ghost use Rattle.cha_outcome.specs.Items.{kept_item};
+ghost use Rattle.cha_outcome.specs.Outcomes.{Answers};
+ghost use Rattle.flag_report.specs.declared.styles.Style.TheVariants.{SummaryAlone};
+ghost use Rattle.flag_report.specs.declared.styles.Subject.TheVariants.{Games};
+ghost use Rattle.flag_report.specs.Styles.{summary};
+ghost use Rattle.pgn_games.specs.Games.{is_closed};
+ghost use Rattle.adjudicate.specs.Steps.{game_piece, end_piece, IsEnded};
 ghost use Rattle.cha_limits.specs.Bounds.{Bounds};
 ghost use Rattle.cha_outcome.specs.declared.outcomes.Outcome.{Outcome as OutcomeOf};
 ghost use Rattle.cha_outcome.specs.declared.questions.FlaggedDraws.{FlaggedDraws as DrawRule};
@@ -80,7 +88,12 @@ fn text_of_game(
     reader: &mut KeptReader,
     span: Span,
     mark: Option<ResultMark>,
-) -> Result<Text, NoMemory> {
+) -> Result<Text, NoMemory>
+    requires { (reader.old.written ≤ span.start) × (span.start ≤ span.end) × (span.end ≤ length reader.old.taken) × (reader.old.failed ≡ false) }
+    ensures text { IfOk result (λ text. text ≡ game_piece changed reader.old.taken reader.old.written span mark) }
+    ensures written { OnOk result (reader.new.written ≡ span.end) }
+    ensures same { (reader.new.taken ≡ reader.old.taken) × (reader.new.given ≡ reader.old.given) × (reader.new.ended ≡ reader.old.ended) × (reader.new.failed ≡ reader.old.failed) }
+{
     if changed {
         return reader.changed_game(span, mark);
     }
@@ -95,7 +108,10 @@ fn end_text<K: Sink, N: Sink>(
     totals: &Totals,
     sink: &mut K,
     notes: &mut N,
-) -> Status {
+) -> Status
+    requires { (reader.now.failed ≡ false) × (reader.now.ended ≡ true) }
+    ensures { IsEnded result (end_piece changed reader.now.taken reader.now.written) (summary SummaryAlone Games (is_closed reader.now.taken) totals.now) (K.written sink.old) (K.faults sink.old) (K.written sink.new) (K.faults sink.new) (noted (N.written notes.old) (N.faults notes.old)) (noted (N.written notes.new) (N.faults notes.new)) }
+{
     let Ok(summary) = summary_of(alloc, reader.is_closed(), totals) else {
         return Status::NoMemory;
     };
@@ -110,7 +126,10 @@ fn end_text<K: Sink, N: Sink>(
 }
 
 /// What is written of the text behind its last game.
-fn behind(changed: bool, reader: &KeptReader) -> &[u8] {
+fn behind(changed: bool, reader: &KeptReader) -> &[u8]
+    requires { reader.now.failed ≡ false }
+    ensures { result.now ≡ end_piece changed reader.now.taken reader.now.written }
+{
     if changed {
         return &[];
     }
@@ -118,7 +137,9 @@ fn behind(changed: bool, reader: &KeptReader) -> &[u8] {
 }
 
 /// The summary of what was judged.
-fn summary_of(alloc: Global, closed: bool, totals: &Totals) -> Result<Text, NoMemory> {
+fn summary_of(alloc: Global, closed: bool, totals: &Totals) -> Result<Text, NoMemory>
+    ensures { IfOk result (λ text. text ≡ summary SummaryAlone Games closed totals.now) }
+{
     let mut text = Text::new(alloc);
     put_summary(
         alloc,

@@ -9,7 +9,9 @@ use Rattle.cha_words.specs.Language.{order, order_of, order_by, command_named}
 use Rattle.adjudicate.specs.declared.endings.Status.{Status}
 use Rattle.adjudicate.specs.declared.endings.Status.TheVariants.{Done, Usage, ReadFault, WriteFault, TooLong, NoMemory, NotAccepted}
 use Rattle.adjudicate.specs.Report.{IsAccepted, demand}
-use Rattle.adjudicate.specs.Runs.{IsRun, Ended, outside, most_bytes}
+use Rattle.adjudicate.specs.Corrections.{Noted}
+use Rattle.adjudicate.specs.Orders.{IsRun}
+use Rattle.adjudicate.specs.Runs.{IsRunOf, Ended, outside, most_bytes}
 
 -- the word orders a check
 check_ordered : order_of (codes "check" ∷ []) ≡ Some CheckCert
@@ -20,14 +22,17 @@ check_ordered = refl
 taken_whole : (text left taken : List ℕ) → Consumes (Some text) (Some left) taken → IsAtEnd (Some left) → taken ≡ text
 taken_whole text left taken consumed end = sym (consumed ∙ ap (λ rest. taken ++ rest) end ∙ append-nil taken)
 
-module _ (words : List (String Global)) (text source left : List ℕ) (old new : Option (List ℕ)) (faults faults' : ℕ) (status : Status) (same : source ≡ text)
+module _ (words : List (String Global)) (text source left : List ℕ) (old new : Option (List ℕ)) (faults faults' : ℕ) (notes notes' : Noted) (status : Status) (same : source ≡ text)
     (spelled : map string_bytes words ≡ codes "check" ∷ [])
-    (ran : IfSome (order words) (λ o. IsRun o status (outside (Some source) 0 old faults) (outside (Some left) 0 new faults'))) where
+    (ran : IfSome (order words) (λ o. IsRun o status (outside (Some source) 0 old faults) (outside (Some left) 0 new faults') notes notes')) where
   ordered : order words ≡ Some CheckCert
   ordered = ap order_of spelled ∙ check_ordered
 
-  run : IsRun CheckCert status (outside (Some source) 0 old faults) (outside (Some left) 0 new faults')
-  run = subst (λ o. IfSome o (λ o. IsRun o status (outside (Some source) 0 old faults) (outside (Some left) 0 new faults'))) ordered ran
+  ran_check : IsRun CheckCert status (outside (Some source) 0 old faults) (outside (Some left) 0 new faults') notes notes'
+  ran_check = subst (λ o. IfSome o (λ o. IsRun o status (outside (Some source) 0 old faults) (outside (Some left) 0 new faults') notes notes')) ordered ran
+
+  run : IsRunOf (demand CheckCert) status (outside (Some source) 0 old faults) (outside (Some left) 0 new faults')
+  run = ran_check.0
 
   ended : (s : Status) → status ≡ s → Ended (demand CheckCert) s (outside (Some source) 0 old faults) (outside (Some left) 0 new faults')
   ended s is = subst (λ s. Ended (demand CheckCert) s (outside (Some source) 0 old faults) (outside (Some left) 0 new faults')) is run.ended

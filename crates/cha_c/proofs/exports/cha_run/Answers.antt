@@ -1,6 +1,7 @@
 use Rattle.std.proofs.Common.{refl, Some, [], inr, arith, map, string_bytes, ap, ◌∙◌}
 use Rattle.adjudicate.specs.declared.endings.Status.TheVariants.{NoMemory}
-use Rattle.adjudicate.proofs.RunEndings.{not_begun}
+use Rattle.adjudicate.specs.Corrections.{noted}
+use Rattle.adjudicate.proofs.OrderRuns.{not_begun}
 use Rattle.cha_c.proofs.Ordered.{answered}
 use Rattle.cha_c.proofs.exports.cha_run.Goals as goal
 
@@ -14,7 +15,7 @@ returns-in-Err-NoMemory-clause-answers c = record {
   ran = λ order orders. (
     NoMemory,
     record { bytes = []; faults = 0 },
-    (Some c.args.input.now, not_begun order (Some c.args.input.now) (Some []) 0 0),
+    (Some c.args.input.now, record { bytes = []; faults = 0 }, not_begun order (Some c.args.input.now) (Some []) 0 0 (noted (Some []) 0)),
     record {
       size = refl;
       told = λ fits. refl;

@@ -1,0 +1,64 @@
+-- Only games that were read get another result.
+use Rattle.std.proofs.Common.{◌≡◌, ℕ, Bool, true, false, if◌then◌else◌, List, [], ◌∷◌, map, Option, Some, None, nat_lt, ◌-◌, refl, sym, ap, ◌∙◌, subst}
+use Rattle.pgn_lex.specs.declared.kinds.Placed.{Placed}
+use Rattle.pgn_lex.specs.Tokens.{tokens}
+use Rattle.pgn_games.specs.declared.faults.GameFault.{GameFault}
+use Rattle.pgn_games.specs.declared.marks.ResultMark.{ResultMark}
+use Rattle.pgn_games.specs.declared.played.Game.{Game}
+use Rattle.pgn_games.specs.declared.played.PlacedGame.{PlacedGame}
+use Rattle.pgn_games.specs.declared.played.Span.{Span}
+use Rattle.pgn_games.specs.declared.token_turns.Place.TheVariants.{Before}
+use Rattle.pgn_games.specs.Cutting.{cut}
+use Rattle.pgn_games.specs.Games.{placed_games, placed_game_of, game_of}
+use Rattle.pgn_results.specs.Kept.{OnlyReadable}
+use Rattle.cha_outcome.specs.declared.items.PlayedGame.{PlayedGame}
+use Rattle.cha_outcome.specs.declared.items.Item.{Item}
+use Rattle.cha_outcome.specs.declared.items.Item.TheVariants.{Played, UnreadableGame}
+use Rattle.cha_outcome.specs.declared.items.TheConstants.{MOST_GAME_BYTES}
+use Rattle.cha_outcome.specs.declared.unreadable.Unreadable.TheVariants.{TooLong}
+use Rattle.cha_outcome.specs.declared.outcomes.Outcome.{Outcome}
+use Rattle.cha_outcome.specs.declared.outcomes.Outcome.TheVariants as outcomes
+use Rattle.cha_outcome.specs.Items.{item_unless, game_item, kept_item}
+use Rattle.cha_outcome.specs.Outcomes.{item_of, new_result}
+use Rattle.adjudicate.specs.Jobs.{kept_items}
+
+-- a game gets a result only where it was played
+marked_is_played : (o : Outcome) (mark : ResultMark) → new_result o ≡ Some mark → (game : PlayedGame) × (item_of o ≡ Played game)
+unfolding new_result item_of
+marked_is_played (outcomes.JudgedPosition number q d status) mark e = cc
+marked_is_played (outcomes.JudgedGame game d scan status judgment) mark e = (game, refl)
+marked_is_played (outcomes.ListedMates number q depth found) mark e = cc
+marked_is_played (outcomes.RefusedLine number fault) mark e = cc
+marked_is_played (outcomes.UnreadableGame span why) mark e = cc
+marked_is_played (outcomes.Replayed game) mark e = cc
+
+-- and it is played only where it has no fault
+played_if : (long : Bool) (fault : Option GameFault) (span : Span) (game : Game) (played : PlayedGame) → (if long then UnreadableGame span TooLong else item_unless fault span game) ≡ Played played → fault ≡ None
+played_if true fault span game played e = cc
+played_if false None span game played e = refl
+played_if false (Some fault) span game played e = cc
+
+pub played_is_readable : (placed : PlacedGame) (played : PlayedGame) → kept_item placed ≡ Played played → placed.game.fault ≡ None
+unfolding kept_item game_item
+played_is_readable placed played e = played_if (nat_lt MOST_GAME_BYTES (placed.span.end - placed.span.start)) placed.game.fault placed.span placed.game played e
+
+only_if : (slice : List Placed) (slices : List (List Placed)) (o : Outcome) (marks : List (Option ResultMark)) → item_of o ≡ kept_item (placed_game_of slice) → OnlyReadable slices marks
+    → (mark : Option ResultMark) → new_result o ≡ mark → OnlyReadable (slice ∷ slices) (mark ∷ marks)
+unfolding OnlyReadable
+only_if slice slices o marks item rest None e = rest
+only_if slice slices o marks item rest (Some mark) e =
+    let played = marked_is_played o mark e in
+    (played_is_readable (placed_game_of slice) played.0 (sym item ∙ played.1), rest)
+
+only_readable : (slices : List (List Placed)) (os : List Outcome) → map item_of os ≡ map kept_item (map placed_game_of slices) → OnlyReadable slices (map new_result os)
+unfolding OnlyReadable
+only_readable [] os e = tt
+only_readable (slice ∷ slices) [] e = tt
+only_readable (slice ∷ slices) (o ∷ os) e =
+    let here : item_of o ≡ kept_item (placed_game_of slice) = cc in
+    let behind : map item_of os ≡ map kept_item (map placed_game_of slices) = cc in
+    only_if slice slices o (map new_result os) here (only_readable slices os behind) (new_result o) refl
+
+pub results_of_readable : (bytes : List ℕ) (os : List Outcome) → map item_of os ≡ kept_items bytes → OnlyReadable (cut Before (tokens bytes)) (map new_result os)
+unfolding placed_games
+results_of_readable bytes os e = only_readable (cut Before (tokens bytes)) os e

@@ -12,7 +12,7 @@ use Rattle.cha_outcome.specs.declared.rulings.Claim.{Claim}
 use Rattle.cha_outcome.specs.declared.rulings.Judgment.{Judgment}
 use Rattle.cha_outcome.specs.Rulings.{judged, winner_ruling_of, drawn_ruling_of, recorded_ruling_of, running_ruling_of, ruling_of, is_changed}
 
-is_itself : (m : ResultMark) → is_changed m m ≡ false
+pub is_itself : (m : ResultMark) → is_changed m m ≡ false
 unfolding is_changed
 is_itself WhiteWins = refl
 is_itself BlackWins = refl

@@ -16,10 +16,10 @@ use Rattle.pgn_results.proofs.Endings.{AllEnded, all_ended}
 
 -- it has no move and no tag
 abbrev Bare : List Placed → Type 0
-Bare game = begins_with_result game ≡ true → ((game_of game).words ≡ []) × ((game_of game).start ≡ opening)
+Bare game = begins_with_result game ≡ true → ((game_of game).words ≡ []) × ((game_of game).start ≡ opening) × ((game_of game).forfeit ≡ false) × ((game_of game).flag_fell ≡ false)
 
 abbrev Alone : Token → Type 0
-Alone token = (move_word token ≡ None) × (value_named (codes "FEN") token ≡ None)
+Alone token = (move_word token ≡ None) × (value_named (codes "FEN") token ≡ None) × (value_named (codes "Termination") token ≡ None)
 
 no_move : (v : Bool) (word : List ℕ) → v ≡ true → (if v then None else Some word) ≡ None
 no_move true word e = refl
@@ -29,23 +29,23 @@ alone : (token : Token) → is_some (mark_of token) ≡ true → Alone token
 unfolding mark_of move_word value_named
 alone (Tag name value cut) e = cc
 alone BadTag e = cc
-alone (Word word) e = (no_move _ word e, refl)
-alone Star e = (refl, refl)
+alone (Word word) e = (no_move _ word e, refl, refl)
+alone Star e = (refl, refl, refl)
 alone Enter e = cc
 alone Leave e = cc
 alone Bad e = cc
 alone Unclosed e = cc
 
-bare_one : (t : Placed) → Alone t.token → ((game_of (t ∷ [])).words ≡ []) × ((game_of (t ∷ [])).start ≡ opening)
+bare_one : (t : Placed) → Alone t.token → ((game_of (t ∷ [])).words ≡ []) × ((game_of (t ∷ [])).start ≡ opening) × ((game_of (t ∷ [])).forfeit ≡ false) × ((game_of (t ∷ [])).flag_fell ≡ false)
 unfolding game_of move_words outside tag_value start_of
-bare_one t h = (rw (h.0) refl, rw (h.1) refl)
+bare_one t h = (rw (h.0) refl, rw (h.1) refl, rw (h.2) refl, rw (h.2) refl)
 
 bare : (game : List Placed) → Ended 0 game → Bare game
 unfolding Ended begins_with_result
 bare [] h e = cc
 bare (t ∷ ts) h e =
     let none : ts ≡ [] = h.0 e in
-    subst (λ xs. ((game_of (t ∷ xs)).words ≡ []) × ((game_of (t ∷ xs)).start ≡ opening)) (sym none) (bare_one t (alone t.token e))
+    subst (λ xs. ((game_of (t ∷ xs)).words ≡ []) × ((game_of (t ∷ xs)).start ≡ opening) × ((game_of (t ∷ xs)).forfeit ≡ false) × ((game_of (t ∷ xs)).flag_fell ≡ false)) (sym none) (bare_one t (alone t.token e))
 
 all_bare : (depth : ℕ) (games : List (List Placed)) → depth ≡ 0 → AllEnded depth games → All Bare games
 unfolding AllEnded

@@ -16,7 +16,21 @@ use Rattle.cha_outcome.specs.declared.outcomes.Outcome.{Outcome}
 use Rattle.cha_outcome.specs.Outcomes.{new_result}
 use Rattle.adjudicate.specs.Corrections.{changed_games, corrected_front}
 use Rattle.adjudicate.specs.Steps.{game_piece}
-use Rattle.adjudicate.proofs.OrderRuns.{none_changed}
+
+none_changed : (bytes : List ℕ) (games : List PlacedGame) → changed_games bytes games [] ≡ []
+unfolding changed_games
+none_changed bytes [] = refl
+none_changed bytes (game ∷ games) = refl
+
+none_written : (bytes : List ℕ) (games : List PlacedGame) → written_games 0 bytes games [] ≡ []
+unfolding written_games
+none_written bytes [] = refl
+none_written bytes (game ∷ games) = refl
+
+-- of no outcomes nothing is written
+pub front_of_none : (changed : Bool) (bytes : List ℕ) → corrected_front changed bytes [] ≡ []
+front_of_none true bytes = none_changed bytes (placed_games bytes)
+front_of_none false bytes = none_written bytes (placed_games bytes)
 
 -- only so many games count as there are marks
 counted : (games : List PlacedGame) (marks : List (Option ResultMark)) (bytes : List ℕ) → changed_games bytes games marks ≡ changed_games bytes (take (length marks) games) marks

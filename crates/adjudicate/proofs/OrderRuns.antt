@@ -2,9 +2,6 @@
 use Rattle.std.proofs.Common.{◌≡◌, ◌≢◌, ◌⊎◌, inl, inr, ¬◌, ℕ, ◌≤◌, Bool, true, false, List, [], ◌∷◌, length, Option, Some, None, refl, sym, ap, ◌∙◌, subst, arith}
 use Rattle.std.proofs.KnownBytes.{Appends-nil, Consumes-nil}
 use Rattle.cha_outside.specs.Faults.{Rose}
-use Rattle.pgn_games.specs.declared.played.PlacedGame.{PlacedGame}
-use Rattle.pgn_games.specs.Games.{placed_games}
-use Rattle.pgn_results.specs.Correcting.{written_games}
 use Rattle.cha_words.specs.declared.orders.Order.{Order}
 use Rattle.cha_words.specs.declared.orders.Order.TheVariants.{AdjudicateGames, CorrectGames, JudgePositions, CheckCert, GenGames, ListMates, ReplayGames}
 use Rattle.cha_words.specs.Language.{limits_in}
@@ -13,24 +10,10 @@ use Rattle.adjudicate.specs.declared.endings.Status.TheVariants.{Done, Usage, Re
 use Rattle.adjudicate.specs.Jobs.{job}
 use Rattle.adjudicate.specs.Report.{demand}
 use Rattle.adjudicate.specs.Runs.{Outside, outside, IsRunOf, most_bytes}
-use Rattle.adjudicate.specs.Corrections.{Correction, correction, Noted, changed_games, corrected_front}
+use Rattle.adjudicate.specs.Corrections.{Correction, correction, Noted}
 use Rattle.adjudicate.specs.Orders.{IsCorrecting, IsRunBy, IsRun}
+use Rattle.adjudicate.proofs.Fronts.{front_of_none}
 use Rattle.adjudicate.proofs.RunEndings.{not_begun_by}
-
-pub none_changed : (bytes : List ℕ) (games : List PlacedGame) → changed_games bytes games [] ≡ []
-unfolding changed_games
-none_changed bytes [] = refl
-none_changed bytes (game ∷ games) = refl
-
-none_written : (bytes : List ℕ) (games : List PlacedGame) → written_games 0 bytes games [] ≡ []
-unfolding written_games
-none_written bytes [] = refl
-none_written bytes (game ∷ games) = refl
-
--- of no outcomes nothing is written
-pub front_of_none : (changed : Bool) (bytes : List ℕ) → corrected_front changed bytes [] ≡ []
-front_of_none true bytes = none_changed bytes (placed_games bytes)
-front_of_none false bytes = none_written bytes (placed_games bytes)
 
 -- where memory is refused before anything is read
 pub nothing_corrected : (c : Correction) (left a : Option (List ℕ)) (f g : ℕ) (notes : Noted) → IsCorrecting c NoMemory (outside left f a g) (outside left f a g) notes notes

@@ -134,6 +134,7 @@ impl Cutter {
         requires few { length (taken_by self.old) + length piece.now ≤ MOST_BYTES }
         ensures taken { OnOk result (taken_by self.new ≡ taken_by self.old ++ piece.now) }
         ensures err { OnErr result (taken_by self.new ≡ taken_by self.old) }
+        ensures first { OnOk result (take self.old.given (placed_games (taken_by self.new)) ≡ take self.old.given (placed_games (taken_by self.old))) }
         ensures same { (self.new.given ≡ self.old.given) × (self.new.lexer ≡ self.old.lexer) × (self.new.game ≡ self.old.game) × (self.new.behind ≡ self.old.behind) × (self.new.place ≡ self.old.place) }
         ensures open { OnOk result (IsOpenAt self.new) }
     {

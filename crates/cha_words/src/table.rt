@@ -251,12 +251,7 @@ pub fn range_of(command: Command, setting: Setting) -> Option<Range>
             Setting::Workers => Some(from_to(1, 16, 2)),
             Setting::Depth => Some(from_to(1, 6, 4)),
             Setting::Json | Setting::San => Some(from_to(0, 1, 0)),
-            Setting::Budget
-            | Setting::Entries
-            | Setting::Certs
-            | Setting::Fens
-            | Setting::FlaggedDraws
-            | Setting::Changed => None,
+            _ => None,
         },
         Command::Replay => match setting {
             Setting::Json => Some(from_to(0, 1, 0)),

@@ -240,71 +240,68 @@ fn style_of(printing: &Printing) -> &'static str {
     }
 }
 
+/// A flag's word behind others, where it stood.
+fn flag_text(flag: bool, word: &'static str) -> &'static str {
+    if flag { word } else { "" }
+}
+
 /// What is ordered, as a text.
-fn said_of(alloc: Global, order: &Option<Order>) -> Result<String, Fail> {
+fn text_of(alloc: Global, order: &Order) -> Result<String, Fail> {
+    let spent = match order.limits() {
+        Some(limits) => spent(alloc, &limits)?,
+        None => String::new(alloc),
+    };
     let text = match order {
-        None => format!(in alloc; "{NOTHING}")?,
-        Some(Order::CheckCert) => format!(in alloc; "check")?,
-        Some(
-            Order::ListMates {
-                side,
-                workers,
-                depth,
-                printing,
-            },
-        ) => {
+        Order::CheckCert => format!(in alloc; "check")?,
+        Order::ListMates {
+            side,
+            workers,
+            depth,
+            printing,
+        } => {
             let side = match side {
                 Color::White => "w",
                 Color::Black => "b",
             };
             format!(in alloc; "mates {side} {workers} {depth}{}", style_of(printing))?
         }
-        Some(
-            Order::AdjudicateGames {
-                limits,
-                flagged_draws,
-                printing,
-            },
-        ) => {
+        Order::AdjudicateGames {
+            flagged_draws,
+            printing,
+            ..
+        } => {
             let certs = printing.certs;
-            let draws = if *flagged_draws { " draws" } else { "" };
-            format!(in alloc;
-                "games {} {certs}{}{draws}",
-                spent(alloc, limits)?,
-                style_of(printing)
-            )?
+            let draws = flag_text(*flagged_draws, " draws");
+            format!(in alloc; "games {spent} {certs}{}{draws}", style_of(printing))?
         }
-        Some(
-            Order::CorrectGames {
-                limits,
-                flagged_draws,
-                changed,
-            },
-        ) => {
-            let draws = if *flagged_draws { " draws" } else { "" };
-            let changed = if *changed { " changed" } else { "" };
-            format!(in alloc; "correct {}{draws}{changed}", spent(alloc, limits)?)?
+        Order::CorrectGames {
+            flagged_draws,
+            changed,
+            ..
+        } => {
+            let draws = flag_text(*flagged_draws, " draws");
+            let changed = flag_text(*changed, " changed");
+            format!(in alloc; "correct {spent}{draws}{changed}")?
         }
-        Some(Order::JudgePositions { limits, printing }) => {
+        Order::JudgePositions { printing, .. } => {
             let certs = printing.certs;
-            format!(in alloc;
-                "positions {} {certs}{}",
-                spent(alloc, limits)?,
-                style_of(printing)
-            )?
+            format!(in alloc; "positions {spent} {certs}{}", style_of(printing))?
         }
-        Some(
-            Order::GenGames {
-                limits,
-                seed,
-                count,
-            },
-        ) => { format!(in alloc; "gen {} {seed} {count}", spent(alloc, limits)?)? }
-        Some(Order::ReplayGames { printing }) => {
-            format!(in alloc; "replay{}", style_of(printing))?
-        }
+        Order::GenGames { seed, count, .. } => format!(in alloc; "gen {spent} {seed} {count}")?,
+        Order::ReplayGames { printing } => format!(in alloc; "replay{}", style_of(printing))?,
     };
     Ok(text)
+}
+
+/// The same, or that nothing is.
+fn said_of(alloc: Global, order: &Option<Order>) -> Result<String, Fail> {
+    match order {
+        Some(order) => text_of(alloc, order),
+        None => {
+            let text = format!(in alloc; "{NOTHING}")?;
+            Ok(text)
+        }
+    }
 }
 
 /// The words between single spaces.

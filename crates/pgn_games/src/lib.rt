@@ -3,7 +3,7 @@
 //! `played`, `marks` and `faults` have the game that is given, `reading` the reader, and `splitting` the splitter of pieces; `token_turns` says what a
 //! token does to a game, and `cutter` keeps what a reader needs of its source, over `filling`, which reads it in
 //! pieces, and `gathering`, which moves tokens to their game; `whole` has the law that no token is lost, `settling`
-//! that of the games that are known before the rest, and `joining` that of closed texts; `summary` keeps what the tokens of one game say, by `tag_pairs`
+//! that of the games that are known before the rest, `opening` that of the opening position, and `joining` that of closed texts; `summary` keeps what the tokens of one game say, by `tag_pairs`
 //! and `movetext`, and `history` tells contracts which tokens they were.
 #![tactic(auto)]
 
@@ -15,6 +15,7 @@ mod history;
 mod joining;
 mod marks;
 mod movetext;
+mod opening;
 mod played;
 mod reading;
 mod settling;
@@ -29,6 +30,7 @@ pub use faults::GameFault;
 pub use filling::{Filled, fill};
 pub use joining::closed_texts_join;
 pub use marks::ResultMark;
+pub use opening::games_begin_at_the_opening;
 pub use played::{Game, PlacedGame, Span, Words};
 pub use reading::Reader;
 pub use settling::settled_games_are_the_first;

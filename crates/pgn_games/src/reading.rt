@@ -1,16 +1,18 @@
 //! The reader of games.
 
-ghost use Rattle.std.specs.Prelude.{if◌then◌else◌, ◌≡◌, ◌+◌, ◌<◌, ◌≤◌, ◌↔◌, [], true, false, length, take, slice_get, is_err, OnErr, OnOk, IfOk, IfSome, IfNone, OnSome};
+ghost use Rattle.std.specs.Prelude.{if◌then◌else◌, ◌≡◌, ◌+◌, ◌<◌, ◌≤◌, ◌↔◌, [], true, false, length, take, slice_get, is_err, OnErr, OnOk, IfOk, IfSome, IfNone, OnSome, codes};
 ghost use Rattle.std.specs.Bool.{OnTrue};
 ghost use Rattle.std.specs.declared.result.Result.TheVariants.{Ok, Err};
 ghost use Rattle.std.specs.declared.option.Option.TheVariants.{Some, None};
 ghost use Rattle.std.specs.Io.KnownBytes.{IsAtEnd};
 ghost use Rattle.cha_outside.specs.Faults.{Rose};
-ghost use Rattle.pgn_games.specs.Games.{placed_games, is_closed as is_closed_text};
+ghost use Rattle.cha_fen.specs.Written.{fen_text};
+ghost use Rattle.pgn_games.specs.Games.{opening, placed_games, is_closed as is_closed_text};
 ghost use Rattle.pgn_games.specs.Settling.{settled_games};
 ghost use Rattle.pgn_games.specs.Reading.{Takes, gives_game};
 
 use crate::cutter::{Advanced, Cutter};
+use crate::opening::games_begin_at_the_opening;
 use crate::played::PlacedGame;
 use cha_list::NoMemory;
 use cha_outside::{MOST_BYTES, ReadEnd, Source};
@@ -69,7 +71,7 @@ impl Reader {
 
     /// The next game of a source, or None where the source has ended and all its games were given.
     ///
-    /// It reads no further piece than the game needs: a game is given once the byte behind its last token was taken. The games
+    /// A game whose tags tell no other position begins at the opening. It reads no further piece than the game needs: a game is given once the byte behind its last token was taken. The games
     /// given are the first games of the bytes taken, in order. `ReadFault` comes only where the source failed in this call, and
     /// each game that is settled in the bytes taken was given before; `TooLong` comes where the source gave more than 268,435,456
     /// bytes (at most 4,096 more are taken), and `NoMemory` where the allocator refused memory. The time of all calls together
@@ -78,6 +80,7 @@ impl Reader {
         requires { self.old.failed ≡ false }
         ensures bytes { Takes (S.left source.old) (S.left source.new) self.old.taken self.new.taken }
         ensures game { IfOk result (λ found. IfSome found (λ game. slice_get (placed_games self.new.taken) self.old.given ≡ Some game)) }
+        ensures opening { fen_text opening ≡ codes "rnbqkbnr/pppppppp/8/8/8/8/PPPPPPPP/RNBQKBNR w KQkq -" }
         ensures given { self.new.given ≡ (if gives_game result then self.old.given + 1 else self.old.given) }
         ensures none { result ≡ Ok None → (self.new.ended ≡ true) × (length (placed_games self.new.taken) ≤ self.old.given) }
         ensures first { take self.old.given (placed_games self.new.taken) ≡ take self.old.given (placed_games self.old.taken) }
@@ -91,6 +94,7 @@ impl Reader {
         ensures failed { self.new.failed ≡ is_err result }
         ensures later { S.faults source.old ≤ S.faults source.new }
     {
+        games_begin_at_the_opening();
         if !self.ended {
             match self.cutter.advance(source) {
                 Ok(Advanced::Whole) => return Ok(Some(self.cutter.give(self.alloc))),

@@ -8,6 +8,7 @@ pub mod KeptWords
 pub mod Moved
 pub mod Opened
 pub mod MovedFields
+pub mod InOrder
 pub mod Settled
 pub mod Sound
 pub mod Speaking

@@ -44,12 +44,13 @@ pub struct Cutter {
 }
 
 impl Cutter {
-    ghost use Rattle.pgn_games.specs.Keeping.{taken_by, IsOpenAt, IsLastAt, IsScannedAt, HasGame, found_one};
+    ghost use Rattle.pgn_games.specs.Keeping.{taken_by, IsOpenAt, IsLastAt, IsScannedAt, HasGame, IsUsedUp, found_one};
 
     /// A cutter that has taken nothing.
     pub fn new(alloc: Global) -> Result<Cutter, NoMemory>
         ensures open { IfOk result (λ c. IsOpenAt c × IsScannedAt c) }
         ensures nothing { IfOk result (λ c. (taken_by c ≡ []) × (c.given ≡ 0)) }
+        ensures used_up { IfOk result (λ c. IsUsedUp c) }
     {
         let lexer = Lexer::new(alloc)?;
         Ok(Cutter {

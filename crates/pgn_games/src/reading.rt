@@ -1,6 +1,6 @@
 //! The reader of games.
 
-ghost use Rattle.std.specs.Prelude.{if◌then◌else◌, ◌≡◌, ◌+◌, ◌<◌, ◌≤◌, ◌↔◌, [], true, false, length, take, slice_get, is_err, OnErr, OnOk, IfOk, IfSome, IfNone, OnSome, codes};
+ghost use Rattle.std.specs.Prelude.{if◌then◌else◌, ◌≡◌, ◌+◌, ◌<◌, ◌≤◌, ◌↔◌, ℕ, List, [], true, false, length, take, slice_get, is_err, OnErr, OnOk, IfOk, IfSome, IfNone, OnSome, codes};
 ghost use Rattle.std.specs.Bool.{OnTrue};
 ghost use Rattle.std.specs.declared.result.Result.TheVariants.{Ok, Err};
 ghost use Rattle.std.specs.declared.option.Option.TheVariants.{Some, None};
@@ -9,7 +9,7 @@ ghost use Rattle.cha_outside.specs.Faults.{Rose};
 ghost use Rattle.cha_fen.specs.Written.{fen_text};
 ghost use Rattle.pgn_games.specs.Games.{opening, placed_games, is_closed as is_closed_text};
 ghost use Rattle.pgn_games.specs.Settling.{settled_games};
-ghost use Rattle.pgn_games.specs.Reading.{Takes, gives_game};
+ghost use Rattle.pgn_games.specs.Reading.{Takes, TookNoMore, gives_game};
 
 use crate::cutter::{Advanced, Cutter};
 use crate::opening::games_begin_at_the_opening;
@@ -32,13 +32,13 @@ pub struct Reader {
 /// Contracts see the bytes taken, the number of games given, whether the source has ended, and whether a call failed.
 impl Model for Reader {
     ghost use Rattle.pgn_games.specs.Reading.{ReaderState};
-    ghost use Rattle.pgn_games.specs.Keeping.{taken_by, IsHeld};
+    ghost use Rattle.pgn_games.specs.Keeping.{taken_by, IsReading};
 
     ghost Value = { ReaderState };
 
     ghost view = { λ s. record { taken = taken_by s.cutter; given = s.cutter.given; ended = s.ended; failed = s.failed } };
 
-    ghost invariant = { λ s. IsHeld s.cutter s.ended s.failed };
+    ghost invariant = { λ s. IsReading s.cutter s.ended s.failed };
 }
 
 impl Reader {
@@ -88,6 +88,7 @@ impl Reader {
         ensures no_more_reads { self.old.ended ≡ true → (source.new ≡ source.old) × (self.new.ended ≡ true) }
         ensures end { self.old.ended ≡ false → self.new.ended ≡ true → IsAtEnd (S.left source.new) }
         ensures read_fault { result ≡ Err ReadEnd.ReadFault → Rose (S.faults source.old) (S.faults source.new) }
+        ensures no_more { self.new.ended ≡ false → IfOk result (λ found. IfSome found (λ game. (piece : List ℕ) × TookNoMore self.new.taken piece self.old.given)) }
         ensures settled { result ≡ Err ReadEnd.ReadFault → settled_games self.new.taken ≤ self.old.given }
         ensures too_long { (result ≡ Err ReadEnd.TooLong) ↔ (MOST_BYTES < length self.new.taken) }
         ensures few { length self.new.taken ≤ MOST_BYTES + 4096 }

@@ -2,7 +2,7 @@
 use Rattle.std.proofs.Common.{◌≡◌, ◌==◌, ℕ, zero, suc, ◌+◌, ◌-◌, ◌^◌, ◌<◌, ◌≤◌, Bool, true, false, ◌&&◌, List, [], ◌∷◌, ◌++◌, Some, length, take, drop, map, refl, sym, ap, ◌∙◌, arith, append-nil, append_assoc, length-append}
 use Rattle.std.specs.List.{slice_get}
 use Rattle.std.proofs.lemmas.Bool.Decides.{nat_tests}
-use Rattle.std.proofs.lemmas.List.{length-map, take-map, drop_all}
+use Rattle.std.proofs.lemmas.List.{length-map, take-map}
 use Rattle.std.proofs.lemmas.List.Sums.{fold-append}
 use Rattle.std.proofs.Math.Seq.{take-append_seam}
 use Rattle.pgn_lex.specs.declared.kinds.Placed.{Placed}
@@ -211,10 +211,6 @@ none_behind fed fed' piece used e f = rw (e, f) (ap (λ xs. fed ++ xs) (drop_non
 pub nothing_more : (fed piece : List ℕ) → fed ≡ [] → piece ≡ [] → TookNoMore (fed ++ drop 0 piece) piece 0
 unfolding settled_games settled_tokens games_ended has_half_mark has_mark settled_after
 nothing_more fed piece e f = rw (e, f) ([], refl, omega arith, omega arith)
-
--- nor where all of the piece was fed
-pub none_left : (fed piece : List ℕ) (used : ℕ) → used ≡ length piece → fed ++ drop used piece ≡ fed
-none_left fed piece used e = ap (λ n. fed ++ drop n piece) e ∙ ap (λ xs. fed ++ xs) (drop_all (length piece) piece (omega arith)) ∙ append-nil fed
 
 -- the game is given, and those behind it are kept
 pub gave_is_open : (fed : List ℕ) (lexer_ended : Bool) (game behind : List Placed) (piece : List ℕ) (used given taken : ℕ) (game' : List Placed) (given' : ℕ) → IsOpen fed lexer_ended (game ++ behind) piece used given taken

@@ -1,6 +1,7 @@
 use Rattle.std.proofs.Common.{◌≡◌, ℕ, List, ◌++◌, drop, ap, ◌∙◌, arith, Ok, Err}
 use Rattle.pgn_lex.specs.Lexing.{LexerState}
-use Rattle.pgn_games.proofs.KeptTokens.{next_front, all_settled, none_behind, none_left}
+use Rattle.pgn_games.proofs.KeptTokens.{next_front, all_settled, none_behind}
+use Rattle.pgn_games.proofs.Settled.{none_left}
 use Rattle.cha_outside.specs.declared.gathering.ReadEnd.TheVariants.{ReadFault}
 use Rattle.cha_outside.proofs.Gathered.{gathers_more}
 use Rattle.pgn_games.specs.Keeping.{taken_by}

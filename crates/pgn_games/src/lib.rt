@@ -1,10 +1,11 @@
 //! The games of a text in PGN, of any bytes whatever, one at a time.
 //!
-//! `played`, `marks` and `faults` have the game that is given, `reading` the reader, and `splitting` the splitter of pieces; `token_turns` says what a
-//! token does to a game, and `cutter` keeps what a reader needs of its source, over `filling`, which reads it in
-//! pieces, and `gathering`, which moves tokens to their game; `whole` has the law that no token is lost, `settling`
-//! that of the games that are known before the rest, and `joining` that of closed texts; `summary` keeps what the tokens of one game say, by `tag_pairs`
-//! and `movetext`, and `history` tells contracts which tokens they were.
+//! `played`, `marks` and `faults` have the game that is given, `reading` the reader of a source, and `splitting` the splitter of
+//! a text that is handed in; `token_turns` says what a token does to a game, and `cutter` keeps what both need of their text,
+//! over `filling`, which reads a source in pieces, and `gathering`, which moves tokens to their game; `whole` has the law that
+//! no token is lost, `order` that of places, `settling` those of the games that are known before the rest, and `joining` that of
+//! closed texts; `summary` keeps what the tokens of one game say, by `tag_pairs` and `movetext`, and `history` tells contracts
+//! which tokens they were.
 #![tactic(auto)]
 
 mod cutter;

@@ -7,6 +7,7 @@ pub mod KeptTokens
 pub mod KeptWords
 pub mod Moved
 pub mod MovedFields
+pub mod InOrder
 pub mod Settled
 pub mod Sound
 pub mod Speaking

@@ -3,6 +3,7 @@ pub mod Cutting
 pub mod Fields
 pub mod Games
 pub mod Moving
+pub mod Order
 pub mod Reading
 pub mod Settling
 pub mod Splitting

@@ -44,12 +44,13 @@ pub struct Cutter {
 }
 
 impl Cutter {
-    ghost use Rattle.pgn_games.specs.Keeping.{taken_by, IsOpenAt, IsLastAt, IsScannedAt, HasGame, found_one};
+    ghost use Rattle.pgn_games.specs.Keeping.{taken_by, IsOpenAt, IsLastAt, IsScannedAt, HasGame, IsUsedUp, found_one};
 
     /// A cutter that has taken nothing.
     pub fn new(alloc: Global) -> Result<Cutter, NoMemory>
         ensures open { IfOk result (λ c. IsOpenAt c × IsScannedAt c) }
         ensures nothing { IfOk result (λ c. (taken_by c ≡ []) × (c.given ≡ 0)) }
+        ensures used_up { IfOk result (λ c. IsUsedUp c) }
     {
         let lexer = Lexer::new(alloc)?;
         Ok(Cutter {
@@ -134,6 +135,7 @@ impl Cutter {
         requires few { length (taken_by self.old) + length piece.now ≤ MOST_BYTES }
         ensures taken { OnOk result (taken_by self.new ≡ taken_by self.old ++ piece.now) }
         ensures err { OnErr result (taken_by self.new ≡ taken_by self.old) }
+        ensures first { OnOk result (take self.old.given (placed_games (taken_by self.new)) ≡ take self.old.given (placed_games (taken_by self.old))) }
         ensures same { (self.new.given ≡ self.old.given) × (self.new.lexer ≡ self.old.lexer) × (self.new.game ≡ self.old.game) × (self.new.behind ≡ self.old.behind) × (self.new.place ≡ self.old.place) }
         ensures open { OnOk result (IsOpenAt self.new) }
     {

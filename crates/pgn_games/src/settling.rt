@@ -1,6 +1,8 @@
-//! The law of settled games: they are known before the rest of their text.
+//! The laws of settled games: they are known before the rest of their text, and end before it does.
 
-ghost use Rattle.std.specs.Prelude.{◌≡◌, ◌≤◌, ◌++◌, ℕ, List, length, take};
+ghost use Rattle.std.specs.Prelude.{◌≡◌, ◌<◌, ◌≤◌, ◌++◌, ℕ, List, length, take, slice_get};
+ghost use Rattle.std.specs.declared.option.Option.TheVariants.{Some};
+ghost use Rattle.pgn_games.specs.declared.played.PlacedGame.{PlacedGame};
 ghost use Rattle.pgn_games.specs.Games.{placed_games};
 ghost use Rattle.pgn_games.specs.Settling.{settled_games};
 
@@ -13,3 +15,9 @@ pub fn settled_games_are_the_first()
 {
     settled_tokens_are_the_first();
 }
+
+/// A game that is settled in a text ends before the text does: a byte stands behind it. More bytes settle no fewer games.
+pub fn a_settled_game_has_a_byte_behind()
+    ensures behind { (bytes : List ℕ) → (n : ℕ) → (game : PlacedGame) → n < settled_games bytes → slice_get (placed_games bytes) n ≡ Some game → game.span.end < length bytes }
+    ensures more { (bytes rest : List ℕ) → settled_games bytes ≤ settled_games (bytes ++ rest) }
+{}

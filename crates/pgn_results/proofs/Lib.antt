@@ -17,6 +17,7 @@ pub mod OwnTokens
 pub mod Alone
 pub mod Endings
 pub mod OneByOne
+pub mod GameByGame
 pub mod ResultAlone
 pub mod SameInOrder
 pub mod SameTags

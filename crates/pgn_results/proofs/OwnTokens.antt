@@ -20,11 +20,12 @@ use Rattle.pgn_lex.proofs.Feeding.{at_length, line_from, unmarked, no_mark_begin
 use Rattle.pgn_lex.proofs.InOrder.{places_inside}
 use Rattle.pgn_lex.proofs.Joining.{moved_token, after_moved}
 use Rattle.pgn_games.specs.Fields.{is_bad}
+use Rattle.pgn_games.proofs.InOrder.{piece_bound}
 use Rattle.pgn_results.proofs.Standing.{From, after_from, one_of_all}
 use Rattle.pgn_results.proofs.Boundaries.{boundary}
 use Rattle.pgn_results.proofs.Overs.{Before, front_of, over_there, over_plain}
 use Rattle.pgn_results.proofs.Found.{Found, found_by, found}
-use Rattle.pgn_results.proofs.PieceEnds.{piece_bound, over_behind, plain_behind, passed_from, none_behind}
+use Rattle.pgn_results.proofs.PieceEnds.{over_behind, plain_behind, passed_from, none_behind}
 
 -- tokens before a place, and tokens from it on, are parted in one way
 parted : (n : ℕ) (xs ys us vs : List Placed) → Before n xs → From n ys → Before n us → From n vs → xs ++ ys ≡ us ++ vs → (xs ≡ us) × (ys ≡ vs)

@@ -13,19 +13,6 @@ use Rattle.pgn_lex.proofs.Following.{is_plain, FollowsAt, follows, ends_there}
 use Rattle.pgn_lex.proofs.Feeding.{begins, begun_plain, machine_more, read_more}
 use Rattle.pgn_results.proofs.Standing.{From, after_from}
 
--- a piece ends within its text
-bound_by : (next : Next) (stage : Stage) (word value : List ℕ) (b : ℕ) (rest : List ℕ) → FollowsAt stage next word value b
-    → ((now : Stage) (word value : List ℕ) → is_plain now ≡ true → (left_of_piece now word value rest).more ≤ length rest) → (left_of_piece stage word value (b ∷ rest)).more ≤ suc (length rest)
-bound_by (Stays now) stage word value b rest h later = let few = later now (word_after stage now b word) (grown_value stage now b value) h.0 in omega (arith, few, ap (λ (p : Piece). p.more) (h.2 rest))
-bound_by Over stage word value b rest h later = omega (arith, ap (λ (p : Piece). p.more) (h rest))
-
-bound : (stage : Stage) (word value rest : List ℕ) → is_plain stage ≡ true → (left_of_piece stage word value rest).more ≤ length rest
-bound stage word value [] p = omega (arith, ends_there stage word value p)
-bound stage word value (b ∷ rest) p = bound_by (next_stage stage b) stage word value b rest (follows stage word value b p) (λ now w v q. bound now w v rest q)
-
-pub piece_bound : (first : Bool) (b : ℕ) (bs : List ℕ) → (piece first b bs).more ≤ length bs
-piece_bound first b bs = omega (arith, bound (begun first b) (b ∷ []) [] bs (begun_plain first b), ap (λ (p : Piece). p.more) (begins first b [] bs))
-
 -- the machine behind its last byte
 none_left : (next : Next) (stage : Stage) (word value : List ℕ) (b : ℕ) (rest : List ℕ) → FollowsAt stage next word value b → (left_of_piece stage word value (b ∷ rest)).more ≡ 0 → next ≡ Over
 none_left (Stays now) stage word value b rest h e = absurd (omega (arith, e, ap (λ (p : Piece). p.more) (h.2 rest)))

@@ -1,5 +1,6 @@
 -- A text whose games have other results.
 use Rattle.std.specs.Prelude.{ℕ, false, List, [], ◌∷◌, ◌++◌, take, drop, Option, Some, None}
+use Rattle.std.specs.List.{fold}
 use Rattle.pgn_lex.specs.declared.kinds.Placed.{Placed}
 use Rattle.pgn_lex.specs.Tokens.{tokens}
 use Rattle.pgn_games.specs.declared.marks.ResultMark.{ResultMark}
@@ -33,11 +34,18 @@ written start bytes (game ∷ games) (Some mark ∷ marks) =
     between start game.span.start bytes
     ++ (game_with_mark mark (between game.span.start game.span.end bytes) (drop game.span.end bytes) ++ written game.span.end bytes games marks)
 
--- The same up to the end of the last of these games.
+-- what is written of a game from a place on, at which it begins or which stands before it
+unfoldable pub piece_of : ℕ → List ℕ → Option ResultMark → PlacedGame → List ℕ
+piece_of start bytes None game = between start game.span.end bytes
+piece_of start bytes (Some mark) game =
+    between start game.span.start bytes ++ game_with_mark mark (between game.span.start game.span.end bytes) (drop game.span.end bytes)
+
+-- the same up to the end of the last of these games for which there is word whether it changes
 unfoldable pub written_games : ℕ → List ℕ → List PlacedGame → List (Option ResultMark) → List ℕ
 written_games start bytes [] marks = []
 written_games start bytes (game ∷ games) [] = []
-written_games start bytes (game ∷ games) (None ∷ marks) = between start game.span.end bytes ++ written_games game.span.end bytes games marks
-written_games start bytes (game ∷ games) (Some mark ∷ marks) =
-    between start game.span.start bytes
-    ++ (game_with_mark mark (between game.span.start game.span.end bytes) (drop game.span.end bytes) ++ written_games game.span.end bytes games marks)
+written_games start bytes (game ∷ games) (mark ∷ marks) = piece_of start bytes mark game ++ written_games game.span.end bytes games marks
+
+-- where the last of these games ends, or a place before them where there is none
+abbrev pub end_of : ℕ → List PlacedGame → ℕ
+end_of start games = fold (λ end (game : PlacedGame). game.span.end) start games

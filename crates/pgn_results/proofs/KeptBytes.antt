@@ -1,6 +1,6 @@
 -- The bytes that are kept, and the games among them.
 use Rattle.std.proofs.Common.{◌≡◌, ℕ, zero, suc, ◌+◌, ◌-◌, ◌<◌, ◌≤◌, List, [], ◌∷◌, ◌++◌, Some, length, take, drop, slice_get, slice_range, refl, sym, ap, ◌∙◌, arith, append-nil, drop-drop, length-append, length-drop, false}
-use Rattle.std.proofs.lemmas.List.{drop-append-le, take-append-le, drop-take}
+use Rattle.std.proofs.lemmas.List.{drop-append-le, drop-take}
 use Rattle.std.proofs.lemmas.Slice.{between_is}
 use Rattle.cha_outside.specs.declared.gathering.TheConstants.{MOST_BYTES}
 use Rattle.pgn_games.specs.declared.played.PlacedGame.{PlacedGame}
@@ -44,7 +44,7 @@ kept_behind kept taken start a bytes p =
 ordered_few : (games : List PlacedGame) (low size : ℕ) → low ≤ size → AreInOrder low size games → low + length games ≤ size
 unfolding AreInOrder
 ordered_few [] low size p h = omega (arith, p)
-ordered_few (game ∷ games) low size p h = omega (arith, h.0, h.1, h.2.0, ordered_few games game.span.end size h.2.0 h.2.1)
+ordered_few (game ∷ games) low size p h = omega (arith, h.0, h.1, h.2, ordered_few games game.span.end size h.2 h.3)
 
 there : (games : List PlacedGame) (n : ℕ) (game : PlacedGame) → slice_get games n ≡ Some game → n < length games
 there [] n game e = cc
@@ -78,3 +78,9 @@ open_more i j piece h games handed_on now given kept start few =
       some = omega (arith, start.1);
       settled = λ e. omega (arith, given, h.settled refl, settled_grow i.games.taken piece, ap settled_games taken);
     }
+
+-- the first games are the same over two readings
+pub first_on : (given games : ℕ) (now mid before : List ℕ) → games ≡ given → take games (placed_games now) ≡ take games (placed_games mid)
+    → take given (placed_games mid) ≡ take given (placed_games before) → take given (placed_games now) ≡ take given (placed_games before)
+first_on given games now mid before e second first =
+    ap (λ n. take n (placed_games now)) (sym e) ∙ second ∙ ap (λ n. take n (placed_games mid)) e ∙ first

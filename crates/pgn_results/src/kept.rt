@@ -38,6 +38,7 @@ struct Intake {
 
 /// Methods see the fields.
 impl Intake {
+    ghost use Rattle.pgn_results.specs.Correcting.{between};
     ghost use Rattle.pgn_results.specs.Keeping.{IsOpen, arrived};
 
     /// Reads the next piece of a source and hands it on, or finds that the source has ended.
@@ -81,6 +82,31 @@ impl Intake {
         ensures { result ≡ self.now.start + (length self.now.kept + length self.now.piece.items) }
     {
         self.start + (self.kept.items().len() + self.piece.len()) as u64
+    }
+
+    /// The bytes of the text from one place to another, among those that are kept.
+    fn bytes_between(&self, start: u64, end: u64) -> &[u8]
+        requires whole { self.now.piece.items ≡ [] }
+        requires bytes { self.now.kept ≡ drop self.now.start self.now.games.taken }
+        requires size { self.now.start + length self.now.kept ≡ length self.now.games.taken }
+        requires order { (self.now.start ≤ start) × (start ≤ end) × (end ≤ length self.now.games.taken) }
+        ensures { result.now ≡ between start end (arrived self.now) }
+    {
+        let begin = (start - self.start) as usize;
+        let end = (end - self.start) as usize;
+        &self.kept.items()[begin..end]
+    }
+
+    /// The bytes of the text behind a place, among those that are kept.
+    fn bytes_behind(&self, place: u64) -> &[u8]
+        requires whole { self.now.piece.items ≡ [] }
+        requires bytes { self.now.kept ≡ drop self.now.start self.now.games.taken }
+        requires size { self.now.start + length self.now.kept ≡ length self.now.games.taken }
+        requires order { (self.now.start ≤ place) × (place ≤ length self.now.games.taken) }
+        ensures { result.now ≡ drop place (arrived self.now) }
+    {
+        let begin = (place - self.start) as usize;
+        self.kept.items().split_at(begin).1
     }
 
     /// Keeps the piece that was read, and hands it on. What was written goes.
@@ -222,13 +248,31 @@ impl KeptReader {
         ensures written { OnOk result (self.new.written ≡ span.end) }
         ensures same { (self.new.taken ≡ self.old.taken) × (self.new.given ≡ self.old.given) × (self.new.ended ≡ self.old.ended) × (self.new.failed ≡ self.old.failed) }
     {
-        let end = (span.end - self.intake.start) as usize;
-        let text = match mark {
-            Some(mark) => self.marked(span, mark)?,
-            None => text_of(self.intake.alloc, &self.intake.kept.items()[self.intake.written..end])?,
-        };
-        self.intake.written = end;
+        let text = self.text_of_game(span, mark)?;
+        self.intake.written = (span.end - self.intake.start) as usize;
         Ok(text)
+    }
+
+    /// What is written of the game that was given last, with what stands before it.
+    fn text_of_game(&self, span: Span, mark: Option<ResultMark>) -> Result<Text, NoMemory>
+        requires { (self.now.written ≤ span.start) × (span.start ≤ span.end) × (span.end ≤ length self.now.taken) × (self.now.failed ≡ false) }
+        ensures { IfOk result (λ text. text ≡ piece_of self.now.taken self.now.written span mark) }
+    {
+        match mark {
+            Some(mark) => self.marked(span, mark),
+            None => text_of(
+                self.intake.alloc,
+                self.intake.bytes_between(self.written(), span.end),
+            ),
+        }
+    }
+
+    /// How many bytes were written.
+    fn written(&self) -> u64
+        requires { self.now.failed ≡ false }
+        ensures { result ≡ self.now.written }
+    {
+        self.intake.start + self.intake.written as u64
     }
 
     /// What stands before the game that was given last and was not written, and the game with another result.
@@ -236,17 +280,12 @@ impl KeptReader {
         requires { (self.now.written ≤ span.start) × (span.start ≤ span.end) × (span.end ≤ length self.now.taken) × (self.now.failed ≡ false) }
         ensures { IfOk result (λ text. text ≡ piece_of self.now.taken self.now.written span (Some mark)) }
     {
-        let begin = (span.start - self.intake.start) as usize;
-        let end = (span.end - self.intake.start) as usize;
-        let bytes = self.intake.kept.items();
-        let mut text = text_of(self.intake.alloc, &bytes[self.intake.written..begin])?;
-        put_with_mark(
-            self.intake.alloc,
-            mark,
-            &bytes[begin..end],
-            &bytes[end..],
-            &mut text,
-        )?;
+        let intake = &self.intake;
+        let before = intake.bytes_between(self.written(), span.start);
+        let game = intake.bytes_between(span.start, span.end);
+        let behind = intake.bytes_behind(span.end);
+        let mut text = text_of(intake.alloc, before)?;
+        put_with_mark(intake.alloc, mark, game, behind, &mut text)?;
         Ok(text)
     }
 
@@ -258,15 +297,24 @@ impl KeptReader {
         ensures written { OnOk result (self.new.written ≡ span.end) }
         ensures same { (self.new.taken ≡ self.old.taken) × (self.new.given ≡ self.old.given) × (self.new.ended ≡ self.old.ended) × (self.new.failed ≡ self.old.failed) }
     {
-        let begin = (span.start - self.intake.start) as usize;
-        let end = (span.end - self.intake.start) as usize;
-        let mut text = Text::new(self.intake.alloc);
-        if let Some(mark) = mark {
-            let game = &self.intake.kept.items()[begin..end];
-            put_with_mark(self.intake.alloc, mark, game, &[], &mut text)?;
-            text.append(b"\n\n")?;
-        }
-        self.intake.written = end;
+        let text = self.changed_text(span, mark)?;
+        self.intake.written = (span.end - self.intake.start) as usize;
+        Ok(text)
+    }
+
+    /// The game that was given last with another result, and a blank line behind it; nothing where its result stays.
+    fn changed_text(&self, span: Span, mark: Option<ResultMark>) -> Result<Text, NoMemory>
+        requires { (self.now.written ≤ span.start) × (span.start ≤ span.end) × (span.end ≤ length self.now.taken) × (self.now.failed ≡ false) }
+        ensures { IfOk result (λ text. text ≡ changed_piece self.now.taken span mark) }
+    {
+        let alloc = self.intake.alloc;
+        let mut text = Text::new(alloc);
+        let Some(mark) = mark else {
+            return Ok(text);
+        };
+        let game = self.intake.bytes_between(span.start, span.end);
+        put_with_mark(alloc, mark, game, &[], &mut text)?;
+        text.append(b"\n\n")?;
         Ok(text)
     }
 }

@@ -1,5 +1,4 @@
-use Rattle.std.proofs.Common.{◌≡◌, ◌++◌, [], sym, ap, ◌∙◌, arith, append-nil, Ok, length-append, List, ℕ}
-use Rattle.pgn_games.specs.Settling.{settled_games}
+use Rattle.std.proofs.Common.{◌++◌, sym, ap, ◌∙◌, arith, List, ℕ}
 use Rattle.pgn_results.specs.Keeping.{arrived}
 use Rattle.pgn_results.proofs.KeptBytes.{given_stay, open_more, arrived_is, settled_of}
 use Rattle.pgn_results.proofs.kept.Intake.refill.Goals as goal

@@ -1,4 +1,4 @@
-use Rattle.std.proofs.Common.{◌≡◌, ◌+◌, ◌-◌, ◌≤◌, length, take, true, false, Bool}
+use Rattle.std.proofs.Common.{◌≡◌, ◌+◌, ◌-◌, ◌≤◌, length, take, true, false, Bool, ℕ}
 use Rattle.cha_outside.specs.declared.gathering.TheConstants.{MOST_BYTES}
 use Rattle.cha_outside.specs.Gathering.{Gathers}
 use Rattle.std.specs.Io.KnownBytes.{IsAtEnd}
@@ -20,5 +20,10 @@ invariant-loop-found g l = record {
   later : g.S.Source.faults l.fn.source ≤ g.S.Source.faults l.source;
 }
 
+-- what is left to read: the end, and bytes up to the most that may come
+abbrev pub end_left : Bool → ℕ
+end_left true = 0
+end_left false = 1
+
 abbrev pub decreases-loop-found : goal.decreases-loop-found
-decreases-loop-found g l = MOST_BYTES + 1 - length (arrived l.self-inside.intake)
+decreases-loop-found g l = end_left l.self-inside.ended + (MOST_BYTES + 1 - length (arrived l.self-inside.intake))

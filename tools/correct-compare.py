@@ -4,8 +4,7 @@
     tools/correct-compare.py PROGRAM [--flagged-draws] FILE..
 
 Of each file `cha adjudicate --json` says where the games stand and whose results change. No byte but those of the two places of such games
-may differ: the value of the first tag pair `Result` in front of the moves, and the result at the game's end, which is one that was recorded
-before and is the new one now. `cha correct --changed` has to write these games and no other. pgn-extract has to read as many games in the
+may differ: the value of the first tag pair `Result`, and the result at the game's end. `cha correct --changed` has to write these games and no other. pgn-extract has to read as many games in the
 mended file as in the first one, with the results of the report, and no result of the mended file may change again. It prints the numbers,
 and ends with 1 at the first thing that differs.
 """
@@ -21,6 +20,8 @@ PGN_EXTRACT = shutil.which("pgn-extract") or "/usr/games/pgn-extract"
 # a comment, an escaped line, or a tag pair; a tag pair behind anything else is none that counts
 PASSED_OVER = re.compile(rb"(?:[\s.]|\{[^}]*\}|;[^\r\n]*|(?<=[\r\n])%[^\r\n]*)*")
 TAG = re.compile(rb'\[\s*(\w+)\s*"((?:\\.|[^"\\\r\n])*)"\s*\]')
+# bytes of a word: where one of them touches a star, a space has to stand beside the result that takes its place
+WORD, OPEN = re.compile(rb"[A-Za-z0-9_+#=:/!?-]"), re.compile(rb"[A-Za-z0-9_+#=:/!?$-]")
 RESULT = re.compile(rb"(1-0|0-1|1/2-1/2|\*)$")
 
 
@@ -59,9 +60,10 @@ def mended(data, games):
             counts[kind] += 1
             counts[2] += place[1] - place[0]
             counts[3] += len(result)
-            touched = kind and data[place[0] : place[1]] == b"*" and data[place[1] : place[1] + 1].strip(b" \t\r\n\v\f{}()[];.*")
-            parts += [data[done : place[0]], result + (b" " if touched else b"")]
-            own += [data[begun : place[0]], result]
+            before = b" " if kind and OPEN.match(data, place[0] - 1) else b""
+            behind = b" " if kind and WORD.match(data, place[1]) else b""
+            parts += [data[done : place[0]], before + result + behind]
+            own += [data[begun : place[0]], before + result]
             done = begun = place[1]
         alone += [*own, data[begun : game["bytes"][1]], b"\n\n"]
     return b"".join([*parts, data[done:]]), b"".join(alone), counts

@@ -44,7 +44,7 @@ def pieced(data: bytes, size: int) -> bytes:
 def test_the_two_places_of_a_game() -> None:
     assert cha.corrected(_MATE) == _MENDED
     assert cha.corrected(b"1. e4 *\n" + _MATE + b"\n1. e5 *\n") == b"1. e4 *\n" + _MENDED + b"\n1. e5 *\n"
-    assert cha.corrected(b"f3 e5 g4 Qh4 *1. e4 *") == b"f3 e5 g4 Qh4 0-1 1. e4 *"
+    assert cha.corrected(b"f3 e5 g4 Qh4*1. e4 *") == b"f3 e5 g4 Qh4 0-1 1. e4 *"
 
 
 def test_only_the_games_that_change() -> None:

@@ -5,8 +5,8 @@
 
 Of each file `cha adjudicate --json` says where the games stand and whose results change. No byte but those of the two places of such games
 may differ: the value of the first tag pair `Result`, and the result at the game's end. `cha correct --changed` has to write these games and no other. pgn-extract has to read as many games in the
-mended file as in the first one, with the results of the report, and no result of the mended file may change again. It prints the numbers,
-and ends with 1 at the first thing that differs.
+mended file as in the first one, with the results of the report, and no result of the mended file may change again, but for games that no
+result ends. It prints the numbers, and ends with 1 at the first thing that differs.
 """
 
 import json
@@ -45,6 +45,11 @@ def places(data, game):
         tag = TAG.match(data, PASSED_OVER.match(data, tag.end(), end).end(), end)
     token = RESULT.search(data, start, end)
     return tag.span(2) if tag else None, token.span() if token else None
+
+
+def recorded_now(data, game):
+    """What a corrected game records: its result, or a star where none ends it; None of one that cannot be read."""
+    return game.get("result") if "unreadable" in game or places(data, game)[1] else "*"
 
 
 def mended(data, games):
@@ -94,9 +99,10 @@ def compare(program, options, path):
     summary = f"games: {last['games']}, unreadable: {last['unreadable']}, changed: {last['changed']}, undecided: {last['undecided']}\n"
     differ(f"{path}: the summary", noted.decode(), summary)
     again, last_again = judged(program, options, output)
-    differ(f"{path}: the results, judged again", [game.get("recorded") for game in again], [game.get("result") for game in games])
-    if not options and last_again["changed"]:
-        sys.exit(f"{path}: {last_again['changed']} results change again")
+    differ(f"{path}: the results, judged again", [game.get("recorded") for game in again], [recorded_now(data, game) for game in games])
+    unended = sum(recorded_now(data, game) != game.get("result") for game in games)
+    if not options and last_again["changed"] != unended:
+        sys.exit(f"{path}: {last_again['changed']} results change again, and {unended} games without a result at their end")
     ends, before = extracted(output), extracted(data)
     differ(f"{path}: the games of pgn-extract", [len(ends)], [len(before)])
     if not last["unreadable"] and len(before) == last["games"]:

@@ -1,6 +1,6 @@
 //! The laws of corrected texts: their games are the same, but for their results, and each may be written from its own bytes.
 
-ghost use Rattle.std.specs.Prelude.{◌≡◌, ◌≤◌, ◌++◌, ◌∷◌, [], ℕ, true, Option, List, map, length, take, drop, slice_get, All, codes};
+ghost use Rattle.std.specs.Prelude.{◌≡◌, ◌≤◌, ◌++◌, ◌∷◌, [], ℕ, true, false, Option, List, map, length, take, drop, slice_get, All, codes};
 ghost use Rattle.std.specs.declared.option.Option.TheVariants.{Some};
 ghost use Rattle.pgn_lex.specs.declared.kinds.Placed.{Placed};
 ghost use Rattle.pgn_lex.specs.Tokens.{tokens};
@@ -41,7 +41,7 @@ pub fn written_games_are_a_front()
         → written_games 0 bytes (placed_games bytes) (marks ++ mark ∷ []) ≡ written_games 0 bytes (placed_games bytes) marks ++ piece_of (end_of 0 (take (length marks) (placed_games bytes))) bytes mark game }
 {}
 
-/// A game of a text that has no token before its result has no move, and starts from the opening position.
+/// A game of a text that has no token before its result has no move, starts from the opening position, and says of no flag that it fell.
 pub fn a_result_alone_has_no_move()
-    ensures { (ts : List Placed) → All (λ (game : List Placed). begins_with_result game ≡ true → ((game_of game).words ≡ []) × ((game_of game).start ≡ opening)) (cut Before ts) }
+    ensures { (ts : List Placed) → All (λ (game : List Placed). begins_with_result game ≡ true → ((game_of game).words ≡ []) × ((game_of game).start ≡ opening) × ((game_of game).forfeit ≡ false) × ((game_of game).flag_fell ≡ false)) (cut Before ts) }
 {}

@@ -1,3 +1,4 @@
 pub mod Asked
 pub mod Examples
 pub mod NamedLegal
+pub mod ResultsStay

@@ -21,8 +21,8 @@ pub use items::{
 pub use outcomes::Outcome;
 pub use questions::{FlaggedDraws, Question};
 pub use rulings::{
-    Cause, Claim, Judgment, changes_result, claim_of, fallen_flag, first_examined, found_results_stay,
-    judgment_of, ruling,
+    Cause, Claim, Judgment, changes_result, claim_of, fallen_flag, first_examined,
+    found_results_stay, judgment_of, ruling,
 };
 pub use status::{PositionStatus, status_of};
 pub use totals::Totals;

@@ -9,7 +9,7 @@ use Rattle.pgn_games.specs.Order.{AreInOrder}
 use Rattle.pgn_games.specs.Settling.{settled_games}
 use Rattle.pgn_games.proofs.InOrder.{placed_games_order}
 use Rattle.pgn_games.proofs.Settled.{settled_grow}
-use Rattle.pgn_results.specs.declared.kept.Intake.{Intake}
+use Rattle.pgn_results.specs.declared.intake.Intake.{Intake}
 use Rattle.pgn_results.specs.Correcting.{between}
 use Rattle.pgn_results.specs.Keeping.{arrived, IsOpen}
 use Rattle.pgn_results.proofs.GameByGame.{same_first}

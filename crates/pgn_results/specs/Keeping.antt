@@ -4,7 +4,7 @@ use Rattle.cha_outside.specs.declared.gathering.TheConstants.{MOST_BYTES}
 use Rattle.pgn_games.specs.declared.marks.ResultMark.{ResultMark}
 use Rattle.pgn_games.specs.declared.played.Span.{Span}
 use Rattle.pgn_games.specs.Settling.{settled_games}
-use Rattle.pgn_results.specs.declared.kept.Intake.{Intake}
+use Rattle.pgn_results.specs.declared.intake.Intake.{Intake}
 use Rattle.pgn_results.specs.Correcting.{between}
 use Rattle.pgn_results.specs.Replacing.{game_with_mark}
 

@@ -72,6 +72,8 @@ class _Run:
         path = self._order.corrected
         if path is None:
             return
+        if path == "-":
+            raise OrderError("--corrected -: it needs the name of a file, which --resume can cut back")
         for file in self._order.files:
             if is_same_file(file, path):
                 raise OrderError(f"--corrected {path}: {'standard input' if file == '-' else file} is read; write to another file")

@@ -4,9 +4,10 @@
     tools/correct-compare.py PROGRAM [--flagged-draws] FILE..
 
 Of each file `cha adjudicate --json` says where the games stand and whose results change. No byte but those of the two places of such games
-may differ: the value of the first tag pair `Result`, and the result at the game's end. `cha correct --changed` has to write these games and no other. pgn-extract has to read as many games in the
-mended file as in the first one, with the results of the report, and no result of the mended file may change again, but for games that no
-result ends. It prints the numbers, and ends with 1 at the first thing that differs.
+may differ: the value of the first tag pair `Result`, and the result at the game's end. `cha correct --changed` has to write these games and
+no other. Judged again, each game has to record its result and none may change, but for games that no result ends. And pgn-extract has to
+read as many games in the mended file as in the first one, with the results of the report, where it reads as many as the report has. It
+prints the numbers, and ends with 1 at the first thing that differs.
 """
 
 import json
@@ -53,7 +54,7 @@ def recorded_now(data, game):
 
 
 def mended(data, games):
-    """The text with other results, and the games that change alone; how many tags and results were replaced, of how many bytes, by how many."""
+    """The text with other results, and the games that change alone; how many tags and results were replaced, of and by how many bytes."""
     parts, alone, done, counts = [], [], 0, [0, 0, 0, 0]
     for game in games:
         if not game.get("changed"):

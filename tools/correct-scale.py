@@ -4,8 +4,7 @@
     tools/correct-scale.py PROGRAM GAMES.pgn [BYTES]
 
 The input is copies of GAMES.pgn, of BYTES in all or a little less (268,435,456, the most that one run reads, where it is left out). For each
-command it prints the time by the clock, the processor time and the peak of memory, with one worker. What `correct` writes has to be as much
-as it reads, but for the results.
+command it prints the time by the clock, the processor time, the peak of memory and how much it wrote, with one worker.
 """
 import os
 import subprocess
@@ -44,7 +43,8 @@ def main():
         print(f"{os.path.getsize(path) / 1e6:.1f} MB, load {os.getloadavg()[0]:.1f}", flush=True)
         for words in COMMANDS:
             clock, processor, memory, length = run(program, words, path, f"{room}/out")
-            print(f"{' '.join(words)}: {clock:.1f} s by the clock, {processor:.1f} s of processor time, {memory:.1f} MB, {length / 1e6:.1f} MB written", flush=True)
+            times = f"{clock:.1f} s by the clock, {processor:.1f} s of processor time"
+            print(f"{' '.join(words)}: {times}, {memory:.1f} MB, {length / 1e6:.1f} MB written", flush=True)
 
 
 if __name__ == "__main__":

@@ -63,8 +63,6 @@ def test_draws_whose_flag_fell() -> None:
 def test_errors_are_those_of_a_report() -> None:
     with pytest.raises(cha.UsageError):
         cha.corrected("", budget=0)
-    with pytest.raises(cha.TooLong):
-        cha.corrected(bytearray(268_435_457))
 
 
 @pytest.mark.parametrize("name", HARD)
@@ -145,6 +143,7 @@ def test_what_is_read_is_not_written_over(made: Path, tmp_path: Path) -> None:
         assert b"is read; write to another file" in run([made, "--corrected", path], status=1).stderr
     with open(made, "rb") as file:
         assert b"standard input is read" in run(["-", "--corrected", made], status=1, data=None, stdin=file).stderr
+    assert b"it needs the name of a file" in run([made, "--corrected", "-"], status=1).stderr
     assert b"another output has this name" in run([made, "--to", tmp_path / "a.csv", "--corrected", tmp_path / "a.csv"], status=1).stderr
     assert made.read_bytes() == data and os.listdir(tmp_path) == ["link.pgn"]
 

@@ -42,7 +42,7 @@ def parser() -> argparse.ArgumentParser:
     read.add_argument("--to", metavar="FILE", help="write the games to FILE.jsonl, FILE.csv or FILE.sqlite; else JSON lines are printed")
     read.add_argument("--only", choices=list(KINDS), help="write only games of this kind")
     read.add_argument("--report", metavar="FILE.html", help="write a page with the numbers and the changed games")
-    read.add_argument("--corrected", metavar="FILE.pgn", help="write the text of all files, plain, in which each game has the result by the Laws")
+    read.add_argument("--corrected", metavar="FILE.pgn", help="write all games in PGN, with the results by the Laws")
     read.add_argument("--resume", action="store_true", help="go on where a run with the same words was broken off")
     read.add_argument("--quiet", action="store_true", help="say nothing but errors")
     read.add_argument("--threads", type=_count, default=processors(), metavar="N", help="judge N pieces at once (%(default)s)")
@@ -72,6 +72,8 @@ class _Run:
         path = self._order.corrected
         if path is None:
             return
+        if path == "-":
+            raise OrderError("--corrected -: it needs the name of a file, which --resume can cut back")
         for file in self._order.files:
             if is_same_file(file, path):
                 raise OrderError(f"--corrected {path}: {'standard input' if file == '-' else file} is read; write to another file")
@@ -172,6 +174,7 @@ def main(arguments: Optional[Sequence[str]] = None) -> int:
         print(f"cha-db: {fault}", file=sys.stderr)
         return InputError.status
     except KeyboardInterrupt:
-        goes_on = "; --resume goes on behind the last whole piece" if order is not None and (order.to or order.report or order.corrected) else ""
+        is_kept = order is not None and (order.to or order.report or order.corrected)
+        goes_on = "; --resume goes on behind the last whole piece" if is_kept else ""
         print(f"cha-db: interrupted{goes_on}", file=sys.stderr)
         return 130

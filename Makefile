@@ -81,6 +81,7 @@ text-test: cha
 	tools/printed.py ./cha
 	tools/completions.py --check ./cha
 	tools/certificates.sh ./cha
+	tools/flowing.py ./cha
 	tools/words.py
 	tools/draw.py --check
 

@@ -39,6 +39,8 @@ enum cha_answer {
  * and numbers those before it; if not, judge it again together with the next one. The lines are those of one run over the whole (proved;
  * docs/LIBRARY.md).
  *
+ * With the word correct the output is the text of the games, with the right results; the summary is not handed out.
+ *
  * Where the answer is CHA_NO_ROOM, nothing was written, and a call with *used bytes of room has enough. Options for threads change
  * nothing: one thread does the work.
  */

@@ -20,7 +20,7 @@ PROGRAM, FILES = sys.argv[1], sys.argv[2:]
 
 
 def printed(words, data):
-    return subprocess.run([PROGRAM, *words], input=data, stdout=subprocess.PIPE, check=True).stdout
+    return subprocess.run([PROGRAM, *words], input=data, stdout=subprocess.PIPE, stderr=subprocess.DEVNULL, check=True).stdout
 
 
 class Library(unittest.TestCase):
@@ -31,6 +31,17 @@ class Library(unittest.TestCase):
             words = ["adjudicate" if path.endswith(".pgn") else "position", "--certs", "--workers=1"]
             for order in (words, [*words, "--json"]):
                 self.assertEqual(cha.report(order, data), printed(order, data), path)
+
+    def test_corrected_texts_are_the_programs(self):
+        with open(os.path.join(TOP, "docs", "sample.pgn"), "rb") as file:
+            data = file.read().replace(b'"0-1"', b'"*"').replace(b"\n0-1", b"\n1-0 1. f3 e5 2. g4 Qh4# *")
+        for more in ([], ["--changed"], ["--flagged-draws"], ["--budget=1", "--depth=2", "--changed"]):
+            self.assertEqual(cha.report(["correct", "--workers=1", *more], data), printed(["correct", "--workers=1", *more], data), more)
+        self.assertEqual(cha.corrected(data).count(b"Qh4# 0-1"), 1)
+        for path in [path for path in FILES if path.endswith(".pgn")]:
+            with open(path, "rb") as file:
+                data = file.read()
+            self.assertEqual(cha.corrected(data), printed(["correct", "--workers=1"], data), path)
 
     def test_two_threads_at_once(self):
         data = b"8/8/8/4k3/3q4/8/8/4KN2 w - -\n" * 20

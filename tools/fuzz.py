@@ -7,10 +7,13 @@ It runs ./cha, or the program that CHA_PROGRAM names; with CHA_LIBRARY=./libcha.
 
 Texts are games in PGN, positions in FEN and certificates: those built in, and those of the files (`.pgn`, and lines of `.fen`). Answers
 on FEN and on certificates are compared with `tools/second`; a report on games is held against the rules of a whole report: numbers,
-lines, summary. A text that takes over ten seconds ends the script by a signal. The status is 0 where nothing was wrong.
+lines, summary. Games with the right results have to be the bytes of the text, but for the places that tools/correct-compare.py finds. A
+text that takes over ten seconds ends the script by a signal. The status is 0 where nothing was wrong.
 """
 import contextlib
+import importlib.util
 import io
+import json
 import os
 import random
 import re
@@ -23,6 +26,10 @@ sys.path[:0] = [os.path.join(HERE, "..", "python"), os.path.join(HERE, "second")
 
 import board  # noqa: E402
 import second  # noqa: E402
+
+found = importlib.util.spec_from_file_location("correct_compare", os.path.join(HERE, "correct-compare.py"))
+correct_compare = importlib.util.module_from_spec(found)
+found.loader.exec_module(correct_compare)
 
 if "CHA_LIBRARY" in os.environ:
     from cha import ChaError, report  # noqa: E402
@@ -56,6 +63,8 @@ GAMES = [
     "1. f3 e5 2. g4 Qh4# 0-1\n",
     '[FEN "6k1/7R/5K2/8/8/8/8/8 b - -"]\n1... Kxh7 2. Ke5 Kg7 *\n',
     "%x\r\n1. e4 ; note [\r\ne5 2. Nf3 Nc6 3. Bc4 Bc5 4. 0-0!? Nf6 *\n",
+    '[Result "1-0"]\n\n1. f3 e5 2. g4 Qh4# 1/2-1/2\nf3 e5 (e4 *) g4 $3 Qh4*{1-0}\n',
+    '%x\r\n[Result "*"][Result "1-0"]{x}[FEN "8/8/4k3/8/8/4K3/8/8 w - -"] ; [Result "1-0"]\r\n*',
 ]
 LIMITS = ["--budget=50", "--depth=2"]
 
@@ -135,6 +144,17 @@ def wrong_games(out):
     return None
 
 
+def wrong_corrected(data):
+    """What is wrong with the games with the right results, if anything is."""
+    *games, _ = map(json.loads, report(["adjudicate", "--json", *LIMITS], data).splitlines())
+    text, alone, _ = correct_compare.mended(data, games)
+    if report(["correct", *LIMITS], data) != text:
+        return "other bytes than those of the results"
+    if report(["correct", "--changed", *LIMITS], data) != alone:
+        return "other games than those that change"
+    return None
+
+
 def second_answer(data):
     """What the second program answers on a certificate."""
     with contextlib.redirect_stdout(io.StringIO()) as printed:
@@ -167,7 +187,7 @@ def main():
         signal.alarm(10)
         try:
             if kind == "games":
-                wrong = wrong_games(report(["adjudicate", *LIMITS], data).decode("latin-1"))
+                wrong = wrong_games(report(["adjudicate", *LIMITS], data).decode("latin-1")) or wrong_corrected(data)
             elif kind == "positions":
                 wrong = wrong_positions(data, report(["position", *LIMITS], data).decode("latin-1"))
             else:

@@ -9,6 +9,7 @@ CHA_DATA names. Pictures of the page are left in page/out. The last line is 'N p
 import base64
 import json
 import os
+import subprocess
 import sys
 import unittest
 from urllib.parse import urlencode
@@ -27,6 +28,11 @@ window.longest = 0;
 let last = performance.now();
 setInterval(() => { const now = performance.now(); window.longest = Math.max(window.longest, now - last); last = now; }, 5);
 """
+
+
+def corrected(games):
+    """The games with the right results, as the program writes them."""
+    return output_of([PROGRAM, "correct"], input=games, stderr=subprocess.DEVNULL)
 
 
 class OnPage:
@@ -139,6 +145,16 @@ class OnPage:
         self.browser.until("return !document.getElementById('position').hidden")
         self.browser.click("#csv")
         self.assertEqual(len(self.saved("cha.csv").split("\r\n")), wanted["changed"] + 2)
+        self.browser.click("#mended")
+        self.assertEqual(self.saved("cha.pgn").encode(), corrected(many))
+
+    def test_games_with_the_right_results_are_saved(self):
+        mate = '[White "José"]\n[Result "1-0"]\n\n1. f3 e5 2. g4 Qh4# {1-0} 1-0\n'
+        for game, is_changed in ((mate, True), (mate.replace("1-0", "0-1"), False), ("1. e4 e5 2. Nf6 1-0", False), (KNIGHT, False), (mate, True)):
+            self.open(pgn=game, flag="white")
+            self.assertEqual(self.browser.run("return document.getElementById('mended').offsetParent !== null"), is_changed, game)
+        self.browser.click("#mended")
+        self.assertEqual(self.saved("cha.pgn"), mate.replace('"1-0"', '"0-1"').replace("} 1-0", "} 0-1"))
 
     def test_examples_are_clicked(self):
         self.open()

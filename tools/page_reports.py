@@ -32,7 +32,7 @@ work.ask('report', { words, bytes }, async ({ answer, output }) => {
 def asked_of(file):
     """The orders that are compared for a file."""
     command = "adjudicate" if file.endswith(".pgn") else "position"
-    return [[command, *style] for style in STYLES] + ([["replay", "--json"]] if command == "adjudicate" else [])
+    return [[command, *style] for style in STYLES] + ([["replay", "--json"], ["correct"], ["correct", "--changed"]] if command == "adjudicate" else [])
 
 
 @functools.cache

@@ -3,7 +3,7 @@
 
     tools/refused-memory.py [PROGRAM]
 
-Each run ends with its usual output, or with status 5 and whole blocks of it, or, where a store or a thread went without memory, with
+Each run ends with its usual output, or with status 5 and whole blocks or games of it, or, where a store or a thread went without memory, with
 status 0 and a whole sound report. The status of this script is 0 where all do. It wants a C compiler.
 """
 import os
@@ -16,6 +16,7 @@ RUNS = [
     (["adjudicate", "--certs"], '[FEN "4k3/8/8/8/8/8/8/4K3 w - -"]\n*'),
     (["adjudicate"], "1. f3 e5 2. g4 Qh4# 0-1"),
     (["adjudicate"], '[FEN "6k1/5ppp/8/8/8/8/5PPP/3R2K1 b - -"]\n[Termination "time forfeit"]\n\n1-0'),
+    (["correct"], '1. e4 {a note} *\n[Result "1-0"]\n\n1. f3 e5 2. g4 Qh4# 1-0\n1. e5 *\n1. f3 e5 2. g4 Qh4# * '),
     (["position", "--workers=4", "--depth=3"], "8/8/8/4k3/8/8/8/4KR2 w - -\n8/8/8/4k3/3q4/8/8/4KN2 w - -"),
     (["check"], "cha-cert 1\nwinner w\nnodes 2\ninner k7/1Q6/8/8/8/8/8/4K3 b - -\nleaf 8/1k6/8/8/8/8/8/4K3 w - -\n"
                 "loose 0002000000000010\nreach e1 K ffffffffffffffff\nreach b7 K ffffffffffffffff\nend\n"),
@@ -32,6 +33,8 @@ def run(program, library, words, text, number, told):
 
 def is_front(words, out, whole):
     """Returns whether an output is whole blocks at the front of another."""
+    if words[0] == "correct":
+        return whole.startswith(out) and (out == "" or out.endswith(("*", "0-1")))
     begins = ("game ", "position ")
     ends_well = out == "" or any(whole[len(out):].startswith(word) for word in (*begins, word_of_summary(words)))
     return whole.startswith(out) and ends_well

@@ -61,9 +61,14 @@ async function judgeBytes(bytes, text = null) {
     if (run === asking.run) document.body.dataset.busy = "no";
 }
 
+/** What went wrong, by an answer of the module, or by what stopped it. */
+function troubleOf(answer, why = `status ${answer}`) {
+    return TROUBLES[answer] ? say(TROUBLES[answer]) : say("failed", { why });
+}
+
 /** Shows how a run ended, and what it found. */
 function end(told) {
-    if (told.kind === "failed") return complain(TROUBLES[told.answer] ? say(TROUBLES[told.answer]) : say("failed", { why: told.why }));
+    if (told.kind === "failed") return complain(troubleOf(told.answer, told.why));
     if (told.kind !== "stopped") return showItems();
     complain(say("stopped"));
     return asking.items.length ? showItems() : undefined;
@@ -76,6 +81,9 @@ function begin(bytes) {
     at.ruling.hidden = at.position.hidden = at.table.hidden = true;
     asking.source = bytes;
     asking.items = [];
+    asking.options = options();
+    asking.judged = 0;
+    at.mended.hidden = true;
     at.progress.removeAttribute("value");
     at.told.textContent = say("busy");
     at.working.hidden = false;
@@ -92,6 +100,7 @@ function hear(message, run) {
     }
     const { items, done, total } = message;
     asking.items.push(...items.map(withTags));
+    asking.judged = done;
     at.progress.value = done / total;
     at.told.textContent = say("busy_games", { done: Math.floor((100 * done) / total), count: counted(asking.items.length) });
     if (asking.items.length > 1) {
@@ -110,6 +119,7 @@ function withTags(item) {
 /** Behind a run: the only item, or the table with a word on all. */
 async function showItems() {
     const { items } = asking;
+    at.mended.hidden = asking.kind !== "games" || !items.some((it) => it.changed);
     if (items.length === 0) return complain(say("nothing_found"));
     if (items.length === 1) return openItem(items[0]);
     at.words.textContent = summaryWords(items);
@@ -192,6 +202,18 @@ async function checkCertificate(text = at.certificate.value) {
     at.checked.scrollIntoView({ block: "nearest" });
 }
 
+/** Saves the text of the games that were judged, with the right results. */
+async function saveMended() {
+    at.mended.disabled = true;
+    const asked = { words: ["correct", ...asking.options], bytes: asking.source.subarray(0, asking.judged) };
+    const told = await work.ask("report", asked, ({ answer, output }) => {
+        if (answer === 0) saveFile("cha.pgn", "application/vnd.chess-pgn", output);
+        else complain(troubleOf(answer));
+    });
+    if (told.kind === "failed") complain(say("failed", { why: told.why }));
+    at.mended.disabled = false;
+}
+
 async function copyLink() {
     try {
         await navigator.clipboard.writeText(location.href);
@@ -236,7 +258,7 @@ function listenForDrops() {
 
 function listen() {
     const clicks = {
-        judge, stop, check: () => checkCertificate(), link: copyLink,
+        judge, stop, check: () => checkCertificate(), link: copyLink, mended: saveMended,
         open: () => at.file.click(),
         clear: () => ([at.text.value, at.complaint.textContent] = ["", ""]),
         first: KEYS.Home, back: KEYS.ArrowLeft, forward: KEYS.ArrowRight, last: KEYS.End, flip: KEYS.f,

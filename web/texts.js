@@ -58,6 +58,7 @@ const TEXTS = {
         the_sides: "Each side",
         save_certificate: "Save the certificate",
         check_this: "Check it below",
+        save_mended: "Save the games with the right results",
         link: "Copy a link to this",
         linked: "The link was copied.",
         link_fallback: "The link stands in the address.",

@@ -54,7 +54,7 @@ async function unpacked(text) {
     return new Response(stream).arrayBuffer();
 }
 
-/** Offers a text as a file to save. */
+/** Offers a text, or bytes, as a file to save. */
 function saveFile(name, type, text) {
     const link = made("a", { href: URL.createObjectURL(new Blob([text], { type })), download: name });
     link.click();

@@ -19,7 +19,7 @@ True
 Whole databases are judged by `cha.db` (the command `cha-db`), by `cha.frame`, which gives a table of pandas, and by `cha.dask`.
 """
 
-from cha._calls import ChaError, OutOfMemory, TooLong, UsageError, check, report
+from cha._calls import ChaError, OutOfMemory, TooLong, UsageError, check, corrected, report
 from cha._frame import frame
 from cha._reading import games, positions
 from cha._values import DeadFrom, Game, Position, Refusal, Span, Unreadable, Verdict
@@ -37,6 +37,7 @@ __all__ = [
     "UsageError",
     "Verdict",
     "check",
+    "corrected",
     "frame",
     "games",
     "positions",

@@ -1,8 +1,8 @@
-"""The two calls of the library, with their answers as values and exceptions."""
+"""The calls of the library, with their answers as values and exceptions."""
 
 import functools
 import os
-from typing import Sequence, Union
+from typing import List, Optional, Sequence, Union
 
 from cha._engines import Engine, Library, Program
 
@@ -83,6 +83,35 @@ def report(words: Sequence[str], data: Text) -> bytes:
     if status not in (_DONE, _NOT_ACCEPTED):
         raise _error(status, " ".join(words))
     return printed
+
+
+def limits(budget: Optional[int] = None, depth: Optional[int] = None) -> List[str]:
+    """Returns the options that say how hard to look.
+
+    >>> limits(depth=2)
+    ['--depth=2']
+    """
+    options = [("--budget", budget), ("--depth", depth)]
+    return [f"{name}={number}" for name, number in options if number is not None]
+
+
+def corrected(
+    data: Text, *, flagged_draws: bool = False, changed: bool = False, budget: Optional[int] = None, depth: Optional[int] = None
+) -> bytes:
+    """Returns a text of games in PGN with the results by the Laws of Chess: in each game whose result changes, the value of its first tag
+    `Result` and the result behind its moves are other ones, and every other byte is as it was.
+
+    >>> corrected('[Result "1-0"]\\n\\n1. f3 e5 2. g4 Qh4# {ben wins} 1-0\\n').decode()
+    '[Result "0-1"]\\n\\n1. f3 e5 2. g4 Qh4# {ben wins} 0-1\\n'
+
+    With `flagged_draws` drawn games whose flag fell are examined too. With `changed` there are only the games whose result changes, each
+    from its first token to its last and with a blank line behind it. `ChaError` as for `report`.
+
+    >>> corrected("1. e4 * f3 e5 2. g4 Qh4# 1-0", changed=True)
+    b'f3 e5 2. g4 Qh4# 0-1\\n\\n'
+    """
+    options = [("--flagged-draws", flagged_draws), ("--changed", changed)]
+    return report(["correct", *(name for name, is_asked in options if is_asked), *limits(budget, depth)], data)
 
 
 def check(certificate: Text) -> bool:

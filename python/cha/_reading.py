@@ -3,7 +3,7 @@
 import json
 from typing import Iterator, List, Optional, Union
 
-from cha._calls import Text, report
+from cha._calls import Text, limits, report
 from cha._values import Fields, Game, Position, Refusal, Unreadable, game_of, position_of
 
 
@@ -13,9 +13,7 @@ def words_for(command: str, certs: bool = False, budget: Optional[int] = None, d
     >>> words_for("position", depth=2)
     ['position', '--json', '--depth=2']
     """
-    options = [("--budget", budget), ("--depth", depth)]
-    named = [f"{name}={number}" for name, number in options if number is not None]
-    return [command, "--json", *(["--certs"] if certs else []), *named]
+    return [command, "--json", *(["--certs"] if certs else []), *limits(budget, depth)]
 
 
 def _items(printed: bytes) -> Iterator[Fields]:

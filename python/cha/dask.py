@@ -2,18 +2,17 @@
 
 from typing import Any, Iterator, List, Optional
 
-from cha._calls import report
 from cha.db import Files, names_of
-from cha.db.joining import Promise
+from cha.db.joining import Promise, Said
 from cha.db.rows import Row
-from cha.db.running import parts, room_for, words
+from cha.db.running import parts, room_for, said, words
 
 #: the bytes of a piece: less than what Dask holds to be too large for a task
 PIECE = 1 << 19
 
 
-def _report(order: List[str], text: bytes) -> bytes:
-    return report(order, text)
+def _said(order: List[str], text: bytes) -> Said:
+    return said(order, text)
 
 
 def judge(
@@ -32,7 +31,7 @@ def judge(
     order = words(budget, depth)
 
     def promised(text: bytearray) -> Promise:
-        promise: Promise = client.submit(_report, order, bytes(text), pure=False)
+        promise: Promise = client.submit(_said, order, bytes(text), pure=False)
         return promise
 
     room = room_for(sum(client.nthreads().values()))

@@ -1,4 +1,4 @@
-"""Looks for mates by lone minor men where none may be: `python3 lone.py [SEED [COUNT]]`.
+"""Looks for mates by lone minor pieces where none may be: `python3 lone.py [SEED [COUNT]]`.
 
 It makes random positions with a lone knight beside queens, or with bishops of one colour beside rooks, queens and such bishops,
 most of them with the loser's king at the edge and its men about it, and searches each for a helpmate of so many plies.
@@ -16,7 +16,7 @@ def shade(square):
 
 
 def lone(position, winner):
-    """Whether the side has lone minor men with which it cannot mate (the mate on the board apart)."""
+    """Whether the side has lone minor pieces with which it cannot mate (the mate on the board apart)."""
     men = [(at, man) for at, man in enumerate(position.men) if man is not None and man[1] != "K"]
     own = [(at, kind) for at, (side, kind) in men if side == winner]
     others = [(at, kind) for at, (side, kind) in men if side != winner]

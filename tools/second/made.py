@@ -3,7 +3,7 @@
 
     tools/second/made.py SEED COUNT [FAMILY..]
 
-Families are `walls` and `chains` of locked pawns with a few men, `few` men, `lone` minor men against several, and many `promoted`
+Families are `walls` and `chains` of locked pawns with a few men, `few` men, `lone` minor pieces against several, and many `promoted`
 men; by default all of them in turn. Some of what is made is no valid position: `cha position` refuses it, and goes on.
 
     tools/second/made.py sides REPORT

@@ -5,7 +5,7 @@
     tools/second/second.py check < CERTIFICATE.txt
 
 `judge` reads the positions, and the report that `cha position --certs` wrote on them. It plays every printed line, checks every
-certificate, and looks itself for a mate within two plies, for the least closed sets, for small material and for lone minor men; it
+certificate, and looks itself for a mate within two plies, for the least closed sets, for small material and for lone minor pieces; it
 wants a block for each line, numbers, statuses and the summary as they must be. It was written from docs/MANUAL.md and
 docs/DEFINITIONS.md and shares nothing with the program.
 """

@@ -106,7 +106,7 @@ small_line_again q valid =
     let long : nat_lt (length (small_line q)) 6 ≡ false = grind (arith, nat_tests) in
     rw (long, written_is_read q valid) (rw (text_same (small_line q)) refl)
 
--- and the line of one with lone minor men
+-- and the line of one with lone minor pieces
 pub lone_line_again : (q : Board) → IsValid q → lone_of (lone_line q) ≡ Some q
 unfolding lone_of lone_line
 lone_line_again q valid =

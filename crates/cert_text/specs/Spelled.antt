@@ -51,7 +51,7 @@ small_line q = codes "small " ++ fen_text q
 unfoldable pub lone_line : Board → List ℕ
 lone_line q = codes "lone " ++ fen_text q
 
--- the lines of a node; version 1 has none for small material and for lone minor men, and is asked of no such node
+-- the lines of a node; version 1 has none for small material and for lone minor pieces, and is asked of no such node
 abbrev pub part_lines : Board → Part → List (List ℕ)
 part_lines q Inner = inner_line q ∷ []
 part_lines q (Leaf sets) = leaf_line q ∷ loose_line sets.loose ∷ map row_line sets.rows

@@ -70,7 +70,7 @@ pub const ACCEPTED: [Row; 14] = [
         "cha-cert 2\nwinner w\nsets 0\nnodes 1\nsmall 8/8/8/4k3/3q4/8/8/4KN2 w - -\nend\n",
         "accepted w\n",
     ),
-    // Lone minor men.
+    // Lone minor pieces.
     (
         "cha-cert 2\nwinner w\nsets 0\nnodes 1\nlone 8/8/8/4k3/3q4/7q/8/4KN2 w - -\nend\n",
         "accepted w\n",
@@ -227,7 +227,7 @@ pub const REFUSED: [Row; 42] = [
         "cha-cert 2\nwinner w\nsets 0\nnodes 1\nlone 8/8/8/4k3/3q4/7r/8/4KN2 w - -\nend\n",
         "refused: node 0\n",
     ),
-    // Version 1 has no lines for small material and lone minor men.
+    // Version 1 has no lines for small material and lone minor pieces.
     (
         "cha-cert 1\nwinner w\nnodes 1\nsmall 8/8/8/4k3/3q4/8/8/4KN2 w - -\nend\n",
         "refused: line 4 node\n",

@@ -99,9 +99,24 @@ const ROWS: &[(&str, &str, &str, &str)] = &[
         "[Event \"a\"]\n[Result \"0-1\"]\n\n1. f3 e5 2. g4 Qh4 0-1\n\nf3 e5 2. g4 Qh4 0-1\n\n",
         "games: 4, unreadable: 1, changed: 2, undecided: 0\n",
     ),
-    ("correct", "", "", "games: 0, unreadable: 0, changed: 0, undecided: 0\n"),
-    ("correct", "\n% e4\n", "\n% e4\n", "games: 0, unreadable: 0, changed: 0, undecided: 0\n"),
-    ("correct --changed", "\n\n", "", "games: 0, unreadable: 0, changed: 0, undecided: 0\n"),
+    (
+        "correct",
+        "",
+        "",
+        "games: 0, unreadable: 0, changed: 0, undecided: 0\n",
+    ),
+    (
+        "correct",
+        "\n% e4\n",
+        "\n% e4\n",
+        "games: 0, unreadable: 0, changed: 0, undecided: 0\n",
+    ),
+    (
+        "correct --changed",
+        "\n\n",
+        "",
+        "games: 0, unreadable: 0, changed: 0, undecided: 0\n",
+    ),
 ];
 
 #[test]
@@ -146,8 +161,11 @@ fn pieces_change_nothing(rt: HostRuntime) -> Result<(), Fail> {
 
 /// Two games that change, with something before, between and behind them; what is written up to the end of each, and all.
 const BOTH: &str = " 1. f3 e5 2. g4 Qh4 1-0\n; between\n1. f3 e5 2. g4 Qh4 * \n";
+
 const FIRST: &str = " 1. f3 e5 2. g4 Qh4 0-1";
+
 const SECOND: &str = " 1. f3 e5 2. g4 Qh4 0-1\n; between\n1. f3 e5 2. g4 Qh4 0-1";
+
 const WHOLE: &str = " 1. f3 e5 2. g4 Qh4 0-1\n; between\n1. f3 e5 2. g4 Qh4 0-1 \n";
 
 /// The byte behind the last token of the first game is the 24th, and that of the second the 55th.
@@ -192,7 +210,14 @@ fn a_failing_write_ends_the_run(rt: HostRuntime) -> Result<(), Fail> {
 fn a_full_sink_ends_the_run(rt: HostRuntime) -> Result<(), Fail> {
     for room in 0..=60u32 {
         let mut source = Bytes::new(BOTH.as_bytes().to_vec(rt.alloc())?);
-        let found = run_over(&rt, rt.alloc(), "correct", &mut source, room, Vec::new(rt.alloc()))?;
+        let found = run_over(
+            &rt,
+            rt.alloc(),
+            "correct",
+            &mut source,
+            room,
+            Vec::new(rt.alloc()),
+        )?;
         let fits = WHOLE.len().min(room as usize);
         assert_eq!(rt; found.written.as_slice(), &WHOLE.as_bytes()[..fits]);
         assert_eq!(rt; found.status == Status::Done, fits == WHOLE.len());
@@ -202,9 +227,9 @@ fn a_full_sink_ends_the_run(rt: HostRuntime) -> Result<(), Fail> {
     Ok(())
 }
 
-/// A game of this many bytes, which are a comment and a mate with the wrong result, and a line feed.
+/// A game of this many bytes, which are a tag, a comment and a mate with the wrong result, and a line feed.
 fn long_game(alloc: Global, size: usize) -> Result<Vec<u8>, Fail> {
-    let mut text = b"{".to_vec(alloc)?;
+    let mut text = b"[A \"\"]{".to_vec(alloc)?;
     text.resize(size - 20, b' ')?;
     text.extend_from_slice(b"}f3 e5 2. g4 Qh4 1-0\n")?;
     Ok(text)
@@ -214,13 +239,28 @@ fn long_game(alloc: Global, size: usize) -> Result<Vec<u8>, Fail> {
 #[test]
 fn games_of_16_mib_are_corrected(rt: HostRuntime) -> Result<(), Fail> {
     for (more, last, summary) in [
-        (0usize, "0-1\n", "games: 1, unreadable: 0, changed: 1, undecided: 0\n"),
-        (1, "1-0\n", "games: 1, unreadable: 1, changed: 0, undecided: 0\n"),
+        (
+            0usize,
+            "0-1\n",
+            "games: 1, unreadable: 0, changed: 1, undecided: 0\n",
+        ),
+        (
+            1,
+            "1-0\n",
+            "games: 1, unreadable: 1, changed: 0, undecided: 0\n",
+        ),
     ] {
         let input = long_game(rt.alloc(), 16_777_216 + more)?;
         let size = input.len();
         let mut source = Bytes::new(input);
-        let found = run_over(&rt, rt.alloc(), "correct", &mut source, 17_000_000, Vec::new(rt.alloc()))?;
+        let found = run_over(
+            &rt,
+            rt.alloc(),
+            "correct",
+            &mut source,
+            17_000_000,
+            Vec::new(rt.alloc()),
+        )?;
         assert_eq!(rt; found.written.len(), size);
         assert_eq!(rt; found.written[size - 4..], *last.as_bytes());
         assert_eq!(rt; found.notes(), summary);

@@ -52,14 +52,7 @@ pub fn run_over<R: Threads + Wait + Sync, S: Source>(
     let words = words_of(alloc, line)?;
     let mut sink = Kept::new(alloc, room, fails)?;
     let mut notes = Kept::new(alloc, 1_000, Vec::new(alloc))?;
-    let status = run(
-        rt,
-        alloc,
-        words.as_slice(),
-        source,
-        &mut sink,
-        &mut notes,
-    );
+    let status = run(rt, alloc, words.as_slice(), source, &mut sink, &mut notes);
     let written = sink.bytes().to_vec(alloc)?;
     let noted = notes.bytes().to_vec(alloc)?;
     Ok(Ran {

@@ -1,9 +1,10 @@
 -- The opening position is valid.
-use Rattle.std.proofs.Common.{◌≡◌, true, not, None, refl}
+use Rattle.std.proofs.Common.{◌≡◌, true, not, None, map, codes, refl}
 use Rattle.cha_board.specs.declared.men.Color.{Color}
 use Rattle.cha_board.specs.declared.men.Color.TheVariants.{White, Black}
 use Rattle.cha_board.specs.declared.opening.TheConstants.{OPENING_MEN}
 use Rattle.cha_board.specs.declared.position.Rights.{Rights}
+use Rattle.cha_board.specs.Letters.{letter_of, letter_or_dot}
 use Rattle.cha_board.specs.Squares.{squares, files_apart, ranks_apart, steps_apart, is_straight, is_diagonal, is_line, is_rank_ahead, aims_at, is_within, lies_between, between}
 use Rattle.cha_board.specs.Board.{IsValid, is_clear, attacks_as, attacked, king_of, in_check, has_one_king, is_pawn_at_end, has_pawn_at_end, are_at_home, rights_fit}
 
@@ -37,3 +38,7 @@ opening_is_valid = record {
   rights = at_home_each;
   target = refl;
 }
+
+pub opening_letters : map letter_or_dot OPENING_MEN ≡ codes "RNBQKBNRPPPPPPPP................................pppppppprnbqkbnr"
+unfolding letter_of
+opening_letters = refl

@@ -36,6 +36,11 @@ case_of Black = 32
 unfoldable pub letter_of : Man → ℕ
 letter_of man = kind_letter man.kind + case_of man.color
 
+-- the letter of what stands on a square, and a dot where nothing does
+abbrev pub letter_or_dot : Option Man → ℕ
+letter_or_dot None = 46
+letter_or_dot (Some man) = letter_of man
+
 -- the man of a colour and a kind, if there is a kind
 abbrev pub man_if : Color → Option Kind → Option Man
 man_if color None = None

@@ -1,8 +1,9 @@
 //! The opening position (Laws of Chess, Article 2.3).
 
-ghost use Rattle.std.specs.Prelude.{◌≡◌, true, None};
+ghost use Rattle.std.specs.Prelude.{◌≡◌, true, None, map, codes};
 ghost use Rattle.cha_board.specs.declared.men.Color.TheVariants.{White};
 ghost use Rattle.cha_board.specs.declared.opening.TheConstants.{OPENING_MEN};
+ghost use Rattle.cha_board.specs.Letters.{letter_or_dot};
 
 use crate::men::{Color, Kind, Man};
 use crate::placement::Men;
@@ -82,8 +83,9 @@ pub const OPENING_MEN: [Option<Man>; 64] = [
 ];
 
 impl Position {
-    /// The opening position: White to move, with all castlings left.
+    /// The opening position: White to move, with all castlings left. Its men are told by letters too, from a1 to h8.
     pub fn start() -> Position
+        ensures letters { map letter_or_dot result.men ≡ codes "RNBQKBNRPPPPPPPP................................pppppppprnbqkbnr" }
         ensures men { result.men ≡ OPENING_MEN }
         ensures side { result.side ≡ White }
         ensures rights { result.rights ≡ record { white_king = true; white_queen = true; black_king = true; black_queen = true } }

@@ -36,7 +36,7 @@ module _ (w : Color) (nodes : List Node) (valid : AllValid nodes) (holds : All (
         holds = subst (λ p. PartHolds w nodes p node.part) same (holds (there.0) d inside);
       }
 
-  -- no list of legal moves from the position of a node mates: at a leaf by its sets, on small material and lone minor men by their
+  -- no list of legal moves from the position of a node mates: at a leaf by its sets, on small material and lone minor pieces by their
   -- laws, and at an inner node since it is no mate itself, and the first move leads to the position of a node again
   never : (ms : List Move) (q : Board) (part : Part) → IsValid q → PartHolds w nodes q part → IsMatingLine q w ms → ⊥
   never [] q Inner good held line = held.no_mate line

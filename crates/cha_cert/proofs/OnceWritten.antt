@@ -124,7 +124,7 @@ pub small_added : (c d : Shared) (nodes : List Node) (q : Board) → d ≡ recor
 small_added c d nodes q e s =
     subst (λ (x : Shared). Shares x (nodes ++ (record { position = q; part = Small }) ∷ [])) (sym e) (node_shared c nodes (record { position = q; part = SharedSmall }) tt s)
 
--- a node of lone minor men
+-- a node of lone minor pieces
 pub lone_added : (c d : Shared) (nodes : List Node) (q : Board) → d ≡ record { sets = c.sets; nodes = c.nodes ++ (record { position = q; part = SharedLone }) ∷ [] } → Shares c nodes
     → Shares d (nodes ++ (record { position = q; part = Lone }) ∷ [])
 lone_added c d nodes q e s =

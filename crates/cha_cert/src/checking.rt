@@ -34,7 +34,7 @@ pub enum Checked {
 ///
 /// A leaf holds where its mobility sets are closed for its position and have no mate for the side. A node of small material
 /// holds where there is no pawn, at most one man beside each king, and no mate for the side with such men. A node of lone
-/// minor men holds where the side has beside its king one knight, and the other side queens alone, or the side has only
+/// minor pieces holds where the side has beside its king one knight, and the other side queens alone, or the side has only
 /// bishops of one colour, the other only rooks, queens and bishops of that colour, and the position is no mate. An inner node
 /// holds where its position is no mate for the side and each legal move leads to the position of some node.
 pub fn check(

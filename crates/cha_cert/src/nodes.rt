@@ -17,7 +17,7 @@ pub enum Part {
     Leaf(Sets),
     /// The position has small material, with which the side cannot mate.
     Small,
-    /// The position has lone minor men, with which the side cannot mate.
+    /// The position has lone minor pieces, with which the side cannot mate.
     Lone,
 }
 

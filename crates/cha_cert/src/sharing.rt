@@ -71,7 +71,7 @@ fn add_small(shared: &mut SharedCert, position: Kept) -> Result<(), NoMemory>
     Ok(())
 }
 
-/// Appends a node of lone minor men.
+/// Appends a node of lone minor pieces.
 fn add_lone(shared: &mut SharedCert, position: Kept) -> Result<(), NoMemory>
     ensures exact { OnOk result (shared.new ≡ part_added shared.old position CertLone) }
     ensures err { OnErr result (shared.new ≡ shared.old) }

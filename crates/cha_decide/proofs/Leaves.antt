@@ -41,7 +41,7 @@ leaf_is_valid q w sets valid closed no_mate cert is = node_is_valid q w (Leaf se
 pub small_is_valid : (q : Board) (w : Color) → IsValid q → IsSmallUnwinnable q w → (cert : List Node) → cert ≡ record { position = q; part = Small } ∷ [] → IsValidCert q w cert
 small_is_valid q w valid small cert is = node_is_valid q w Small valid small cert is
 
--- lone minor men with which the side cannot mate
+-- lone minor pieces with which the side cannot mate
 pub lone_is_valid : (q : Board) (w : Color) → IsValid q → IsLoneUnwinnable q w → (cert : List Node) → cert ≡ record { position = q; part = Lone } ∷ [] → IsValidCert q w cert
 lone_is_valid q w valid lone cert is = node_is_valid q w Lone valid lone cert is
 

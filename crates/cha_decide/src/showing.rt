@@ -61,7 +61,7 @@ fn certified_small(alloc: Global, position: &Position, winner: Color) -> Result<
     checked(alloc, position, winner, cert)
 }
 
-/// The certificate that a side cannot mate, of the position alone, which has lone minor men. The check of certificates has
+/// The certificate that a side cannot mate, of the position alone, which has lone minor pieces. The check of certificates has
 /// accepted it.
 fn certified_lone(alloc: Global, position: &Position, winner: Color) -> Result<Cert, NoMemory>
     requires { IsLoneUnwinnable position.now winner }
@@ -103,7 +103,7 @@ fn shown_by_sets(
     }
 }
 
-/// The verdicts of small material and of lone minor men with their certificate, of the position alone, if either shows that the
+/// The verdicts of small material and of lone minor pieces with their certificate, of the position alone, if either shows that the
 /// side cannot mate.
 fn shown_by_material(
     alloc: Global,

@@ -4,3 +4,4 @@ pub mod FoundResults
 pub mod FoolsMate
 pub mod BareGames
 pub mod NamedLegal
+pub mod ResultsStay

@@ -11,5 +11,5 @@ pub data IsShownAtOnce (q : Board) (winner : Color) : Type 0 where
   BySets : IsStaticallyUnwinnable q winner → IsShownAtOnce q winner
   -- or since the men are so few,
   BySmallMaterial : IsSmallUnwinnable q winner → IsShownAtOnce q winner
-  -- or since its minor men never mate beside the other men
+  -- or since its minor pieces never mate beside the other men
   ByLoneMen : IsLoneUnwinnable q winner → IsShownAtOnce q winner

@@ -1,10 +1,13 @@
-//! Passes that take turns at a sum: in threads, with one still out, and split off and taken back many times.
+//! Passes that take turns at a sum: in threads, beside busy threads, with one still out, and split off and taken back many times.
 
 ghost use Rattle.std.specs.Prelude.{◌≡◌, ◌+◌, ◌^◌, ◌%◌};
 ghost use Rattle.turn_cell.specs.Passes.{number, splits, IsOf, IsFirst};
 
+use crate::busy::Busy;
 use std::rt::HostRuntime;
 use std::sync::Wait;
+use std::sync::atomic::{AtomicU64, Ordering};
+use std::test::Fail;
 use std::thread;
 use turn_cell::{Object, Pass, Still, TurnCell};
 
@@ -43,6 +46,30 @@ fn add_a_thousand<R: Wait>(rt: &R, cell: &TurnCell<Sum>, mut pass: Pass<Sum>) ->
     pass
 }
 
+// Adds one, fifty thousand times and until another pass has added something too; then adds the sum of the replies to `replies`.
+fn add_beside_another<R: Wait>(
+    rt: &R,
+    cell: &TurnCell<Sum>,
+    mut pass: Pass<Sum>,
+    replies: &AtomicU64,
+) -> Pass<Sum>
+    requires { IsOf cell.now pass }
+    ensures { IsOf cell.now result × (number result ≡ number pass) }
+{
+    let mut own = 0u64;
+    let mut sum = 0u64;
+    for _ in rt.forever() {
+        let total = cell.turn(rt, &mut pass, 1);
+        own = own.wrapping_add(1);
+        sum = sum.wrapping_add(total);
+        if 50_000 <= own && own < total {
+            replies.fetch_add(sum, Ordering::SeqCst);
+            return pass;
+        }
+    }
+    unreachable!()
+}
+
 // Splits a pass off, adds a number with it and takes it back, for each number from 0 to 99.
 fn split_and_join<R: Wait>(rt: &R, cell: &TurnCell<Sum>, mut first: Pass<Sum>) -> Pass<Sum>
     requires { IsOf cell.now first × IsFirst first × (splits first ≡ 0) }
@@ -72,6 +99,34 @@ fn two_threads_add_up_to_2000(rt: HostRuntime) {
         Ok(sum) => assert_eq!(rt; sum.total, 2000),
         Err(_) => panic!(rt; "a pass is still out"),
     }
+}
+
+// While a thread for each processor is busy, passes are stopped in the middle of turns and while they wait. Neither ends before
+// the other has had a turn, and each sum from 1 on is one reply to one of them.
+#[test]
+fn two_threads_take_turns_beside_busy_ones(rt: HostRuntime) -> Result<(), Fail> {
+    let Ok((cell, mut first)) = TurnCell::new(rt.alloc(), Sum { total: 0 }) else {
+        panic!(rt; "no memory");
+    };
+    let second = cell.split(&mut first);
+    let busy = Busy::start(&rt, rt.alloc())?;
+    let replies = AtomicU64::new(0);
+    let (mut first, second) = thread::join(
+        &rt,
+        || add_beside_another(&rt, &cell, first, &replies),
+        || add_beside_another(&rt, &cell, second, &replies),
+    );
+    assert!(rt; busy.end(&rt));
+    cell.join(&mut first, second);
+    match cell.close(first) {
+        Ok(sum) => {
+            assert!(rt; 100_000 <= sum.total);
+            let all = sum.total.wrapping_mul(sum.total.wrapping_add(1)) / 2;
+            assert_eq!(rt; replies.load(Ordering::SeqCst), all);
+        }
+        Err(_) => panic!(rt; "a pass is still out"),
+    }
+    Ok(())
 }
 
 #[test]

@@ -1,11 +1,13 @@
 //! Tests of what looks for mates, sets and certificates, on positions that FEN says.
 //!
 //! `from_fen` reads positions. `least_sets` and `static_verdicts` have answers of the solver. `facts` has what is known
-//! of positions; `cells`, `shards` and `tables` have where it is kept. `rounds`, `crews` and `shortest` find the
-//! helpmates of `known_plies` and `known_counts`. `guides` and `hunts` have searches that are led, `stores` the
-//! positions of an exploration, and `explored` explorations.
+//! of positions; `cells`, `shards` and `tables` have where it is kept, the first also beside the threads of `busy`. `rounds`,
+//! `crews` and `shortest` find the helpmates of `known_plies` and `known_counts`. `guides` and `hunts` have searches that
+//! are led, `stores` the positions of an exploration, and `explored` explorations.
 #![tactic(auto)]
 
+#[cfg(test)]
+mod busy;
 #[cfg(test)]
 mod cells;
 #[cfg(test)]

@@ -51,7 +51,7 @@ pub leaf_small : (nodes : List Node) (name : ℕ) (w : Color) (q : Board) → Is
 unfolding IsLeafPart IsLeaf
 leaf_small nodes name w q at small q2 here = subst (λ (b : Board). IsSmallUnwinnable b w) (same_Some q q2 (sym at ∙ here)) small
 
--- or the minor men are lone
+-- or the minor pieces are lone
 pub leaf_lone : (nodes : List Node) (name : ℕ) (w : Color) (q : Board) → IsAt nodes name q → IsLoneUnwinnable q w → IsLeafPart nodes name w Lone
 unfolding IsLeafPart IsLeaf
 leaf_lone nodes name w q at lone q2 here = subst (λ (b : Board). IsLoneUnwinnable b w) (same_Some q q2 (sym at ∙ here)) lone

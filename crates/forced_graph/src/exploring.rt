@@ -17,7 +17,7 @@ use std::alloc::Global;
 
 /// Explores what legal moves reach from a position that is no mate for the winner and not statically unwinnable for it, the
 /// position first that the guide puts first. At most `budget` positions are expanded. Where a move changed a position for
-/// good, and small material or lone minor men never mate there or its closed sets have no mate, it is a leaf, which is never
+/// good, and small material or lone minor pieces never mate there or its closed sets have no mate, it is a leaf, which is never
 /// expanded and costs nothing.
 ///
 /// A place that keeps facts is asked for each position that is expanded; a mate that it knows ends the exploration. Where

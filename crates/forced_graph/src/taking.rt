@@ -61,7 +61,7 @@ impl Region {
 }
 
 /// What a node is as a leaf, if it is one: where the move that led there changes the position for good, it is looked at for
-/// small material, then for lone minor men, and then for closed sets without a mate.
+/// small material, then for lone minor pieces, and then for closed sets without a mate.
 fn leaf_part(
     alloc: Global,
     store: &Store,

@@ -18,7 +18,7 @@ pub enum Ground {
     Sets,
     /// Small material.
     Material,
-    /// Lone minor men.
+    /// Lone minor pieces.
     LonePieces,
     /// Several positions that lead to each other.
     Graph,

@@ -14,8 +14,8 @@ use search_guide::Guide;
 use std::alloc::Global;
 
 /// Looks for a mate for a side along a guide: the position of the least number that waits is expanded, the last added first,
-/// and of at most `most` positions. A hunt that follows few moves looks for a mate within two plies before. A line that is found is
-/// cut where two plies mate.
+/// and of at most `most` positions. A hunt that follows few moves, of more than one position, looks for a mate within two plies
+/// before. A line that is found is cut where two plies mate.
 ///
 /// `None` says nothing but that there is no mate within one ply, and only where `most` is at least 1: a mate may be anywhere
 /// else. With 0 for `most`, only a mate on the board is found. What is answered was played once more, so nothing else has to be
@@ -66,12 +66,16 @@ fn mate_in_one(position: &Position, winner: Color) -> Option<Move>
     mating_move(position, winner)
 }
 
-/// The line of a search. One that follows few moves comes first, and looks for a line of two plies before, of which it follows all.
+/// The line of a search, which needs more than one position. One that follows few moves comes first, and looks for a line of two
+/// plies before, of which it follows all.
 fn sought(
     alloc: Global,
     position: &Position,
     quest: &Quest,
 ) -> Result<Option<Vec<Move>>, NoMemory> {
+    if quest.most <= 1 {
+        return Ok(None);
+    }
     let two = match quest.width {
         Width::All => None,
         Width::Telling => two_plies(alloc, position, quest.winner, Choice::all())?,

@@ -48,14 +48,18 @@ fn expand(
 }
 
 /// A line to a mate, if one is met: the position of the least number that waits is expanded, the last added first. The line is cut
-/// where two plies are seen to mate.
+/// where two plies are seen to mate. The first position is not asked for a move that mates: it has none.
 pub fn search(
     alloc: Global,
     position: &Position,
     quest: &Quest,
 ) -> Result<Option<Vec<Move>>, NoMemory> {
     let mut nodes = Nodes::new(alloc, position)?;
-    for turn in 0..quest.most {
+    let Some(root) = nodes.pop() else {
+        return Ok(None);
+    };
+    expand(alloc, &mut nodes, root, position, quest)?;
+    for turn in 1..quest.most {
         let Some(name) = nodes.pop() else {
             return Ok(None);
         };

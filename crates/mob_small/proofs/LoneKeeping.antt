@@ -1,4 +1,4 @@
--- Legal moves keep lone minor men, and so the law.
+-- Legal moves keep lone minor pieces, and so the law.
 use Rattle.std.proofs.Common.{◌≡◌, ℕ, Bool, true, false, ◌||◌, Option, Some, None, refl, sym, subst, ap, ◌∙◌, inl, inr}
 use Rattle.std.proofs.lemmas.Bool.{and_parts, and_from, and_left, both_ways, or_cases, or_left, or_right}
 use Rattle.cha_board.specs.declared.men.Color.{Color}

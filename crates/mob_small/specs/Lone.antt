@@ -1,4 +1,4 @@
--- Lone minor men: a knight beside queens, and bishops of one colour beside rooks, queens and such bishops (this project).
+-- Lone minor pieces: a knight beside queens, and bishops of one colour beside rooks, queens and such bishops (this project).
 use Rattle.std.specs.Prelude.{◌≡◌, ℕ, Bool, true, ◌&&◌, ◌||◌, List, Option}
 use Rattle.cha_board.specs.declared.men.Color.{Color}
 use Rattle.cha_board.specs.declared.men.Kind.TheVariants.{Knight, Bishop, Rook, Queen}
@@ -34,7 +34,7 @@ HasMenOn square men w = HasOnly men w (is_bishop_on square w) × HasOnly men (ot
 abbrev pub HasOneColor : List (Option Man) → Color → Type 0
 HasOneColor men w = (square : Color) × HasMenOn square men w
 
--- Lone minor men with which w cannot mate. Only the men named here stand beside the kings, so there is no pawn, and no kind
+-- Lone minor pieces with which w cannot mate. Only the men named here stand beside the kings, so there is no pawn, and no kind
 -- will ever change.
 pub data IsLoneUnwinnable (p : Board) (w : Color) : Type 0 where
   -- w has one knight and no other man, and the other side queens or none,

@@ -2,7 +2,7 @@
 //!
 //! Small material has no pawn, and at most one man beside each king: `mate_free_kinds` has the kinds of men with which
 //! a side cannot mate then, `verdict` whether a position is small and its side has such men, and `bound` the law that
-//! no series of legal moves mates. Lone minor men are a knight beside queens, and bishops of one colour beside rooks,
+//! no series of legal moves mates. Lone minor pieces are a knight beside queens, and bishops of one colour beside rooks,
 //! queens and such bishops: `lone_men` has whether a side cannot mate with the men that are there, and `lone_bound` the
 //! law. `beside` and `one_color` have the men that stand beside the kings.
 #![tactic(auto)]

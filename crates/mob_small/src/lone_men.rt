@@ -1,4 +1,4 @@
-//! The verdict of lone minor men.
+//! The verdict of lone minor pieces.
 
 ghost use Rattle.std.specs.Prelude.{◌↔◌, IsTrue};
 ghost use Rattle.cha_board.specs.declared.men.Kind.TheVariants.{Knight};
@@ -10,7 +10,7 @@ use crate::one_color::{bishops_on, heavy_or_bishops_on};
 use cha_board::{Color, Kind, Position};
 use cha_moves::is_mate;
 
-/// Whether a position has lone minor men with which a side cannot mate: beside the kings stand one knight of the side and
+/// Whether a position has lone minor pieces with which a side cannot mate: beside the kings stand one knight of the side and
 /// only queens of the other; or only bishops of the side on squares of one colour, only rooks, queens, and bishops on squares
 /// of that colour of the other, and the position itself is no mate. It takes no memory.
 pub fn lone_verdict(position: &Position, winner: Color) -> bool

@@ -11,6 +11,7 @@ use Rattle.pgn_lex.specs.Lines.{ends_line}
 use Rattle.pgn_lex.specs.Tokens.{tokens, has_mark, settled_after, has_half_mark, settled_tokens}
 use Rattle.pgn_lex.proofs.Feeding.{settled_first}
 use Rattle.pgn_games.specs.declared.played.PlacedGame.{PlacedGame}
+use Rattle.pgn_games.specs.Reading.{TookNoMore}
 use Rattle.pgn_games.specs.declared.token_turns.Place.TheVariants.{Before}
 use Rattle.pgn_games.specs.declared.token_turns.Place.{Place}
 use Rattle.pgn_games.specs.Cutting.{turn, place_after, place_behind, is_before, cut}
@@ -205,6 +206,11 @@ next_front fed was now rest rest' kept given g whole h same e f before =
 -- nothing is left of a piece
 pub none_behind : (fed fed' piece : List ℕ) (used : ℕ) → fed' ≡ fed → piece ≡ [] → fed' ++ drop used piece ≡ fed
 none_behind fed fed' piece used e f = rw (e, f) (ap (λ xs. fed ++ xs) (drop_none used) ∙ append-nil fed)
+
+-- where nothing was taken, no piece was
+pub nothing_more : (fed piece : List ℕ) → fed ≡ [] → piece ≡ [] → TookNoMore (fed ++ drop 0 piece) piece 0
+unfolding settled_games settled_tokens games_ended has_half_mark has_mark settled_after
+nothing_more fed piece e f = rw (e, f) ([], refl, omega arith, omega arith)
 
 -- the game is given, and those behind it are kept
 pub gave_is_open : (fed : List ℕ) (lexer_ended : Bool) (game behind : List Placed) (piece : List ℕ) (used given taken : ℕ) (game' : List Placed) (given' : ℕ) → IsOpen fed lexer_ended (game ++ behind) piece used given taken

@@ -6,6 +6,7 @@ pub mod Examples
 pub mod KeptTokens
 pub mod KeptWords
 pub mod Moved
+pub mod Opened
 pub mod MovedFields
 pub mod InOrder
 pub mod Settled

@@ -6,6 +6,7 @@ use Rattle.pgn_games.specs.declared.played.PlacedGame.{PlacedGame}
 use Rattle.pgn_games.specs.declared.token_turns.Place.TheVariants.{Before}
 use Rattle.pgn_games.specs.declared.cutter.Cutter.{Cutter}
 use Rattle.pgn_games.specs.Games.{is_closed}
+use Rattle.pgn_games.specs.Reading.{TookNoMore}
 use Rattle.pgn_games.specs.Holding.{first_end, IsScanned, IsOpen, IsLast}
 
 -- the bytes that were taken of the source
@@ -20,6 +21,10 @@ IsLastAt c = IsLast c.lexer.fed (c.game ++ c.behind.items) c.piece.items c.used 
 
 abbrev pub IsScannedAt : Cutter → Type 0
 IsScannedAt c = IsScanned c.game c.place
+
+-- its last piece was taken when it was needed
+abbrev pub WaitsAt : Cutter → Type 0
+WaitsAt c = TookNoMore (taken_by c) c.piece.items c.given
 
 -- its game is whole
 abbrev pub HasGame : Cutter → Type 0
@@ -36,6 +41,11 @@ pub record IsHeld (c : Cutter) (ended failed : Bool) : Type 0 where
   pub open_yet : ended ≡ false → failed ≡ false → IsOpenAt c × IsScannedAt c
   pub closed_is : ended ≡ true → c.closed ≡ is_closed (taken_by c)
   pub at_last : ended ≡ true → failed ≡ false → IsLastAt c × IsScannedAt c
+
+-- the same of a reader of a source, which takes a piece only when it is needed
+pub record IsReading (c : Cutter) (ended failed : Bool) : Type 0 where
+  pub held : IsHeld c ended failed
+  pub waits : ended ≡ false → failed ≡ false → WaitsAt c
 
 -- nothing is left of a cutter's piece
 abbrev pub IsUsedUp : Cutter → Type 0

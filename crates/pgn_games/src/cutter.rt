@@ -44,12 +44,13 @@ pub struct Cutter {
 }
 
 impl Cutter {
-    ghost use Rattle.pgn_games.specs.Keeping.{taken_by, IsOpenAt, IsLastAt, IsScannedAt, HasGame, IsUsedUp, found_one};
+    ghost use Rattle.pgn_games.specs.Keeping.{taken_by, IsOpenAt, IsLastAt, IsScannedAt, WaitsAt, HasGame, IsUsedUp, found_one};
 
     /// A cutter that has taken nothing.
     pub fn new(alloc: Global) -> Result<Cutter, NoMemory>
         ensures open { IfOk result (λ c. IsOpenAt c × IsScannedAt c) }
         ensures nothing { IfOk result (λ c. (taken_by c ≡ []) × (c.given ≡ 0)) }
+        ensures waits { IfOk result WaitsAt }
         ensures used_up { IfOk result (λ c. IsUsedUp c) }
     {
         let lexer = Lexer::new(alloc)?;
@@ -86,6 +87,7 @@ impl Cutter {
         requires scanned { IsScannedAt self.old }
         ensures taken { taken_by self.new ≡ taken_by self.old }
         ensures same { (self.new.given ≡ self.old.given) × (self.new.taken ≡ self.old.taken) }
+        ensures piece { self.new.piece ≡ self.old.piece }
         ensures open { OnOk result (IsOpenAt self.new) }
         ensures whole { result ≡ Ok Standing.Whole → HasGame self.new }
         ensures used_up { result ≡ Ok Standing.Open → IsScannedAt self.new × (self.new.behind.items ≡ []) × (self.new.used ≡ length self.new.piece.items) }
@@ -109,6 +111,7 @@ impl Cutter {
         ensures bytes { Takes (S.left source.old) (S.left source.new) (taken_by self.old) (taken_by self.new) }
         ensures same { (self.new.given ≡ self.old.given) × (self.new.lexer ≡ self.old.lexer) × (self.new.game ≡ self.old.game) × (self.new.behind ≡ self.old.behind) × (self.new.place ≡ self.old.place) }
         ensures open { OnOk result (IsOpenAt self.new) }
+        ensures piece { (taken_by self.new ≡ taken_by self.old ++ self.new.piece.items) × (length self.new.piece.items ≤ 4096) }
         ensures more { result ≡ Ok Filled.More → length (taken_by self.old) < length (taken_by self.new) }
         ensures end { result ≡ Ok Filled.End → IsAtEnd (S.left source.new) × (self.new.piece.items ≡ []) }
         ensures fault { result ≡ Err ReadEnd.ReadFault → Rose (S.faults source.old) (S.faults source.new) × (self.new.piece.items ≡ []) }
@@ -181,10 +184,12 @@ impl Cutter {
     pub fn advance<S: Source>(&mut self, source: &mut S) -> Result<Advanced, ReadEnd>
         requires open { IsOpenAt self.old }
         requires scanned { IsScannedAt self.old }
+        requires waits { WaitsAt self.old }
         ensures bytes { Takes (S.left source.old) (S.left source.new) (taken_by self.old) (taken_by self.new) }
         ensures given { self.new.given ≡ self.old.given }
         ensures first { take self.old.given (placed_games (taken_by self.new)) ≡ take self.old.given (placed_games (taken_by self.old)) }
         ensures whole { result ≡ Ok Advanced.Whole → IsOpenAt self.new × HasGame self.new }
+        ensures waits { result ≡ Ok Advanced.Whole → WaitsAt self.new }
         ensures ended { result ≡ Ok Advanced.Ended → IsLastAt self.new × IsScannedAt self.new × IsAtEnd (S.left source.new) }
         ensures closed { result ≡ Ok Advanced.Ended → self.new.closed ≡ is_closed (taken_by self.new) }
         ensures read_fault { result ≡ Err ReadEnd.ReadFault → Rose (S.faults source.old) (S.faults source.new) × (settled_games (taken_by self.new) ≤ self.old.given) }
@@ -241,6 +246,7 @@ impl Cutter {
         requires open { IsOpenAt self.old }
         requires whole { HasGame self.old }
         ensures taken { taken_by self.new ≡ taken_by self.old }
+        ensures waits { WaitsAt self.old → WaitsAt self.new }
         ensures open { IsOpenAt self.new × IsScannedAt self.new × (self.new.given ≡ self.old.given + 1) }
         ensures game { slice_get (placed_games (taken_by self.old)) self.old.given ≡ Some result }
     {

@@ -1,16 +1,18 @@
 //! The reader of games.
 
-ghost use Rattle.std.specs.Prelude.{if◌then◌else◌, ◌≡◌, ◌+◌, ◌<◌, ◌≤◌, ◌↔◌, [], true, false, length, take, slice_get, is_err, OnErr, OnOk, IfOk, IfSome, IfNone, OnSome};
+ghost use Rattle.std.specs.Prelude.{if◌then◌else◌, ◌≡◌, ◌+◌, ◌<◌, ◌≤◌, ◌↔◌, ℕ, List, [], true, false, length, take, slice_get, is_err, OnErr, OnOk, IfOk, IfSome, IfNone, OnSome, codes};
 ghost use Rattle.std.specs.Bool.{OnTrue};
 ghost use Rattle.std.specs.declared.result.Result.TheVariants.{Ok, Err};
 ghost use Rattle.std.specs.declared.option.Option.TheVariants.{Some, None};
 ghost use Rattle.std.specs.Io.KnownBytes.{IsAtEnd};
 ghost use Rattle.cha_outside.specs.Faults.{Rose};
-ghost use Rattle.pgn_games.specs.Games.{placed_games, is_closed as is_closed_text};
+ghost use Rattle.cha_fen.specs.Written.{fen_text};
+ghost use Rattle.pgn_games.specs.Games.{opening, placed_games, is_closed as is_closed_text};
 ghost use Rattle.pgn_games.specs.Settling.{settled_games};
-ghost use Rattle.pgn_games.specs.Reading.{Takes, gives_game};
+ghost use Rattle.pgn_games.specs.Reading.{Takes, TookNoMore, gives_game};
 
 use crate::cutter::{Advanced, Cutter};
+use crate::opening::games_begin_at_the_opening;
 use crate::played::PlacedGame;
 use cha_list::NoMemory;
 use cha_outside::{MOST_BYTES, ReadEnd, Source};
@@ -30,13 +32,13 @@ pub struct Reader {
 /// Contracts see the bytes taken, the number of games given, whether the source has ended, and whether a call failed.
 impl Model for Reader {
     ghost use Rattle.pgn_games.specs.Reading.{ReaderState};
-    ghost use Rattle.pgn_games.specs.Keeping.{taken_by, IsHeld};
+    ghost use Rattle.pgn_games.specs.Keeping.{taken_by, IsReading};
 
     ghost Value = { ReaderState };
 
     ghost view = { λ s. record { taken = taken_by s.cutter; given = s.cutter.given; ended = s.ended; failed = s.failed } };
 
-    ghost invariant = { λ s. IsHeld s.cutter s.ended s.failed };
+    ghost invariant = { λ s. IsReading s.cutter s.ended s.failed };
 }
 
 impl Reader {
@@ -69,7 +71,7 @@ impl Reader {
 
     /// The next game of a source, or None where the source has ended and all its games were given.
     ///
-    /// It reads no further piece than the game needs: a game is given once the byte behind its last token was taken. The games
+    /// A game whose tags tell no other position begins at the opening. It reads no further piece than the game needs: a game is given once the byte behind its last token was taken. The games
     /// given are the first games of the bytes taken, in order. `ReadFault` comes only where the source failed in this call, and
     /// each game that is settled in the bytes taken was given before; `TooLong` comes where the source gave more than 268,435,456
     /// bytes (at most 4,096 more are taken), and `NoMemory` where the allocator refused memory. The time of all calls together
@@ -78,6 +80,7 @@ impl Reader {
         requires { self.old.failed ≡ false }
         ensures bytes { Takes (S.left source.old) (S.left source.new) self.old.taken self.new.taken }
         ensures game { IfOk result (λ found. IfSome found (λ game. slice_get (placed_games self.new.taken) self.old.given ≡ Some game)) }
+        ensures opening { fen_text opening ≡ codes "rnbqkbnr/pppppppp/8/8/8/8/PPPPPPPP/RNBQKBNR w KQkq -" }
         ensures given { self.new.given ≡ (if gives_game result then self.old.given + 1 else self.old.given) }
         ensures none { result ≡ Ok None → (self.new.ended ≡ true) × (length (placed_games self.new.taken) ≤ self.old.given) }
         ensures first { take self.old.given (placed_games self.new.taken) ≡ take self.old.given (placed_games self.old.taken) }
@@ -85,12 +88,15 @@ impl Reader {
         ensures no_more_reads { self.old.ended ≡ true → (source.new ≡ source.old) × (self.new.ended ≡ true) }
         ensures end { self.old.ended ≡ false → self.new.ended ≡ true → IsAtEnd (S.left source.new) }
         ensures read_fault { result ≡ Err ReadEnd.ReadFault → Rose (S.faults source.old) (S.faults source.new) }
+        ensures before_end { self.new.ended ≡ false → IfOk result (λ found. IfSome found (λ game. self.old.given < settled_games self.new.taken)) }
+        ensures no_more { self.new.ended ≡ false → IfOk result (λ found. IfSome found (λ game. (piece : List ℕ) × TookNoMore self.new.taken piece self.old.given)) }
         ensures settled { result ≡ Err ReadEnd.ReadFault → settled_games self.new.taken ≤ self.old.given }
         ensures too_long { (result ≡ Err ReadEnd.TooLong) ↔ (MOST_BYTES < length self.new.taken) }
         ensures few { length self.new.taken ≤ MOST_BYTES + 4096 }
         ensures failed { self.new.failed ≡ is_err result }
         ensures later { S.faults source.old ≤ S.faults source.new }
     {
+        games_begin_at_the_opening();
         if !self.ended {
             match self.cutter.advance(source) {
                 Ok(Advanced::Whole) => return Ok(Some(self.cutter.give(self.alloc))),

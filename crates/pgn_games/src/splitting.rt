@@ -72,7 +72,7 @@ impl Splitter {
         requires few { length self.old.taken + length piece.now ≤ MOST_BYTES }
         ensures taken { OnOk result (self.new.taken ≡ self.old.taken ++ piece.now) }
         ensures err { OnErr result (self.new.taken ≡ self.old.taken) }
-        ensures same { (self.new.given ≡ self.old.given) × (self.new.ended ≡ self.old.ended) }
+        ensures same { (self.new.given ≡ self.old.given) × (self.new.ended ≡ self.old.ended) × (self.new.spent ≡ false) }
         ensures first { take self.old.given (placed_games self.new.taken) ≡ take self.old.given (placed_games self.old.taken) }
         ensures failed { self.new.failed ≡ is_err result }
     {

@@ -21,3 +21,4 @@ pub mod GameByGame
 pub mod ResultAlone
 pub mod SameInOrder
 pub mod SameTags
+pub mod KeptBytes

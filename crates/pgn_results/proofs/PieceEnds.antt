@@ -1,5 +1,5 @@
 -- Behind the last byte of a piece the next one begins.
-use Rattle.std.proofs.Common.{◌≡◌, ℕ, suc, ◌+◌, ◌≤◌, Bool, true, not, List, [], ◌∷◌, ◌++◌, length, refl, sym, ap, ◌∙◌, subst, arith, append_assoc}
+use Rattle.std.proofs.Common.{◌≡◌, ℕ, suc, ◌+◌, Bool, true, not, List, [], ◌∷◌, ◌++◌, length, refl, sym, ap, ◌∙◌, subst, arith, append_assoc}
 use Rattle.cha_list.specs.declared.classes.Class.TheVariants.{InLine}
 use Rattle.cha_list.specs.Bytes.{in_class}
 use Rattle.pgn_lex.specs.declared.pieces.Piece.{Piece}
@@ -7,9 +7,9 @@ use Rattle.pgn_lex.specs.declared.stages.Stage.{Stage}
 use Rattle.pgn_lex.specs.declared.stages.Next.{Next}
 use Rattle.pgn_lex.specs.declared.stages.Next.TheVariants.{Stays, Over}
 use Rattle.pgn_lex.specs.Tokens.{piece, line_after, tokens_after}
-use Rattle.pgn_lex.specs.Stages.{begun, next_stage, word_after, grown_value, Machine, stepped, read_from, machine}
+use Rattle.pgn_lex.specs.Stages.{next_stage, Machine, stepped, read_from, machine}
 use Rattle.pgn_lex.specs.Left.{left_of_piece}
-use Rattle.pgn_lex.proofs.Following.{is_plain, FollowsAt, follows, ends_there}
+use Rattle.pgn_lex.proofs.Following.{is_plain, FollowsAt, follows}
 use Rattle.pgn_lex.proofs.Feeding.{begins, begun_plain, machine_more, read_more}
 use Rattle.pgn_results.proofs.Standing.{From, after_from}
 

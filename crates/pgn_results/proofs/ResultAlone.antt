@@ -6,6 +6,7 @@ use Rattle.std.proofs.lemmas.List.Elements.{All-cons}
 use Rattle.pgn_lex.specs.declared.kinds.Token.{Token}
 use Rattle.pgn_lex.specs.declared.kinds.Token.TheVariants.{Tag, BadTag, Word, Star, Enter, Leave, Bad, Unclosed}
 use Rattle.pgn_lex.specs.declared.kinds.Placed.{Placed}
+use Rattle.pgn_games.specs.declared.played.Game.{Game}
 use Rattle.pgn_games.specs.declared.token_turns.Place.TheVariants.{Before}
 use Rattle.pgn_games.specs.Cutting.{mark_of, cut}
 use Rattle.pgn_games.specs.Fields.{outside, value_named, tag_value, move_word, move_words}
@@ -15,8 +16,11 @@ use Rattle.pgn_results.proofs.Alone.{Ended}
 use Rattle.pgn_results.proofs.Endings.{AllEnded, all_ended}
 
 -- it has no move and no tag
+abbrev pub Says : Game → Type 0
+Says game = (game.words ≡ []) × (game.start ≡ opening) × (game.forfeit ≡ false) × (game.flag_fell ≡ false)
+
 abbrev Bare : List Placed → Type 0
-Bare game = begins_with_result game ≡ true → ((game_of game).words ≡ []) × ((game_of game).start ≡ opening) × ((game_of game).forfeit ≡ false) × ((game_of game).flag_fell ≡ false)
+Bare game = begins_with_result game ≡ true → Says (game_of game)
 
 abbrev Alone : Token → Type 0
 Alone token = (move_word token ≡ None) × (value_named (codes "FEN") token ≡ None) × (value_named (codes "Termination") token ≡ None)
@@ -36,7 +40,7 @@ alone Leave e = cc
 alone Bad e = cc
 alone Unclosed e = cc
 
-bare_one : (t : Placed) → Alone t.token → ((game_of (t ∷ [])).words ≡ []) × ((game_of (t ∷ [])).start ≡ opening) × ((game_of (t ∷ [])).forfeit ≡ false) × ((game_of (t ∷ [])).flag_fell ≡ false)
+bare_one : (t : Placed) → Alone t.token → Says (game_of (t ∷ []))
 unfolding game_of move_words outside tag_value start_of
 bare_one t h = (rw (h.0) refl, rw (h.1) refl, rw (h.2) refl, rw (h.2) refl)
 
@@ -45,7 +49,7 @@ unfolding Ended begins_with_result
 bare [] h e = cc
 bare (t ∷ ts) h e =
     let none : ts ≡ [] = h.0 e in
-    subst (λ xs. ((game_of (t ∷ xs)).words ≡ []) × ((game_of (t ∷ xs)).start ≡ opening) × ((game_of (t ∷ xs)).forfeit ≡ false) × ((game_of (t ∷ xs)).flag_fell ≡ false)) (sym none) (bare_one t (alone t.token e))
+    subst (λ xs. Says (game_of (t ∷ xs))) (sym none) (bare_one t (alone t.token e))
 
 all_bare : (depth : ℕ) (games : List (List Placed)) → depth ≡ 0 → AllEnded depth games → All Bare games
 unfolding AllEnded

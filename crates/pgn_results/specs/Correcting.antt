@@ -40,7 +40,7 @@ piece_of start bytes None game = between start game.span.end bytes
 piece_of start bytes (Some mark) game =
     between start game.span.start bytes ++ game_with_mark mark (between game.span.start game.span.end bytes) (drop game.span.end bytes)
 
--- the same up to the end of the last of these games for which there is word whether it changes
+-- what is written from a place on up to the end of a game: of each of these games for which there is word whether it changes, in order
 unfoldable pub written_games : ℕ → List ℕ → List PlacedGame → List (Option ResultMark) → List ℕ
 written_games start bytes [] marks = []
 written_games start bytes (game ∷ games) [] = []

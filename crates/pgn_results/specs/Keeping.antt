@@ -1,10 +1,10 @@
 -- What a reader keeps of the text of its games, and what is written of each.
-use Rattle.std.specs.Prelude.{◌≡◌, ℕ, ◌+◌, ◌<◌, ◌≤◌, Bool, true, false, List, [], ◌∷◌, ◌++◌, length, drop, Option, Some, None}
+use Rattle.std.specs.Prelude.{◌≡◌, ℕ, ◌+◌, ◌≤◌, Bool, false, List, [], ◌∷◌, ◌++◌, length, drop, Option, Some, None}
 use Rattle.cha_outside.specs.declared.gathering.TheConstants.{MOST_BYTES}
 use Rattle.pgn_games.specs.declared.marks.ResultMark.{ResultMark}
-use Rattle.pgn_games.specs.declared.played.PlacedGame.{PlacedGame}
 use Rattle.pgn_games.specs.declared.played.Span.{Span}
-use Rattle.pgn_games.specs.Splitting.{SplitterState}
+use Rattle.pgn_games.specs.Settling.{settled_games}
+use Rattle.pgn_results.specs.declared.intake.Intake.{Intake}
 use Rattle.pgn_results.specs.Correcting.{between}
 use Rattle.pgn_results.specs.Replacing.{game_with_mark}
 
@@ -17,15 +17,24 @@ pub record KeptState : Type 0 where
   pub ended : Bool
   pub failed : Bool
 
--- As long as no call failed, the splitter has taken all bytes, and is open as long as the source is; the bytes that are kept are the last
--- ones of them, as many as were not written at least.
-pub record IsKept (games : SplitterState) (kept : List ℕ) (start written : ℕ) (piece : List ℕ) (ended failed : Bool) : Type 0 where
-  pub handed_on : failed ≡ false → piece ≡ []
-  pub open : failed ≡ false → (games.failed ≡ false) × (games.ended ≡ ended)
-  pub few : failed ≡ false → length games.taken ≤ MOST_BYTES
-  pub bytes : failed ≡ false → kept ≡ drop start games.taken
-  pub size : failed ≡ false → start + length kept ≡ length games.taken
-  pub some : failed ≡ false → written ≤ length kept
+-- the bytes that have come
+abbrev pub arrived : Intake → List ℕ
+arrived i = i.games.taken ++ i.piece.items
+
+-- No call failed: the splitter has taken all bytes, and is open as long as the source is; the bytes that are kept are the last ones of
+-- them, as many as were not written at least; and the games given are settled, as long as the source has not ended.
+pub record IsOpen (i : Intake) (ended : Bool) : Type 0 where
+  pub handed_on : i.piece.items ≡ []
+  pub games : (i.games.failed ≡ false) × (i.games.ended ≡ ended)
+  pub few : length i.games.taken ≤ MOST_BYTES
+  pub bytes : i.kept ≡ drop i.start i.games.taken
+  pub size : i.start + length i.kept ≡ length i.games.taken
+  pub some : i.written ≤ length i.kept
+  pub settled : ended ≡ false → i.games.given ≤ settled_games i.games.taken
+
+-- the same, as long as no call failed
+abbrev pub IsKept : Intake → Bool → Bool → Type 0
+IsKept i ended failed = failed ≡ false → IsOpen i ended
 
 -- what is written of a game, with what stands before it from a place on
 abbrev pub piece_of : List ℕ → ℕ → Span → Option ResultMark → List ℕ

@@ -1,6 +1,6 @@
 //! A reader of games that keeps the bytes of their text until they are written.
 
-ghost use Rattle.std.specs.Prelude.{if◌then◌else◌, ◌≡◌, ◌+◌, ◌-◌, ◌^◌, ◌<◌, ◌≤◌, ◌↔◌, [], true, false, length, take, drop, slice_get, is_err, Option, OnErr, OnOk, IfOk, IfSome, IfNone};
+ghost use Rattle.std.specs.Prelude.{if◌then◌else◌, ◌≡◌, ◌+◌, ◌-◌, ◌^◌, ◌<◌, ◌≤◌, ◌↔◌, ◌++◌, [], true, false, length, take, drop, slice_get, is_err, Option, OnErr, OnOk, IfOk, IfSome, IfNone};
 ghost use Rattle.std.specs.declared.result.Result.TheVariants.{Ok, Err};
 ghost use Rattle.std.specs.declared.option.Option.TheVariants.{Some, None};
 ghost use Rattle.std.specs.Io.KnownBytes.{IsAtEnd};
@@ -13,10 +13,11 @@ ghost use Rattle.pgn_games.specs.declared.played.PlacedGame.{PlacedGame as GameP
 ghost use Rattle.pgn_games.specs.declared.marks.ResultMark.{ResultMark as Mark};
 ghost use Rattle.pgn_results.specs.Keeping.{piece_of, changed_piece, rest_of};
 
+use crate::intake::Intake;
 use crate::replacing::put_with_mark;
 use cha_list::{NoMemory, Text, text_of};
 use cha_outside::{MOST_BYTES, ReadEnd, Source};
-use pgn_games::{Filled, PlacedGame, ResultMark, Span, Splitter, fill};
+use pgn_games::{Filled, PlacedGame, ResultMark, Span, Splitter};
 use std::alloc::Global;
 use std::marker::Model;
 
@@ -24,17 +25,7 @@ use std::marker::Model;
 /// that is being read, with what stands before it, and one piece of the source.
 #[derive(Drop)]
 pub struct KeptReader {
-    alloc: Global,
-    /// The games of the text, as far as it has come.
-    games: Splitter,
-    /// The last bytes of the text that have come, those that were not written among them.
-    kept: Text,
-    /// Where the first of these bytes stands in the text.
-    start: u64,
-    /// How many of these bytes were written, from the first on.
-    written: usize,
-    /// What was read and not handed on yet.
-    piece: Vec<u8>,
+    intake: Intake,
     /// Whether the source has ended.
     ended: bool,
     /// Whether a call has failed.
@@ -44,13 +35,14 @@ pub struct KeptReader {
 /// Contracts see the bytes taken, how many of them were written, the number of games given, whether the source has ended, and whether a
 /// call failed.
 impl Model for KeptReader {
-    ghost use Rattle.pgn_results.specs.Keeping.{KeptState, IsKept};
+    ghost use Rattle.std.specs.Prelude.{◌+◌};
+    ghost use Rattle.pgn_results.specs.Keeping.{KeptState, IsKept, arrived};
 
     ghost Value = { KeptState };
 
-    ghost view = { λ s. record { taken = s.games.taken ++ s.piece.items; written = s.start + s.written; given = s.games.given; ended = s.ended; failed = s.failed } };
+    ghost view = { λ s. record { taken = arrived s.intake; written = s.intake.start + s.intake.written; given = s.intake.games.given; ended = s.ended; failed = s.failed } };
 
-    ghost invariant = { λ s. IsKept s.games s.kept s.start s.written s.piece.items s.ended s.failed };
+    ghost invariant = { λ s. IsKept s.intake s.ended s.failed };
 }
 
 impl KeptReader {
@@ -59,13 +51,16 @@ impl KeptReader {
         ensures { IfOk result (λ reader. reader ≡ record { taken = []; written = 0; given = 0; ended = false; failed = false }) }
     {
         let games = Splitter::new(alloc)?;
-        Ok(KeptReader {
+        let intake = Intake {
             alloc,
             games,
             kept: Text::new(alloc),
             start: 0,
             written: 0,
             piece: Vec::new(alloc),
+        };
+        Ok(KeptReader {
+            intake,
             ended: false,
             failed: false,
         })
@@ -75,7 +70,7 @@ impl KeptReader {
     pub fn is_closed(&self) -> bool
         ensures { self.now.ended ≡ true → self.now.failed ≡ false → result ≡ is_closed_text self.now.taken }
     {
-        self.games.is_closed()
+        self.intake.games.is_closed()
     }
 
     /// The next game of a source, or None where the source has ended and all its games were given. It says and reads what
@@ -101,7 +96,7 @@ impl KeptReader {
         ensures later { S.faults source.old ≤ S.faults source.new }
     {
         loop {
-            let Ok(found) = self.games.next() else {
+            let Ok(found) = self.intake.games.next() else {
                 self.failed = true;
                 return Err(ReadEnd::NoMemory);
             };
@@ -111,8 +106,9 @@ impl KeptReader {
             if self.ended {
                 return Ok(None);
             }
-            match self.refill(source) {
-                Ok(()) => {}
+            match self.intake.refill(source) {
+                Ok(Filled::More) => {}
+                Ok(Filled::End) => self.ended = true,
                 Err(end) => {
                     self.failed = true;
                     return Err(end);
@@ -121,53 +117,12 @@ impl KeptReader {
         }
     }
 
-    /// Reads the next piece of the source, or finds that it has ended.
-    fn refill<S: Source>(&mut self, source: &mut S) -> Result<(), ReadEnd> {
-        match fill(&mut self.piece, source) {
-            Ok(Filled::More) => {}
-            Ok(Filled::End) => {
-                self.ended = true;
-                return match self.games.end() {
-                    Ok(()) => Ok(()),
-                    Err(_) => Err(ReadEnd::NoMemory),
-                };
-            }
-            Err(end) => return Err(end),
-        }
-        if self.taken() > MOST_BYTES as u64 {
-            return Err(ReadEnd::TooLong);
-        }
-        match self.hand_on() {
-            Ok(()) => Ok(()),
-            Err(_) => Err(ReadEnd::NoMemory),
-        }
-    }
-
-    /// How many bytes have come.
-    fn taken(&self) -> u64 {
-        self.start + (self.kept.items().len() + self.piece.len()) as u64
-    }
-
-    /// Keeps the piece that was read, and hands it on. What was written goes.
-    fn hand_on(&mut self) -> Result<(), NoMemory> {
-        if self.written > 0 {
-            let left = text_of(self.alloc, self.unwritten())?;
-            self.start += self.written as u64;
-            self.written = 0;
-            self.kept = left;
-        }
-        self.kept.append(self.piece.as_slice())?;
-        self.games.put(self.piece.as_slice())?;
-        self.piece.clear();
-        Ok(())
-    }
-
     /// The bytes that have come and were not written: once all games are written, what stands behind them.
     pub fn unwritten(&self) -> &[u8]
         requires { self.now.failed ≡ false }
         ensures { result.now ≡ rest_of self.now.written self.now.taken }
     {
-        self.kept.items().split_at(self.written).1
+        self.intake.kept.items().split_at(self.intake.written).1
     }
 
     /// What is written of the game that was given last, with what stands before it: the bytes as they are, or the game with another
@@ -178,13 +133,31 @@ impl KeptReader {
         ensures written { OnOk result (self.new.written ≡ span.end) }
         ensures same { (self.new.taken ≡ self.old.taken) × (self.new.given ≡ self.old.given) × (self.new.ended ≡ self.old.ended) × (self.new.failed ≡ self.old.failed) }
     {
-        let end = (span.end - self.start) as usize;
-        let text = match mark {
-            Some(mark) => self.marked(span, mark)?,
-            None => text_of(self.alloc, &self.kept.items()[self.written..end])?,
-        };
-        self.written = end;
+        let text = self.text_of_game(span, mark)?;
+        self.intake.written = (span.end - self.intake.start) as usize;
         Ok(text)
+    }
+
+    /// What is written of the game that was given last, with what stands before it.
+    fn text_of_game(&self, span: Span, mark: Option<ResultMark>) -> Result<Text, NoMemory>
+        requires { (self.now.written ≤ span.start) × (span.start ≤ span.end) × (span.end ≤ length self.now.taken) × (self.now.failed ≡ false) }
+        ensures { IfOk result (λ text. text ≡ piece_of self.now.taken self.now.written span mark) }
+    {
+        match mark {
+            Some(mark) => self.marked(span, mark),
+            None => text_of(
+                self.intake.alloc,
+                self.intake.bytes_between(self.written(), span.end),
+            ),
+        }
+    }
+
+    /// How many bytes were written.
+    fn written(&self) -> u64
+        requires { self.now.failed ≡ false }
+        ensures { result ≡ self.now.written }
+    {
+        self.intake.start + self.intake.written as u64
     }
 
     /// What stands before the game that was given last and was not written, and the game with another result.
@@ -192,17 +165,12 @@ impl KeptReader {
         requires { (self.now.written ≤ span.start) × (span.start ≤ span.end) × (span.end ≤ length self.now.taken) × (self.now.failed ≡ false) }
         ensures { IfOk result (λ text. text ≡ piece_of self.now.taken self.now.written span (Some mark)) }
     {
-        let begin = (span.start - self.start) as usize;
-        let end = (span.end - self.start) as usize;
-        let bytes = self.kept.items();
-        let mut text = text_of(self.alloc, &bytes[self.written..begin])?;
-        put_with_mark(
-            self.alloc,
-            mark,
-            &bytes[begin..end],
-            &bytes[end..],
-            &mut text,
-        )?;
+        let intake = &self.intake;
+        let before = intake.bytes_between(self.written(), span.start);
+        let game = intake.bytes_between(span.start, span.end);
+        let behind = intake.bytes_behind(span.end);
+        let mut text = text_of(intake.alloc, before)?;
+        put_with_mark(intake.alloc, mark, game, behind, &mut text)?;
         Ok(text)
     }
 
@@ -214,15 +182,24 @@ impl KeptReader {
         ensures written { OnOk result (self.new.written ≡ span.end) }
         ensures same { (self.new.taken ≡ self.old.taken) × (self.new.given ≡ self.old.given) × (self.new.ended ≡ self.old.ended) × (self.new.failed ≡ self.old.failed) }
     {
-        let begin = (span.start - self.start) as usize;
-        let end = (span.end - self.start) as usize;
-        let mut text = Text::new(self.alloc);
-        if let Some(mark) = mark {
-            let game = &self.kept.items()[begin..end];
-            put_with_mark(self.alloc, mark, game, &[], &mut text)?;
-            text.append(b"\n\n")?;
-        }
-        self.written = end;
+        let text = self.changed_text(span, mark)?;
+        self.intake.written = (span.end - self.intake.start) as usize;
+        Ok(text)
+    }
+
+    /// The game that was given last with another result, and a blank line behind it; nothing where its result stays.
+    fn changed_text(&self, span: Span, mark: Option<ResultMark>) -> Result<Text, NoMemory>
+        requires { (self.now.written ≤ span.start) × (span.start ≤ span.end) × (span.end ≤ length self.now.taken) × (self.now.failed ≡ false) }
+        ensures { IfOk result (λ text. text ≡ changed_piece self.now.taken span mark) }
+    {
+        let alloc = self.intake.alloc;
+        let mut text = Text::new(alloc);
+        let Some(mark) = mark else {
+            return Ok(text);
+        };
+        let game = self.intake.bytes_between(span.start, span.end);
+        put_with_mark(alloc, mark, game, &[], &mut text)?;
+        text.append(b"\n\n")?;
         Ok(text)
     }
 }

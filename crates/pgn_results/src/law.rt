@@ -41,7 +41,7 @@ pub fn written_games_are_a_front()
         → written_games 0 bytes (placed_games bytes) (marks ++ mark ∷ []) ≡ written_games 0 bytes (placed_games bytes) marks ++ piece_of (end_of 0 (take (length marks) (placed_games bytes))) bytes mark game }
 {}
 
-/// A game of a text that has no token before its result has no move, starts from the opening position, and says nothing of a flag.
+/// A game of a text that has no token before its result has no move, starts from the opening position, and says of no flag that it fell.
 pub fn a_result_alone_has_no_move()
     ensures { (ts : List Placed) → All (λ (game : List Placed). begins_with_result game ≡ true → ((game_of game).words ≡ []) × ((game_of game).start ≡ opening) × ((game_of game).forfeit ≡ false) × ((game_of game).flag_fell ≡ false)) (cut Before ts) }
 {}

@@ -1,10 +1,11 @@
 //! A text of games with other results, where nothing but the results changes.
 //!
 //! `places` finds where a game tells its result, `replacing` writes the text of a game with another one, `kept` reads games and keeps the
-//! bytes that are not written yet, and `law` has the laws that the games stay the same, that each may be written alone, and before the
-//! rest of its text.
+//! bytes that are not written yet, on `intake`, and `law` has the laws that the games stay the same, that each may be written alone, and
+//! before the rest of its text.
 #![tactic(auto)]
 
+mod intake;
 mod kept;
 mod law;
 mod places;

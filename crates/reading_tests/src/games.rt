@@ -1,5 +1,6 @@
 //! Games of texts, shown as texts.
 
+mod in_pieces;
 mod long_texts;
 mod places;
 mod real_files;

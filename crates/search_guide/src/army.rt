@@ -43,7 +43,7 @@ impl Army {
         self.heavy().joined(self.minor()).joined(self.pawns)
     }
 
-    /// Whether there are minor men alone beside the king, or none.
+    /// Whether there are minor pieces alone beside the king, or none.
     pub fn is_minor(&self) -> bool {
         self.heavy().joined(self.pawns).is_empty()
     }
@@ -69,7 +69,7 @@ impl Army {
         }
     }
 
-    /// Whether one minor man or bishops of one colour are alone beside the king.
+    /// Whether one minor piece or bishops of one colour are alone beside the king.
     pub fn is_lone(&self) -> bool {
         self.is_one_knight() || self.bishops_color().is_some()
     }

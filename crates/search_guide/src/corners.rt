@@ -51,7 +51,7 @@ fn knights_away(knights: SquareSet, corner: Square) -> u32
     away
 }
 
-/// The loser's men that can come to a square as they are, where the winner has a lone minor man. Against bishops a rook would
+/// The loser's men that can come to a square as they are, where the winner has a lone minor piece. Against bishops a rook would
 /// end the check.
 fn blockers(own: &Army, other: &Army, to: Square) -> SquareSet {
     let men = other.knights.joined(other.bishops.common(color_of(to)));
@@ -133,7 +133,7 @@ fn kings_from_corners(own: &Army, other: &Army) -> u32
     first.min(last)
 }
 
-/// How far minor men, where the winner has no others, are from where they stand in a mate in a corner. Where one of them or
+/// How far minor pieces, where the winner has no others, are from where they stand in a mate in a corner. Where one of them or
 /// bishops of one colour are alone, a man of the loser has to stand beside the corner.
 fn minor_away(own: &Army, other: &Army, corner: Square) -> u32
     ensures { result ≤ FARTHEST + NO_BLOCKER }
@@ -146,7 +146,7 @@ fn minor_away(own: &Army, other: &Army, corner: Square) -> u32
     }
 }
 
-/// How far the loser's king is from a mate in some corner by minor men, where the winner has no others.
+/// How far the loser's king is from a mate in some corner by minor pieces, where the winner has no others.
 fn least_corner_of_minor(own: &Army, other: &Army) -> u32
     ensures { result ≤ FARTHEST }
 {

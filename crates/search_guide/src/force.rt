@@ -10,7 +10,7 @@ use cha_board::SquareSet;
 /// What it counts that there are rooks and no queen.
 const NO_QUEEN: u32 = 8;
 
-/// What it counts that there are minor men alone.
+/// What it counts that there are minor pieces alone.
 const MINOR_MEN_ALONE: u32 = 16;
 
 /// Whether some queens or rooks of the winner count: any, but where it has a pawn, only those that the loser's king can reach over
@@ -28,7 +28,7 @@ fn count_there(own: &Army, other: &Army, heavy: SquareSet) -> bool {
 }
 
 /// What the want of force counts: nothing with a queen, something with a rook, the way of a pawn with pawns, and more with
-/// minor men alone.
+/// minor pieces alone.
 pub fn want_of_force(own: &Army, other: &Army, occupied: SquareSet) -> u32
     ensures { result ≤ LONGEST_WAY }
 {

@@ -18,7 +18,7 @@ fn are_bishops_against_their_color(own: &Army, other: &Army) -> bool {
     }
 }
 
-/// Whether a side that has minor men alone, or none, has nothing to mate with: a bare king, a lone knight against queens alone, or
+/// Whether a side that has minor pieces alone, or none, has nothing to mate with: a bare king, a lone knight against queens alone, or
 /// bishops of one colour against rooks, queens and bishops of that colour alone.
 pub fn is_hopeless(own: &Army, other: &Army) -> bool {
     own.others().is_empty()

@@ -13,8 +13,8 @@ from cha.db.joining import Judge, Place
 from cha.db.outputs import Output, outputs
 from cha.db.progress import Progress, progress
 from cha.db.rows import KINDS
-from cha.db.running import PIECE, parts, processors, room_for, threads, words
-from cha.db.sources import InputError, size_of
+from cha.db.running import PIECE, correcting, parts, processors, room_for, threads, words
+from cha.db.sources import InputError, is_same_file, size_of
 from cha.db.state import OrderError, State
 from cha.db.tables import OutputError
 
@@ -42,6 +42,7 @@ def parser() -> argparse.ArgumentParser:
     read.add_argument("--to", metavar="FILE", help="write the games to FILE.jsonl, FILE.csv or FILE.sqlite; else JSON lines are printed")
     read.add_argument("--only", choices=list(KINDS), help="write only games of this kind")
     read.add_argument("--report", metavar="FILE.html", help="write a page with the numbers and the changed games")
+    read.add_argument("--corrected", metavar="FILE.pgn", help="write all games in PGN, with the results by the Laws")
     read.add_argument("--resume", action="store_true", help="go on where a run with the same words was broken off")
     read.add_argument("--quiet", action="store_true", help="say nothing but errors")
     read.add_argument("--threads", type=_count, default=processors(), metavar="N", help="judge N pieces at once (%(default)s)")
@@ -57,16 +58,32 @@ class _Run:
     def __init__(self, order: argparse.Namespace) -> None:
         self._order = order
         self._sizes = [size_of(file) for file in order.files]
-        self._key: Dict[str, Any] = {name: getattr(order, name) for name in ("files", "to", "only", "report", "budget", "depth")}
-        self._path = f"{order.to or order.report}.state" if order.to or order.report else None
+        names = ("files", "to", "only", "report", "corrected", "budget", "depth")
+        self._key: Dict[str, Any] = {name: getattr(order, name) for name in names}
+        first = order.to or order.report or order.corrected
+        self._path = f"{first}.state" if first else None
+        self._see_corrected()
         kept = self._kept()
         self._state = kept or State()
-        self._outputs: List[Output] = outputs(order.to, order.only, order.report, kept.marks if kept else None)
+        self._outputs: List[Output] = outputs(order.to, order.only, order.report, order.corrected, kept.marks if kept else None)
+
+    def _see_corrected(self) -> None:
+        """Sees that the corrected text takes the place of nothing that is read or written."""
+        path = self._order.corrected
+        if path is None:
+            return
+        if path == "-":
+            raise OrderError("--corrected -: it needs the name of a file, which --resume can cut back")
+        for file in self._order.files:
+            if is_same_file(file, path):
+                raise OrderError(f"--corrected {path}: {'standard input' if file == '-' else file} is read; write to another file")
+        if os.path.abspath(path) in [os.path.abspath(other) for other in (self._order.to, self._order.report, self._path) if other]:
+            raise OrderError(f"--corrected {path}: another output has this name")
 
     def _kept(self) -> Optional[State]:
         if self._path is None:
             if self._order.resume:
-                raise OrderError("--resume needs --to or --report")
+                raise OrderError("--resume needs --to, --report or --corrected")
             return None
         kept = states.load(self._path, self._key) if self._order.resume else None
         if kept is None and os.path.exists(self._path):
@@ -77,9 +94,11 @@ class _Run:
         """Judges all files; the exit status."""
         size = sum(size for size in self._sizes if size is not None) if None not in self._sizes else None
         shown = progress(self._order.quiet, size, sum(s or 0 for s in self._sizes[: self._state.file]), self._state.counts["games"])
+        limits = (self._order.budget, self._order.depth)
+        correct = correcting(*limits) if self._order.corrected else None
         faults: List[str] = []
         try:
-            with threads(self._order.threads, words(self._order.budget, self._order.depth)) as judge:
+            with threads(self._order.threads, words(*limits), correct) as judge:
                 while self._state.file < len(self._order.files):
                     self._judge_file(judge, shown)
                     faults += self._end_file()
@@ -155,6 +174,7 @@ def main(arguments: Optional[Sequence[str]] = None) -> int:
         print(f"cha-db: {fault}", file=sys.stderr)
         return InputError.status
     except KeyboardInterrupt:
-        goes_on = "; --resume goes on behind the last whole piece" if order is not None and (order.to or order.report) else ""
+        is_kept = order is not None and (order.to or order.report or order.corrected)
+        goes_on = "; --resume goes on behind the last whole piece" if is_kept else ""
         print(f"cha-db: interrupted{goes_on}", file=sys.stderr)
         return 130

@@ -16,10 +16,17 @@ from cha._calls import MOST_BYTES, TooLong
 _BYTES_AHEAD = 64 << 20
 
 
+class Said(NamedTuple):
+    """The report on a text, and the text with the right results, where that was asked and a game of it changes."""
+
+    report: bytes
+    corrected: Optional[bytes] = None
+
+
 class Promise(Protocol):
     """A report that is being made."""
 
-    def result(self) -> bytes:
+    def result(self) -> Said:
         """Waits for the report."""
 
     def cancel(self) -> Any:
@@ -40,12 +47,14 @@ class Place:
 
 @dataclass(frozen=True)
 class Judged:
-    """A closed text, or the last one: where it begins, its bytes, and what was said of it, with the numbers that it has alone."""
+    """A closed text, or the last one: where it begins, its bytes, and what was said of it, with the numbers that it has alone; and the text
+    with the right results, where that was asked and a game of it changes."""
 
     at: Place
     text: bytearray
     games: bytes
     summary: Dict[str, Any]
+    corrected: Optional[bytes] = None
 
     @property
     def behind(self) -> Place:
@@ -154,9 +163,14 @@ class _Ahead:
             taken.promise.cancel()
 
 
-def _judged(at: Place, text: bytearray, report: bytes) -> Judged:
-    last = report.rfind(b"\n", 0, -1) + 1
-    return Judged(at, text, report[:last], json.loads(report[last:]))
+def last_line(report: bytes) -> int:
+    """Returns where the last line of a report begins."""
+    return report.rfind(b"\n", 0, -1) + 1
+
+
+def _judged(at: Place, text: bytearray, said: Said) -> Judged:
+    last = last_line(said.report)
+    return Judged(at, text, said.report[:last], json.loads(said.report[last:]), said.corrected)
 
 
 def joined(pieces: Iterator[bytearray], judge: Judge, room: int, at: Place = Place()) -> Iterator[Judged]:

@@ -1,4 +1,4 @@
-"""What is written of each part: the table of games, and the page."""
+"""What is written of each part: the table of games, the page, and the text with the right results."""
 
 import os
 from typing import Counter as Counts, List, Optional, Protocol, Sequence
@@ -6,7 +6,7 @@ from typing import Counter as Counts, List, Optional, Protocol, Sequence
 from cha.db.report import Page
 from cha.db.running import Part
 from cha.db.state import OrderError
-from cha.db.tables import TABLES, Shown, Table
+from cha.db.tables import TABLES, File, Shown, Table
 
 
 class Output(Protocol):
@@ -45,6 +45,24 @@ class Listed:
         pass
 
 
+class Corrected:
+    """The text of all files with the right results. A part in which no game changes is written as it is."""
+
+    def __init__(self, path: str, mark: Optional[int] = None) -> None:
+        self._file = File(path, mark)
+        self.mark, self.close = self._file.mark, self._file.close
+
+    def add(self, part: Part) -> None:
+        judged = part.judged
+        self._file.write(judged.text if judged.corrected is None else judged.corrected)
+
+    def finish(self, files: Sequence[str], counts: "Counts[str]") -> None:
+        pass
+
+    def tidy(self) -> None:
+        pass
+
+
 def _table(path: Optional[str], mark: Optional[int]) -> Table:
     if path is None:
         return Shown()
@@ -54,16 +72,20 @@ def _table(path: Optional[str], mark: Optional[int]) -> Table:
     return kind(path, mark)
 
 
-def outputs(to: Optional[str], only: Optional[str], report: Optional[str], marks: Optional[List[int]] = None) -> List[Output]:
-    """Opens what is ordered, anew or where the marks of an earlier run say. Without a table and a page, JSON lines are printed."""
+def outputs(
+    to: Optional[str], only: Optional[str], report: Optional[str], corrected: Optional[str], marks: Optional[List[int]] = None
+) -> List[Output]:
+    """Opens what is ordered, anew or where the marks of an earlier run say. Where nothing is, JSON lines are printed."""
     left = list(marks or [])
 
     def mark() -> Optional[int]:
         return None if marks is None else left.pop(0)
 
     opened: List[Output] = []
-    if to is not None or report is None:
+    if to is not None or (report is None and corrected is None):
         opened.append(Listed(_table(to, mark()), only))
     if report is not None:
         opened.append(Page(report, mark()))
+    if corrected is not None:
+        opened.append(Corrected(corrected, mark()))
     return opened

@@ -1,14 +1,15 @@
 """Judges files, one behind the other, each by all threads."""
 
+import json
 import os
 from concurrent.futures import ThreadPoolExecutor
 from contextlib import contextmanager
 from dataclasses import dataclass
 from typing import Iterator, List, Optional, Sequence
 
-from cha._calls import ChaError, report
+from cha._calls import ChaError, Text, limits, report
 from cha._reading import words_for
-from cha.db.joining import Judge, Judged, Place, joined
+from cha.db.joining import Judge, Judged, Place, Said, joined, last_line
 from cha.db.pieces import pieces
 from cha.db.rows import Row, rows_of
 from cha.db.sources import opened
@@ -52,13 +53,25 @@ def words(budget: Optional[int] = None, depth: Optional[int] = None) -> List[str
     return words_for("adjudicate", budget=budget, depth=depth) + ["--workers=1"]
 
 
+def correcting(budget: Optional[int] = None, depth: Optional[int] = None) -> List[str]:
+    """Returns the command words by which a piece gets the right results."""
+    return ["correct", *limits(budget, depth), "--workers=1"]
+
+
+def said(order: Sequence[str], text: Text, correct: Optional[Sequence[str]] = None) -> Said:
+    """Judges a text; where a game of it changes and there are words for it, the text gets the right results."""
+    found = report(order, text)
+    is_changed = correct is not None and json.loads(found[last_line(found) :])["changed"] > 0
+    return Said(found, report(correct, text) if correct is not None and is_changed else None)
+
+
 def room_for(count: int) -> int:
     """Returns how many pieces are held so that so many judges always have one."""
     return 2 * count + 1
 
 
 @contextmanager
-def threads(count: int, order: Sequence[str]) -> Iterator[Judge]:
-    """Gives what judges pieces, so many at once."""
+def threads(count: int, order: Sequence[str], correct: Optional[Sequence[str]] = None) -> Iterator[Judge]:
+    """Gives what judges pieces, so many at once, and corrects them where there are words for it."""
     with ThreadPoolExecutor(count) as pool:
-        yield lambda text: pool.submit(report, order, text)
+        yield lambda text: pool.submit(said, order, text, correct)

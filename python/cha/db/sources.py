@@ -95,6 +95,14 @@ def size_of(name: str) -> Optional[int]:
         raise InputError(f"{name}: {fault.strerror}") from fault
 
 
+def is_same_file(name: str, path: str) -> bool:
+    """Returns whether a source, which may be standard input, is the file of a path."""
+    try:
+        return os.path.samestat(os.fstat(sys.stdin.fileno()) if name == "-" else os.stat(name), os.stat(path))
+    except (OSError, ValueError):
+        return False
+
+
 @contextmanager
 def opened(name: str) -> Iterator[Source]:
     """Opens a file; `-` is standard input. `InputError` where it cannot be read."""

@@ -6,7 +6,7 @@ import json
 import os
 import sqlite3
 import sys
-from typing import BinaryIO, Callable, Dict, Iterable, List, Optional, Protocol
+from typing import BinaryIO, Callable, Dict, Iterable, List, Optional, Protocol, Union
 
 from cha.db.rows import COLUMNS, GAME_COLUMNS, SIDE_COLUMNS, Row, cells, game_cells, side_cells
 
@@ -45,7 +45,7 @@ class File:
             raise OutputError(f"{path}: {fault.strerror}") from fault
         self._path = path
 
-    def write(self, text: bytes) -> None:
+    def write(self, text: Union[bytes, bytearray]) -> None:
         """Writes a piece."""
         try:
             left = memoryview(text)

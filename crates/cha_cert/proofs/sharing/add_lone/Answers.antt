@@ -1,4 +1,4 @@
--- A node of lone minor men is shared.
+-- A node of lone minor pieces is shared.
 use Rattle.cha_cert.proofs.OnceWritten.{lone_added}
 use Rattle.cha_cert.proofs.sharing.add_lone.Goals as goal
 

@@ -1,4 +1,4 @@
--- The law of lone minor men.
+-- The law of lone minor pieces.
 use Rattle.mob_small.proofs.LoneKeeping.{lone_bounded}
 use Rattle.mob_small.proofs.lone_bound.lone_men_bound.Goals as goal
 

@@ -1,8 +1,10 @@
 use Rattle.std.proofs.Common.{◌≡◌, ℕ, List, ◌++◌, drop, ap, ◌∙◌, arith, Ok, Err}
 use Rattle.pgn_lex.specs.Lexing.{LexerState}
 use Rattle.pgn_games.proofs.KeptTokens.{next_front, all_settled, none_behind}
+use Rattle.pgn_games.proofs.Settled.{none_left}
 use Rattle.cha_outside.specs.declared.gathering.ReadEnd.TheVariants.{ReadFault}
 use Rattle.cha_outside.proofs.Gathered.{gathers_more}
+use Rattle.pgn_games.specs.Keeping.{taken_by}
 use Rattle.pgn_games.proofs.cutter.Cutter.advance.Goals as goal
 
 pub loop-self-preserved : goal.loop-self-preserved
@@ -12,6 +14,14 @@ loop-self-preserved g c =
     record {
       is_open = c.in-Ok-More.ensures.open;
       scanned = rw (same.2, same.4) up.0;
+      waits = (
+        taken_by c.feed_piece.new.self,
+        c.refill.ensures.piece.0,
+        c.refill.ensures.piece.1,
+        let none = none_left c.feed_piece.new.self.lexer.fed _ _ up.2 in
+            let all = all_settled c.feed_piece.new.self.lexer.fed (taken_by c.feed_piece.new.self) _ _ _ _ c.in-Ok-Open.ensures.open.told up.0 up.1 none in
+            omega (arith, all, same.0),
+      );
       bytes = gathers_more _ _ _ _ _ _ c.refill.ensures.bytes.0 c.loop-self.invariant.bytes c.refill.ensures.bytes.1 (c.refill.ensures.bytes.2 ∙ ap (λ (x : List ℕ). x ++ c.refill.ensures.bytes.0) c.feed_piece.ensures.taken);
       given = same.0 ∙ c.feed_piece.ensures.same.0 ∙ c.loop-self.invariant.given;
       first = next_front c.feed_piece.new.self.lexer.fed _ _ _ _ _ c.feed_piece.new.self.given _ _ c.in-Ok-Open.ensures.open.told (c.feed_piece.ensures.same.0 ∙ c.loop-self.invariant.given) c.feed_piece.ensures.taken
@@ -43,3 +53,6 @@ returns-in-Err-refill-clause-read_fault g c = λ e.
     let all = all_settled c.feed_piece.new.self.lexer.fed (c.refill.new.self.lexer.fed ++ drop c.refill.new.self.used c.refill.new.self.piece.items) _ _ _ _ c.in-Ok-Open.ensures.open.told up.0 up.1
     (none_behind c.feed_piece.new.self.lexer.fed _ _ _ (ap (λ (l : LexerState). l.fed) c.refill.ensures.same.1) fault.1) in
     (omega (arith, fault.0, c.loop-self.invariant.later), omega (arith, all, c.feed_piece.ensures.same.0, c.loop-self.invariant.given))
+
+pub returns-in-Ok-Whole-clause-waits : goal.returns-in-Ok-Whole-clause-waits
+returns-in-Ok-Whole-clause-waits g c = λ e. rw (c.feed_piece.ensures.taken, c.feed_piece.ensures.piece, c.feed_piece.ensures.same.0) c.loop-self.invariant.waits

@@ -2,7 +2,7 @@ use Rattle.std.proofs.Common.{◌≡◌, ◌+◌, ◌-◌, ◌≤◌, length, ta
 use Rattle.cha_outside.specs.declared.gathering.TheConstants.{MOST_BYTES}
 use Rattle.pgn_games.specs.Games.{placed_games}
 use Rattle.pgn_games.specs.Reading.{Takes}
-use Rattle.pgn_games.specs.Keeping.{taken_by, IsOpenAt, IsScannedAt}
+use Rattle.pgn_games.specs.Keeping.{taken_by, IsOpenAt, IsScannedAt, WaitsAt}
 use Rattle.pgn_games.proofs.cutter.Cutter.advance.Given as goal
 
 -- the bytes that the source gave were taken, and the game is not whole
@@ -10,6 +10,7 @@ abbrev pub invariant-loop-self : goal.invariant-loop-self
 invariant-loop-self g l = record {
   is_open : IsOpenAt l.self;
   scanned : IsScannedAt l.self;
+  waits : WaitsAt l.self;
   bytes : Takes (g.S.Source.left l.fn.source) (g.S.Source.left l.source) (taken_by l.fn.self) (taken_by l.self);
   given : l.self.given ≡ l.fn.self.given;
   first : take l.fn.self.given (placed_games (taken_by l.self)) ≡ take l.fn.self.given (placed_games (taken_by l.fn.self));

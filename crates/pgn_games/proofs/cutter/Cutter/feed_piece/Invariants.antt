@@ -8,6 +8,7 @@ invariant-loop-self l = record {
   is_open : IsOpenAt l.self;
   scanned : IsScannedAt l.self;
   taken : taken_by l.self ≡ taken_by l.fn.self;
+  piece : l.self.piece ≡ l.fn.self.piece;
   same : (l.self.given ≡ l.fn.self.given) × (l.self.taken ≡ l.fn.self.taken);
 }
 

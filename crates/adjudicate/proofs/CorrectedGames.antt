@@ -1,7 +1,5 @@
--- Only games that were read, and have a token before their result, get another one.
+-- Only games that were read get another result, and what is written of them is the corrected text.
 use Rattle.std.proofs.Common.{◌≡◌, ℕ, Bool, true, false, if◌then◌else◌, List, [], ◌∷◌, ◌++◌, length, map, take, drop, Option, Some, None, nat_lt, ◌-◌, refl, sym, ap, ◌∙◌, subst}
-use Rattle.std.specs.List.{All}
-use Rattle.std.proofs.lemmas.List.Elements.{All-head, All-tail}
 use Rattle.cha_limits.specs.Bounds.{Bounds}
 use Rattle.pgn_lex.specs.declared.kinds.Placed.{Placed}
 use Rattle.pgn_lex.specs.Tokens.{tokens}
@@ -12,10 +10,9 @@ use Rattle.pgn_games.specs.declared.played.PlacedGame.{PlacedGame}
 use Rattle.pgn_games.specs.declared.played.Span.{Span}
 use Rattle.pgn_games.specs.declared.token_turns.Place.TheVariants.{Before}
 use Rattle.pgn_games.specs.Cutting.{cut}
-use Rattle.pgn_games.specs.Games.{opening, placed_games, placed_game_of, game_of}
+use Rattle.pgn_games.specs.Games.{placed_games, placed_game_of, game_of}
 use Rattle.pgn_results.specs.Correcting.{corrected, written_games, end_of}
-use Rattle.pgn_results.specs.Kept.{begins_with_result, OnlyReadable, OnlyBegun}
-use Rattle.pgn_results.proofs.ResultAlone.{result_alone}
+use Rattle.pgn_results.specs.Kept.{OnlyReadable}
 use Rattle.pgn_results.proofs.OneByOne.{one_by_one}
 use Rattle.pgn_results.proofs.GameByGame.{written_front}
 use Rattle.cha_outcome.specs.declared.items.PlayedGame.{PlayedGame}
@@ -28,9 +25,9 @@ use Rattle.cha_outcome.specs.declared.outcomes.Outcome.TheVariants as outcomes
 use Rattle.cha_outcome.specs.Items.{item_unless, game_item, kept_item}
 use Rattle.cha_outcome.specs.declared.questions.FlaggedDraws.{FlaggedDraws}
 use Rattle.cha_outcome.specs.declared.questions.Question.TheVariants.{Verdicts}
-use Rattle.cha_outcome.specs.Outcomes.{item_of, new_result, HasSoundVerdicts, AllSound}
-use Rattle.cha_outcome.proofs.BareGames.{bare_keeps}
+use Rattle.cha_outcome.specs.Outcomes.{item_of, new_result, AllSound}
 use Rattle.adjudicate.specs.Jobs.{kept_items}
+use Rattle.adjudicate.proofs.BegunGames.{results_of_begun}
 
 -- a game gets a result only where it was played
 marked_is_played : (o : Outcome) (mark : ResultMark) → new_result o ≡ Some mark → (game : PlayedGame) × (item_of o ≡ Played game)
@@ -73,45 +70,8 @@ pub results_of_readable : (bytes : List ℕ) (os : List Outcome) → map item_of
 unfolding placed_games
 results_of_readable bytes os e = only_readable (cut Before (tokens bytes)) os e
 
--- where it has no token before its result, it has no move and no tag
-abbrev IsBare : List Placed → Type 0
-IsBare game = begins_with_result game ≡ true → ((game_of game).words ≡ []) × ((game_of game).start ≡ opening) × ((game_of game).forfeit ≡ false) × ((game_of game).flag_fell ≡ false)
-
--- such a game keeps its result
-begun_if : (limits : Bounds) (draws : FlaggedDraws) (slice : List Placed) (o : Outcome) (mark : ResultMark)
-    → IsBare slice
-    → item_of o ≡ kept_item (placed_game_of slice) → HasSoundVerdicts limits draws o → new_result o ≡ Some mark → (b : Bool) → begins_with_result slice ≡ b → begins_with_result slice ≡ false
-begun_if limits draws slice o mark bare item sound e false is = is
-begun_if limits draws slice o mark bare item sound e true is =
-    let no = bare is in
-    let none : new_result o ≡ None = bare_keeps limits draws (placed_game_of slice) o no.0 no.1 no.2 no.3 item sound in
-    let never : Some mark ≡ None = sym e ∙ none in cc
-
-begun_by : (limits : Bounds) (draws : FlaggedDraws) (slice : List Placed) (slices : List (List Placed)) (o : Outcome) (marks : List (Option ResultMark))
-    → IsBare slice
-    → item_of o ≡ kept_item (placed_game_of slice) → HasSoundVerdicts limits draws o → OnlyBegun slices marks
-    → (mark : Option ResultMark) → new_result o ≡ mark → OnlyBegun (slice ∷ slices) (mark ∷ marks)
-unfolding OnlyBegun
-begun_by limits draws slice slices o marks bare item sound rest None e = rest
-begun_by limits draws slice slices o marks bare item sound rest (Some mark) e = (begun_if limits draws slice o mark bare item sound e (begins_with_result slice) refl, rest)
-
-only_begun : (limits : Bounds) (draws : FlaggedDraws) (slices : List (List Placed)) (os : List Outcome)
-    → All IsBare slices
-    → AllSound (Verdicts limits draws) os → map item_of os ≡ map kept_item (map placed_game_of slices) → OnlyBegun slices (map new_result os)
-unfolding OnlyBegun
-only_begun limits draws [] os bare sound e = tt
-only_begun limits draws (slice ∷ slices) [] bare sound e = tt
-only_begun limits draws (slice ∷ slices) (o ∷ os) bare sound e =
-    let here : item_of o ≡ kept_item (placed_game_of slice) = cc in
-    let behind : map item_of os ≡ map kept_item (map placed_game_of slices) = cc in
-    begun_by limits draws slice slices o (map new_result os) (All-head IsBare slice slices bare) here sound.0 (only_begun limits draws slices os (All-tail IsBare slice slices bare) sound.1 behind) (new_result o) refl
-
-pub results_of_begun : (limits : Bounds) (draws : FlaggedDraws) (bytes : List ℕ) (os : List Outcome) → AllSound (Verdicts limits draws) os → map item_of os ≡ kept_items bytes → OnlyBegun (cut Before (tokens bytes)) (map new_result os)
-unfolding placed_games
-results_of_begun limits draws bytes os sound e = only_begun limits draws (cut Before (tokens bytes)) os (result_alone (tokens bytes)) sound e
-
 -- the corrected text is what is written of all games, and what stands behind the last one
 pub corrected_whole : (limits : Bounds) (draws : FlaggedDraws) (bytes : List ℕ) (os : List Outcome) → AllSound (Verdicts limits draws) os → map item_of os ≡ kept_items bytes
     → corrected bytes (map new_result os) ≡ written_games 0 bytes (placed_games bytes) (map new_result os) ++ drop (end_of 0 (take (length (map new_result os)) (placed_games bytes))) bytes
 corrected_whole limits draws bytes os sound e =
-    one_by_one bytes (map new_result os) (results_of_readable bytes os e) (results_of_begun limits draws bytes os sound e) ∙ written_front bytes (map new_result os)
+    one_by_one bytes (map new_result os) (results_of_readable bytes os e) (results_of_begun limits draws bytes os e sound) ∙ written_front bytes (map new_result os)

@@ -2,6 +2,8 @@ pub mod Items
 pub mod Progress
 pub mod RunEndings
 pub mod OrderRuns
+pub mod OpeningLives
+pub mod BegunGames
 pub mod CorrectedGames
 pub mod Fronts
 pub mod Answering

@@ -18,7 +18,7 @@ pub use items::{
     Item, MOST_GAME_BYTES, PlayedGame, ReplayedGame, item_of_game, item_of_kept_game, item_of_line,
     item_of_replay,
 };
-pub use outcomes::{Outcome, games_without_moves_keep_their_results};
+pub use outcomes::Outcome;
 pub use questions::{FlaggedDraws, Question};
 pub use rulings::{
     Cause, Claim, Judgment, changes_result, claim_of, fallen_flag, first_examined,

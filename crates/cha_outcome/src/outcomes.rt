@@ -1,13 +1,7 @@
 //! What is found about an item.
 
-ghost use Rattle.std.specs.Prelude.{◌≡◌, [], false, None};
-ghost use Rattle.cha_limits.specs.Bounds.{Bounds};
-ghost use Rattle.pgn_games.specs.Games.{opening};
-ghost use Rattle.pgn_games.specs.declared.played.PlacedGame.{PlacedGame as GamePlaced};
-ghost use Rattle.cha_outcome.specs.declared.outcomes.Outcome.{Outcome as OutcomeOf};
-ghost use Rattle.cha_outcome.specs.declared.questions.FlaggedDraws.{FlaggedDraws as DrawRule};
-ghost use Rattle.cha_outcome.specs.Items.{kept_item};
-ghost use Rattle.cha_outcome.specs.Outcomes.{item_of, HasSoundVerdicts, is_refused as is_refused_of, is_dead_position as is_dead_position_of, is_changed_game as is_changed_game_of, new_result as new_result_of, is_open as is_open_of, has_mates as has_mates_of, has_open_side as has_open_side_of};
+ghost use Rattle.std.specs.Prelude.{◌≡◌};
+ghost use Rattle.cha_outcome.specs.Outcomes.{is_refused as is_refused_of, is_dead_position as is_dead_position_of, is_changed_game as is_changed_game_of, new_result as new_result_of, is_open as is_open_of, has_mates as has_mates_of, has_open_side as has_open_side_of};
 
 use crate::items::{PlayedGame, ReplayedGame};
 use crate::rulings::{Judgment, changes_result};
@@ -149,9 +143,3 @@ impl Outcome {
         }
     }
 }
-
-/// A game that has no move, starts from the opening position and says nothing of a flag keeps its result: from there a side can mate.
-pub fn games_without_moves_keep_their_results()
-    ensures { (limits : Bounds) (draws : DrawRule) (placed : GamePlaced) (outcome : OutcomeOf) → placed.game.words ≡ [] → placed.game.start ≡ opening → placed.game.forfeit ≡ false → placed.game.flag_fell ≡ false
-        → item_of outcome ≡ kept_item placed → HasSoundVerdicts limits draws outcome → new_result_of outcome ≡ None }
-{}

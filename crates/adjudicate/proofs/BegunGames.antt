@@ -1,6 +1,7 @@
 -- A game that is a result alone keeps it: it is judged at the opening position, which is alive.
 use Rattle.std.proofs.Common.{◌≡◌, ℕ, zero, suc, ◌+◌, ◌-◌, Bool, true, false, ◌&&◌, if◌then◌else◌, List, [], ◌∷◌, map, length, Option, Some, None, Result, Ok, Err, nat_lt, refl, sym, ap, ◌∙◌, subst, arith}
 use Rattle.std.specs.List.{All}
+use Rattle.std.proofs.lemmas.Bool.Decides.{nat_tests}
 use Rattle.std.proofs.lemmas.List.Elements.{All-head, All-tail}
 use Rattle.cha_board.specs.declared.men.Color.{Color}
 use Rattle.cha_board.specs.declared.men.Color.TheVariants.{White, Black}
@@ -44,7 +45,7 @@ use Rattle.cha_outcome.specs.Items.{played, played_item, item_unless, game_item,
 use Rattle.cha_outcome.specs.Outcomes.{item_of, new_result, IsSoundOutcome, HasSoundVerdicts, AllSound}
 use Rattle.cha_outcome.specs.Rulings.{winner_ruling_of, recorded_ruling_of, running_ruling_of, ruling_of, claimant_by, claim_of, is_changed, is_same_mark, was_dead, judgment_of}
 use Rattle.adjudicate.specs.Jobs.{kept_items}
-use Rattle.adjudicate.proofs.OpeningLives.{black_mates, opening_runs}
+use Rattle.adjudicate.proofs.OpeningLives.{move, black_mates, opening_runs}
 
 -- a game at the opening position, of which nothing but a result is told
 pub record AtOpening (game : PlayedGame) : Type 0 where
@@ -79,7 +80,7 @@ at_opening placed pg says e = at_opening_if (nat_lt MOST_GAME_BYTES (placed.span
 -- Black is not shown unable to mate there
 alive_by : (limits : Bounds) (v : Verdict) → IsTrueOf opening Black limits v → is_unwinnable v ≡ false
 alive_by limits (Winnable moves) t = refl
-alive_by limits (Unwinnable cert) t = absurd (valid_is_unwinnable opening Black cert t _ black_mates)
+alive_by limits (Unwinnable cert) t = absurd (valid_is_unwinnable opening Black cert t (move 13 21 ∷ move 52 36 ∷ move 14 30 ∷ move 59 31 ∷ []) black_mates)
 alive_by limits (Undecided units depth) t = refl
 alive_by limits Skipped t = refl
 
@@ -92,8 +93,7 @@ no_ply_before qs None e = refl
 no_ply_before qs (Some scan) e = rw e (nothing scan.ply)
   where
     nothing : (n : ℕ) → nat_lt (n + 1) 1 ≡ false
-    nothing zero = refl
-    nothing (suc n) = refl
+    nothing n = grind (arith, nat_tests)
 
 -- no flag fell, so that nobody claims a draw
 nobody : (draws : FlaggedDraws) (recorded : ResultMark) (mover : Color) → claimant_by draws false recorded mover ≡ None
@@ -147,22 +147,22 @@ begun_if r false mark e none = refl
 abbrev Bare : List Placed → Type 0
 Bare slice = begins_with_result slice ≡ true → Says (game_of slice)
 
+begun_by : (limits : Bounds) (draws : FlaggedDraws) (slice : List Placed) (slices : List (List Placed)) (o : Outcome) (marks : List (Option ResultMark)) → Bare slice → item_of o ≡ kept_item (placed_game_of slice)
+    → IsSoundOutcome (Verdicts limits draws) o → OnlyBegun slices marks → (r : Option ResultMark) → new_result o ≡ r → OnlyBegun (slice ∷ slices) (r ∷ marks)
+unfolding OnlyBegun
+begun_by limits draws slice slices o marks bare item sound rest None is = rest
+begun_by limits draws slice slices o marks bare item sound rest (Some mark) is =
+    (begun_if (new_result o) (begins_with_result slice) mark is (λ begins. stays limits draws o (placed_game_of slice) (bare begins) item sound), rest)
+
 only_begun : (limits : Bounds) (draws : FlaggedDraws) (slices : List (List Placed)) (os : List Outcome) → All Bare slices → map item_of os ≡ map kept_item (map placed_game_of slices) → AllSound (Verdicts limits draws) os
     → OnlyBegun slices (map new_result os)
 unfolding OnlyBegun
 only_begun limits draws [] os bare e sound = tt
 only_begun limits draws (slice ∷ slices) [] bare e sound = tt
-only_begun limits draws (slice ∷ slices) (o ∷ os) bare e sound = step (new_result o) refl
-  where
-    rest : OnlyBegun slices (map new_result os)
-    rest = only_begun limits draws slices os (All-tail Bare slice slices bare) (let tail : map item_of os ≡ map kept_item (map placed_game_of slices) = cc in tail) sound.1
-
-    head : item_of o ≡ kept_item (placed_game_of slice)
-    head = cc
-
-    step : (r : Option ResultMark) → new_result o ≡ r → OnlyBegun (slice ∷ slices) (r ∷ map new_result os)
-    step None is = rest
-    step (Some mark) is = (begun_if (new_result o) (begins_with_result slice) mark is (λ begins. stays limits draws o (placed_game_of slice) (All-head Bare slice slices bare begins) head sound.0), rest)
+only_begun limits draws (slice ∷ slices) (o ∷ os) bare e sound =
+    let here : item_of o ≡ kept_item (placed_game_of slice) = cc in
+    let behind : map item_of os ≡ map kept_item (map placed_game_of slices) = cc in
+    begun_by limits draws slice slices o (map new_result os) (All-head Bare slice slices bare) here sound.0 (only_begun limits draws slices os (All-tail Bare slice slices bare) behind sound.1) (new_result o) refl
 
 pub results_of_begun : (limits : Bounds) (draws : FlaggedDraws) (bytes : List ℕ) (os : List Outcome) → map item_of os ≡ kept_items bytes → AllSound (Verdicts limits draws) os → OnlyBegun (cut Before (tokens bytes)) (map new_result os)
 unfolding placed_games

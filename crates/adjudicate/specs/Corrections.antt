@@ -87,8 +87,8 @@ Corrects c before now notes notes' =
 abbrev pub IsCutOff : Correction → Outside → Outside → Noted → Noted → Type 0
 IsCutOff c before now notes notes' =
     (bytes : List ℕ) × Consumes before.left now.left bytes × ((os : List Outcome) × (
-        (HasFirst c.judging bytes os × Grew before.written now.written (λ out. IsFront out (corrected_front c.changed bytes os)) × (notes'.taken ≡ notes.taken))
-        ⊎ (IsAtEnd now.left × HasAll c.judging bytes os × Grew before.written now.written (λ out. IsFront out (corrected_text c.changed bytes os)) × Grew notes.taken notes'.taken (λ out. IsFront out (last c.judging bytes os)))
+    (HasFirst c.judging bytes os × Grew before.written now.written (λ out. IsFront out (corrected_front c.changed bytes os)) × (notes'.taken ≡ notes.taken))
+    ⊎ (IsAtEnd now.left × HasAll c.judging bytes os × Grew before.written now.written (λ out. IsFront out (corrected_text c.changed bytes os)) × Grew notes.taken notes'.taken (λ out. IsFront out (last c.judging bytes os)))
     ))
 
 -- some bytes were taken, and so many of their games at least were written, with all up to the end of the last; nothing was noted

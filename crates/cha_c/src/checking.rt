@@ -25,7 +25,13 @@ pub fn check_text(alloc: Global, text: &[u8]) -> Result<Status, NoMemory>
     let mut output = Grown::new(alloc);
     let mut source = Slice::new(text);
     let mut notes = Grown::new(alloc);
-    Ok(run_alone(alloc, words.as_slice(), &mut source, &mut output, &mut notes))
+    Ok(run_alone(
+        alloc,
+        words.as_slice(),
+        &mut source,
+        &mut output,
+        &mut notes,
+    ))
 }
 
 /// The one word that asks for a check.

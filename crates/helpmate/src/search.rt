@@ -66,6 +66,30 @@ pub fn search<F: Facts>(
     if depth <= 1 {
         return Ok(search_shallow(position, winner, depth, left));
     }
+    search_deep(alloc, position, winner, depth, left, facts)
+}
+
+/// Searches a position to 2 plies or more, which is asked for, and expanded if the answer does not decide. It stands apart so
+/// that a search to one ply, of which there are most, has no room to make for answers of a place.
+#[cycle(searching)]
+fn search_deep<F: Facts>(
+    alloc: Global,
+    position: &Position,
+    winner: Color,
+    depth: u8,
+    left: &mut u32,
+    facts: &mut F,
+) -> Result<RoundAnswer, NoMemory>
+    requires ready { F.ready facts.old }
+    requires some { 1 < depth }
+    requires few { depth ≤ 8 }
+    ensures stays_ready { F.ready facts.new }
+    ensures less { left.new ≤ left.old }
+    ensures units { IfOk result (λ answer. AreUnits position.now depth (left.old - left.new)) }
+    ensures holds { IfOk result (IsAnswer position.now winner depth (32 + depth)) }
+    ensures spent { result ≡ Ok RoundAnswer.Spent → left.new ≡ 0 }
+    ensures calls { Searches F.made facts.old facts.new position.now winner depth (left.old - left.new) result }
+{
     match ask(position, winner, facts) {
         Probe::Found(row) => match decided(position, winner, &row, depth) {
             Some(answer) => Ok(answer),

@@ -103,11 +103,11 @@ expand-returns-clause-calls g t c =
     all_tried g.F.Facts.made c.args.facts.now c.loop-m.facts c.store-stored.new.self c.args.position.now c.args.winner c.args.depth c.deref-m-items.result.now c.loop-m.m-index c.none.result c.store-stored.result _ g.met.F.Facts.both_made c.loop-m.invariant.tried c.loop-m-test.false c.loop-m.invariant.listed
     c.store-stored.ensures.entered c.none.ensures
 
-pub search-returns-in-Some-clause-units : goal.search-returns-in-Some-clause-units
-search-returns-in-Some-clause-units g t c = no_units c.args.position.now c.args.depth (c.args.left.now - c.args.left.now) (omega arith)
+pub search_deep-returns-in-Some-clause-units : goal.search_deep-returns-in-Some-clause-units
+search_deep-returns-in-Some-clause-units g t c = no_units c.args.position.now c.args.depth (c.args.left.now - c.args.left.now) (omega arith)
 
-pub search-returns-in-Some-clause-calls : goal.search-returns-in-Some-clause-calls
-search-returns-in-Some-clause-calls g t c =
+pub search_deep-returns-in-Some-clause-calls : goal.search_deep-returns-in-Some-clause-calls
+search_deep-returns-in-Some-clause-calls g t c =
     let q = c.args.position.now in
     let w = c.args.winner in
     let units = c.args.left.now - c.args.left.now in
@@ -115,16 +115,16 @@ search-returns-in-Some-clause-calls g t c =
     (decides g.F.Facts.made c.args.facts.now c.ask.new.facts q w c.args.depth units c.ask.result c.in-Found.row c.in-Some.answer (Ok c.in-Some.answer) c.ask.ensures.entered
     c.in-Found.is (sym c.decided.ensures.value ∙ c.in-Some.is) (omega arith) refl)
 
-pub search-returns-in-None-clause-calls : goal.search-returns-in-None-clause-calls
-search-returns-in-None-clause-calls g t c =
+pub search_deep-returns-in-None-clause-calls : goal.search_deep-returns-in-None-clause-calls
+search_deep-returns-in-None-clause-calls g t c =
     let q = c.args.position.now in
     let w = c.args.winner in
     let units = c.args.left.now - c.expand.new.left in
     expanded g.F.Facts.made c.args.facts.now c.ask.new.facts c.expand.new.facts q w c.args.depth units c.ask.result c.expand.result g.met.F.Facts.both_made c.ask.ensures.entered
     c.expand.ensures.calls (undecided c.args.depth units c.ask.result c.in-Found.row c.in-Found.is (sym c.decided.ensures.value ∙ c.in-None.is))
 
-pub search-returns-in-Miss-clause-calls : goal.search-returns-in-Miss-clause-calls
-search-returns-in-Miss-clause-calls g t c =
+pub search_deep-returns-in-Miss-clause-calls : goal.search_deep-returns-in-Miss-clause-calls
+search_deep-returns-in-Miss-clause-calls g t c =
     let q = c.args.position.now in
     let w = c.args.winner in
     let units = c.args.left.now - c.expand-in-Miss.new.left in

@@ -5,10 +5,13 @@ use Rattle.helpmate.proofs.Trying.{HaveNoMate, Tried}
 use Rattle.helpmate.proofs.search.+searching.Given as goal
 
 abbrev pub decreases-search : goal.decreases-search
-decreases-search g l = 2 * l.depth + 1
+decreases-search g l = 3 * l.depth + 2
+
+abbrev pub decreases-search_deep : goal.decreases-search_deep
+decreases-search_deep g l = 3 * l.depth + 1
 
 abbrev pub decreases-expand : goal.decreases-expand
-decreases-expand g l = 2 * l.depth
+decreases-expand g l = 3 * l.depth
 
 abbrev pub invariant-expand-loop-m : goal.invariant-expand-loop-m
 invariant-expand-loop-m g l = record {

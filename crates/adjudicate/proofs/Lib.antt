@@ -10,3 +10,4 @@ pub mod Answering
 pub mod GivenGames
 pub mod ReportLoop
 pub mod LegalLines
+pub mod CorrectingLoop

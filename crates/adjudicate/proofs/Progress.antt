@@ -24,7 +24,7 @@ WroteUpTo j all later old new s =
     × ((os : List Outcome) × (map item_of os ≡ done) × AllSound j.question os × Appends old new (blocks j.style 1 os) × (s ≡ totals_of os))
 
 -- one more outcome
-sound_more : (question : Question) (os : List Outcome) (o : Outcome) → AllSound question os → IsSoundOutcome question o → AllSound question (os ++ o ∷ [])
+pub sound_more : (question : Question) (os : List Outcome) (o : Outcome) → AllSound question os → IsSoundOutcome question o → AllSound question (os ++ o ∷ [])
 sound_more question [] o all one = (one, tt)
 sound_more question (first ∷ os) o all one = (all.0, sound_more question os o all.1 one)
 
@@ -39,7 +39,7 @@ blocks_more style n (first ∷ os) o =
 count_more : (p : Outcome → Bool) (os : List Outcome) (o : Outcome) → count_by p (os ++ o ∷ []) ≡ count_by p os + one_if (p o)
 count_more p os o = sum_by-append (λ x. if p x then 1 else 0) os (o ∷ []) ∙ ap (λ n. count_by p os + n) (zero-add (one_if (p o)))
 
-totals_more : (os : List Outcome) (o : Outcome) → counted (totals_of os) o ≡ totals_of (os ++ o ∷ [])
+pub totals_more : (os : List Outcome) (o : Outcome) → counted (totals_of os) o ≡ totals_of (os ++ o ∷ [])
 totals_more os o = λ i. record {
   items = sym (length-append os (o ∷ [])) i;
   refused = sym (count_more is_refused os o) i;

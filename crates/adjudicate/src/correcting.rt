@@ -23,10 +23,10 @@ use crate::endings::Status;
 use crate::writing::put;
 use cha_judge::Judge;
 use cha_list::{NoMemory, Text};
-use cha_outcome::{Outcome, Totals, item_of_kept_game};
+use cha_outcome::{Totals, item_of_kept_game};
 use cha_outside::{Sink, Source, Wrote};
 use flag_report::{Style, Subject, put_summary};
-use pgn_games::{PlacedGame, ResultMark, Span};
+use pgn_games::{ResultMark, Span};
 use pgn_results::{KeptReader, corrected_games_stay_the_same};
 use std::alloc::Global;
 
@@ -58,7 +58,10 @@ pub fn correct_games<J: Judge, S: Source, K: Sink, N: Sink>(
         let Some(game) = found else {
             return end_text(alloc, changed, &reader, &totals, sink, notes);
         };
-        let Ok(outcome) = judge_game(alloc, judge, &game) else {
+        let Ok(item) = item_of_kept_game(alloc, &game) else {
+            return Status::NoMemory;
+        };
+        let Ok(outcome) = judge.judge(alloc, item) else {
             return Status::NoMemory;
         };
         totals.count(&outcome);
@@ -70,16 +73,6 @@ pub fn correct_games<J: Judge, S: Source, K: Sink, N: Sink>(
             Wrote::Failed(_) => return Status::WriteFault,
         }
     }
-}
-
-/// Judges a game whose result may be corrected.
-fn judge_game<J: Judge>(
-    alloc: Global,
-    judge: &mut J,
-    game: &PlacedGame,
-) -> Result<Outcome, NoMemory> {
-    let item = item_of_kept_game(alloc, game)?;
-    judge.judge(alloc, item)
 }
 
 /// What is written of the game that was read last.

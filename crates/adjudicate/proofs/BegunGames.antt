@@ -1,10 +1,10 @@
 -- A game that is a result alone keeps it: it is judged at the opening position, which is alive.
-use Rattle.std.proofs.Common.{◌≡◌, ℕ, zero, suc, ◌+◌, ◌-◌, Bool, true, false, ◌&&◌, if◌then◌else◌, List, [], ◌∷◌, map, length, Option, Some, None, Result, Ok, Err, nat_lt, refl, sym, ap, ◌∙◌, subst, arith}
+use Rattle.std.proofs.Common.{◌≡◌, ℕ, ◌+◌, ◌-◌, Bool, true, false, ◌&&◌, if◌then◌else◌, List, [], ◌∷◌, map, Option, Some, None, Ok, nat_lt, refl, sym, ap, ◌∙◌, subst, arith}
 use Rattle.std.specs.List.{All}
 use Rattle.std.proofs.lemmas.Bool.Decides.{nat_tests}
 use Rattle.std.proofs.lemmas.List.Elements.{All-head, All-tail}
 use Rattle.cha_board.specs.declared.men.Color.{Color}
-use Rattle.cha_board.specs.declared.men.Color.TheVariants.{White, Black}
+use Rattle.cha_board.specs.declared.men.Color.TheVariants.{Black}
 use Rattle.cha_board.specs.Board.{Board}
 use Rattle.cha_moves.specs.declared.ends.Standing.TheVariants.{Running}
 use Rattle.cha_moves.specs.Standings.{standing_of}
@@ -22,7 +22,6 @@ use Rattle.pgn_games.specs.Games.{opening, placed_games, placed_game_of, game_of
 use Rattle.pgn_results.specs.Kept.{begins_with_result, OnlyBegun}
 use Rattle.pgn_results.proofs.ResultAlone.{Says, result_alone}
 use Rattle.cha_limits.specs.Bounds.{Bounds}
-use Rattle.cha_san.specs.declared.faults.PlayFault.{PlayFault}
 use Rattle.cha_san.specs.Playing.{positions, positions_from}
 use Rattle.cha_cert.proofs.Bounded.{valid_is_unwinnable}
 use Rattle.cha_verdict.specs.declared.verdicts.Verdict.{Verdict}
@@ -30,9 +29,8 @@ use Rattle.cha_verdict.specs.declared.verdicts.Verdict.TheVariants.{Winnable, Un
 use Rattle.cha_verdict.specs.declared.decisions.Decision.{Decision}
 use Rattle.cha_verdict.specs.declared.scans.Scan.{Scan}
 use Rattle.cha_verdict.specs.Verdicts.{are_dead, is_unwinnable, is_undecided}
-use Rattle.cha_verdict.specs.Sound.{IsTrueOf, IsSound}
+use Rattle.cha_verdict.specs.Sound.{IsTrueOf}
 use Rattle.cha_outcome.specs.declared.items.PlayedGame.{PlayedGame}
-use Rattle.cha_outcome.specs.declared.items.Item.{Item}
 use Rattle.cha_outcome.specs.declared.items.Item.TheVariants.{Played, UnreadableGame}
 use Rattle.cha_outcome.specs.declared.items.TheConstants.{MOST_GAME_BYTES}
 use Rattle.cha_outcome.specs.declared.unreadable.Unreadable.TheVariants.{TooLong}
@@ -43,7 +41,7 @@ use Rattle.cha_outcome.specs.declared.questions.FlaggedDraws.TheVariants.{Stand,
 use Rattle.cha_outcome.specs.declared.questions.Question.TheVariants.{Verdicts}
 use Rattle.cha_outcome.specs.Items.{played, played_item, item_unless, game_item, kept_item}
 use Rattle.cha_outcome.specs.Outcomes.{item_of, new_result, IsSoundOutcome, HasSoundVerdicts, AllSound}
-use Rattle.cha_outcome.specs.Rulings.{winner_ruling_of, recorded_ruling_of, running_ruling_of, ruling_of, claimant_by, claim_of, is_changed, is_same_mark, was_dead, judgment_of}
+use Rattle.cha_outcome.specs.Rulings.{winner_ruling_of, recorded_ruling_of, running_ruling_of, ruling_of, claimant_by, is_changed, was_dead, judgment_of}
 use Rattle.adjudicate.specs.Jobs.{kept_items}
 use Rattle.adjudicate.proofs.OpeningLives.{move, black_mates, opening_runs}
 

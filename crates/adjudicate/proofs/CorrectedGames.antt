@@ -1,5 +1,5 @@
 -- Only games that were read get another result, and what is written of them is the corrected text.
-use Rattle.std.proofs.Common.{◌≡◌, ℕ, Bool, true, false, if◌then◌else◌, List, [], ◌∷◌, ◌++◌, length, map, take, drop, Option, Some, None, nat_lt, ◌-◌, refl, sym, ap, ◌∙◌, subst}
+use Rattle.std.proofs.Common.{◌≡◌, ℕ, Bool, true, false, if◌then◌else◌, List, [], ◌∷◌, ◌++◌, length, map, take, drop, Option, Some, None, nat_lt, ◌-◌, refl, sym, ◌∙◌}
 use Rattle.cha_limits.specs.Bounds.{Bounds}
 use Rattle.pgn_lex.specs.declared.kinds.Placed.{Placed}
 use Rattle.pgn_lex.specs.Tokens.{tokens}
@@ -10,13 +10,12 @@ use Rattle.pgn_games.specs.declared.played.PlacedGame.{PlacedGame}
 use Rattle.pgn_games.specs.declared.played.Span.{Span}
 use Rattle.pgn_games.specs.declared.token_turns.Place.TheVariants.{Before}
 use Rattle.pgn_games.specs.Cutting.{cut}
-use Rattle.pgn_games.specs.Games.{placed_games, placed_game_of, game_of}
+use Rattle.pgn_games.specs.Games.{placed_games, placed_game_of}
 use Rattle.pgn_results.specs.Correcting.{corrected, written_games, end_of}
 use Rattle.pgn_results.specs.Kept.{OnlyReadable}
 use Rattle.pgn_results.proofs.OneByOne.{one_by_one}
 use Rattle.pgn_results.proofs.GameByGame.{written_front}
 use Rattle.cha_outcome.specs.declared.items.PlayedGame.{PlayedGame}
-use Rattle.cha_outcome.specs.declared.items.Item.{Item}
 use Rattle.cha_outcome.specs.declared.items.Item.TheVariants.{Played, UnreadableGame}
 use Rattle.cha_outcome.specs.declared.items.TheConstants.{MOST_GAME_BYTES}
 use Rattle.cha_outcome.specs.declared.unreadable.Unreadable.TheVariants.{TooLong}

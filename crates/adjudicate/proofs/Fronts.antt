@@ -1,5 +1,5 @@
 -- What is written of the first games: more bytes change nothing of it, and one game more adds its piece.
-use Rattle.std.proofs.Common.{◌≡◌, ℕ, zero, suc, ◌<◌, ◌≤◌, Bool, true, false, List, [], ◌∷◌, ◌++◌, length, map, take, drop, Option, Some, None, slice_get, refl, sym, ap, ◌∙◌, subst, arith, append-nil, append_assoc}
+use Rattle.std.proofs.Common.{◌≡◌, ℕ, ◌≤◌, Bool, true, false, List, [], ◌∷◌, ◌++◌, length, map, take, drop, Option, Some, None, slice_get, refl, sym, ap, ◌∙◌, arith, append-nil, append_assoc}
 use Rattle.std.proofs.lemmas.List.{length-map, map-append, take-append-le}
 use Rattle.pgn_games.specs.declared.marks.ResultMark.{ResultMark}
 use Rattle.pgn_games.specs.declared.played.PlacedGame.{PlacedGame}
@@ -7,7 +7,7 @@ use Rattle.pgn_games.specs.Games.{placed_games}
 use Rattle.pgn_games.specs.Order.{AreInOrder}
 use Rattle.pgn_games.specs.Settling.{settled_games}
 use Rattle.pgn_games.proofs.InOrder.{placed_games_order}
-use Rattle.pgn_results.specs.Correcting.{between, written_games, piece_of, end_of}
+use Rattle.pgn_results.specs.Correcting.{written_games, piece_of, end_of}
 use Rattle.pgn_results.specs.Keeping.{changed_piece}
 use Rattle.pgn_results.specs.Keeping.{piece_of as piece_at}
 use Rattle.pgn_results.specs.Replacing.{game_with_mark}

@@ -1,4 +1,4 @@
-use Rattle.std.proofs.Common.{◌≡◌, true, false, refl, Err, Ok, Some, ap, sym, ◌∙◌, arith}
+use Rattle.std.proofs.Common.{refl, Err, Ok, ap, sym, ◌∙◌, arith}
 use Rattle.std.proofs.KnownBytes.{Consumes-nil}
 use Rattle.adjudicate.specs.Steps.{game_piece}
 use Rattle.adjudicate.proofs.RunEndings.{rose_in}

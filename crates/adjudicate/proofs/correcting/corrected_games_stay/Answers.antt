@@ -1,4 +1,3 @@
-use Rattle.pgn_lex.specs.Tokens.{tokens}
 use Rattle.adjudicate.specs.Corrections.{HasSameGames}
 use Rattle.adjudicate.proofs.CorrectedGames.{results_of_readable}
 use Rattle.adjudicate.proofs.correcting.corrected_games_stay.Goals as goal

@@ -11,9 +11,10 @@ use Rattle.cha_outside.specs.declared.gathering.ReadEnd.TheVariants.{TooLong}
 use Rattle.text_lines.specs.declared.pieces.Filled.{Filled}
 use Rattle.text_lines.specs.declared.lines.TextLine.{TextLine}
 use Rattle.text_lines.specs.Lines.{lines, without_return, counts, line_if, numbered, text_lines, ended_size, settled_lines}
+use Rattle.text_lines.specs.Reading.{TookNoMore, gives_line}
 use Rattle.text_lines.specs.Holding.{IsGone, IsHeld}
 use Rattle.text_lines.proofs.LineEnds.{next_line_is, last_line}
-use Rattle.text_lines.proofs.Runs.{take_none, front_run, feed_at, ended_feed, ended_still, take_two, run_through}
+use Rattle.text_lines.proofs.Runs.{take_none, front_run, feed_at, ended_feed, ended_still, take_two, run_through, ended_grown}
 
 -- a line is one at most, and none of no byte
 one_at_most : (number : ℕ) (text : List ℕ) → length (line_if number text) ≤ 1
@@ -141,6 +142,18 @@ settled_given gone rest number given h none =
     let all : text_lines (take (ended_size (gone ++ rest)) (gone ++ rest)) ≡ h.done = ap text_lines (front ∙ sym (append-nil gone)) ∙ h.joins [] (λ _. refl) ∙ append-nil h.done in
     omega (arith, ap length all, h.count)
 
+-- each line that a line feed ended is settled, whatever follows
+pub given_settled : (gone later : List ℕ) (number given : ℕ) (h : IsGone gone number given false) → given ≤ settled_lines (gone ++ later)
+unfolding settled_lines
+given_settled gone later number given h =
+    let more : ℕ = ended_size (gone ++ later) - length gone in
+    let size : ended_size (gone ++ later) ≡ length gone + more = omega (arith, ended_grown gone later, h.at_line refl) in
+    let front : take (ended_size (gone ++ later)) (gone ++ later) ≡ gone ++ take more later =
+        ap (λ n. take n (gone ++ later)) size ∙ take_two (length gone) more (gone ++ later) ∙ ap (λ xs. xs ++ take more (drop (length gone) (gone ++ later))) (take-append_seam gone later)
+        ∙ ap (λ xs. gone ++ take more xs) (drop-append_seam gone later) in
+    let all : text_lines (take (ended_size (gone ++ later)) (gone ++ later)) ≡ h.done ++ numbered number (lines (take more later)) = ap text_lines front ∙ h.joins (take more later) (λ e. cc) in
+    omega (arith, ap length all, length-append h.done (numbered number (lines (take more later))), h.count)
+
 -- before the first byte nothing is gone
 pub none_gone : IsGone [] 1 0 false
 unfolding text_lines ended_size
@@ -158,6 +171,11 @@ none_held before piece used scanned taken a b c d e = rw (a, b, c, d, e) (record
   taken_is = refl;
   few_bytes = omega arith;
 })
+
+pub none_waits : (before piece : List ℕ) → before ≡ [] → piece ≡ [] → (last : List ℕ) × TookNoMore (before ++ piece) last 0
+none_waits before piece a b =
+    let none : settled_lines [] ≤ 0 = settled_given [] [] 1 0 none_gone refl in
+    rw (a, b) ([], ([], refl, omega arith, none))
 
 -- how many lines a line is
 count_if : (number : ℕ) (text : List ℕ) (found : Option TextLine) → IfSome found (λ line. line_if number text ≡ line ∷ []) → IfNone found (line_if number text ≡ []) → length (line_if number text) ≡ (if is_some found then 1 else 0)
@@ -220,6 +238,20 @@ module _ (before piece : List ℕ) (used scanned number given taken : ℕ) (ende
         step (Some x) e =
             ap (λ bs. slice_get (text_lines bs) given) whole
             ∙ line_next (before ++ take used piece) rest number given finished h.gone none_at_end x _ (ended_next number rest small ∙ ap (λ xs. xs ++ numbered (number + 1) (lines (drop (prefix_len (in_class NotLineFeed) rest + 1) rest))) (ap (line_if number) (sym line_of_run) ∙ e))
+
+    pub line_settled : IfSome found (λ line. given < settled_lines (before ++ piece))
+    line_settled = step found some none
+      where
+        behind_it : before ++ piece ≡ ((before ++ take used piece) ++ take (suc (prefix_len (in_class NotLineFeed) rest)) rest) ++ drop (suc (prefix_len (in_class NotLineFeed) rest)) rest
+        behind_it = whole ∙ ap (λ xs. (before ++ take used piece) ++ xs) (sym (take-append-drop (suc (prefix_len (in_class NotLineFeed) rest)) rest))
+            ∙ sym (append_assoc (before ++ take used piece) (take (suc (prefix_len (in_class NotLineFeed) rest)) rest) (drop (suc (prefix_len (in_class NotLineFeed) rest)) rest))
+
+        step : (f : Option TextLine) → IfSome f (λ x. line_if number line ≡ x ∷ []) → IfNone f (line_if number line ≡ []) → IfSome f (λ x. given < settled_lines (before ++ piece))
+        step None e n = tt
+        step (Some x) e n =
+            let one : given + 1 ≡ given + length (line_if number (without_return (take (prefix_len (in_class NotLineFeed) rest) rest))) = omega (arith, ap length e, ap (λ l. length (line_if number l)) line_of_run) in
+            let there = given_settled _ (drop (suc (prefix_len (in_class NotLineFeed) rest)) rest) _ _ (gone_line (before ++ take used piece) number given (rw not_finished at h.gone) rest small (given + 1) one) in
+            omega (arith, there, ap settled_lines behind_it)
 
   -- the line that the end ends
   module _ (no_feed : used + prefix_len (in_class NotLineFeed) (drop used piece) ≡ length piece) (end : ℕ) (end_is : end ≡ length piece) (line : List ℕ) (line_is : line ≡ take (end - used) (drop used piece))
@@ -301,6 +333,10 @@ module _ (before piece : List ℕ) (used scanned number given taken : ℕ) (ende
         ap (λ bs. take given (text_lines bs)) joined ∙ first_given (before ++ take used piece) (rest ++ more) number given finished h.gone (shut (rest ++ more))
         ∙ sym (ap (λ bs. take given (text_lines bs)) whole ∙ first_given (before ++ take used piece) rest number given finished h.gone (shut rest))
 
+    pub refilled_waits : length more ≤ 4096 → (piece : List ℕ) × TookNoMore (before' ++ piece') piece given
+    refilled_waits few =
+        (more, (before ++ piece, refilled_whole, few, rw whole (settled_given (before ++ take used piece) rest number given (rw open_yet at h.gone) (omega (arith, size_is, no_feed)))))
+
     pub refilled_settled : piece' ≡ drop used piece → settled_lines (before' ++ piece') ≤ given
     refilled_settled same =
         let all : before' ++ piece' ≡ (before ++ take used piece) ++ rest = ap (λ xs. xs ++ piece') before_is ∙ ap (λ xs. (before ++ take used piece) ++ xs) same in
@@ -317,3 +353,21 @@ not_more n k few = step (nat_lt k n) refl
 pub on_ok : (r : Result Filled ReadEnd) (taken : ℕ) (P : Type 0) → (r ≡ Err TooLong) ↔ (268435456 < taken) → (taken ≤ 268435456 → P) → OnOk r P
 on_ok (Ok filled) taken P h held = held (not_more taken 268435456 (λ long. let e = h.1 long in cc))
 on_ok (Err end) taken P h held = tt
+
+-- a piece that was needed stays so, where as many lines were given or more
+pub still_waits : {X : Type 0} {E : Type 0} (r : Result X E) (P : Type 0) (taken taken' : List ℕ) (given given' : ℕ) → OnOk r P → taken' ≡ taken → given ≤ given'
+    → ((piece : List ℕ) × TookNoMore taken piece given) → OnOk r (P × ((piece : List ℕ) × TookNoMore taken' piece given'))
+still_waits (Ok x) P taken taken' given given' held same more waits =
+    (held, (waits.0, (waits.1.0, same ∙ waits.1.1, waits.1.2, omega (arith, waits.1.3, more))))
+still_waits (Err e) P taken taken' given given' held same more waits = tt
+
+-- a call takes no line back
+pub last_given : (r : Result (Option TextLine) ReadEnd) (given given' : ℕ) → given' ≡ (if gives_line r then given + 1 else given) → given ≤ given'
+last_given (Ok (Some line)) given given' e = omega (arith, e)
+last_given (Ok None) given given' e = omega (arith, e)
+last_given (Err end) given given' e = omega (arith, e)
+
+-- the first lines stay the first, from one reading to the next
+pub first_on : (n n' : ℕ) (a b c d : List ℕ) → n ≡ n' → take n (text_lines a) ≡ take n (text_lines b) → b ≡ c → take n' (text_lines c) ≡ take n' (text_lines d) → take n' (text_lines a) ≡ take n' (text_lines d)
+first_on n n' a b c d same now between before =
+    ap (λ k. take k (text_lines a)) (sym same) ∙ now ∙ ap (λ k. take k (text_lines b)) same ∙ ap (λ bs. take n' (text_lines bs)) between ∙ before

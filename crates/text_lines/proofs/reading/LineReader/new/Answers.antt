@@ -1,4 +1,4 @@
-use Rattle.text_lines.proofs.Given.{none_held, none_waits}
+use Rattle.text_lines.proofs.Kept.{none_held, none_waits}
 use Rattle.text_lines.proofs.reading.LineReader.new.Goals as goal
 
 pub invariant_of-result : goal.invariant_of-result

@@ -1,6 +1,6 @@
 use Rattle.std.proofs.Common.{◌≡◌, ◌≤◌, true, false, List, ℕ, ◌++◌, ap, sym, ◌∙◌, arith}
 use Rattle.cha_outside.proofs.Gathered.{gathers_more}
-use Rattle.text_lines.proofs.Given.{still_waits, last_given, first_on}
+use Rattle.text_lines.proofs.Kept.{still_waits, last_given, first_on}
 use Rattle.text_lines.proofs.reading.Lines.next.Goals as goal
 
 pub loop-line-preserved : goal.loop-line-preserved

@@ -1,5 +1,5 @@
 use Rattle.std.proofs.Common.{◌≤◌, length, drop, length-append, ap, arith}
-use Rattle.text_lines.proofs.Given.{refilled_whole, refilled_held, refilled_first, refilled_settled, refilled_waits, on_ok}
+use Rattle.text_lines.proofs.Kept.{refilled_whole, refilled_held, refilled_first, refilled_settled, refilled_waits, on_ok}
 use Rattle.text_lines.proofs.reading.Lines.refill.Goals as goal
 
 pub returns-clause-bytes : goal.returns-clause-bytes

@@ -1,6 +1,6 @@
 use Rattle.std.proofs.Common.{ap, ◌∙◌}
 use Rattle.text_lines.specs.Lines.{without_return}
-use Rattle.text_lines.proofs.Given.{held_line, found_line, line_settled}
+use Rattle.text_lines.proofs.Kept.{held_line, found_line, line_settled}
 use Rattle.text_lines.proofs.reading.Lines.take_line.Goals as goal
 
 pub returns-clause-held : goal.returns-clause-held

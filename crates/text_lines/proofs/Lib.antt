@@ -1,3 +1,4 @@
 pub mod LineEnds
 pub mod Runs
 pub mod Given
+pub mod Kept

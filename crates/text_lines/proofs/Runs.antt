@@ -81,6 +81,17 @@ unfolding ended_size
 ended_still [] ys e = ended_none ys e
 ended_still (x ∷ xs) ys e = rw (ended_still xs ys e) refl
 
+-- and more bytes take no line feed away
+grown_step : (v : Bool) (k m : ℕ) → k ≤ m → (if v || nat_lt 0 k then suc k else 0) ≤ (if v || nat_lt 0 m then suc m else 0)
+grown_step true k m e = omega (arith, e)
+grown_step false zero m e = omega arith
+grown_step false (suc k) m e = let t : nat_lt 0 m ≡ true = grind (arith, nat_tests, e) in let u : nat_lt 0 (suc k) ≡ true = grind (arith, nat_tests) in rw (t, u) (omega (arith, e))
+
+pub ended_grown : (xs ys : List ℕ) → ended_size xs ≤ ended_size (xs ++ ys)
+unfolding ended_size
+ended_grown [] ys = omega arith
+ended_grown (x ∷ xs) ys = grown_step (x == 10) (ended_size xs) (ended_size (xs ++ ys)) (ended_grown xs ys)
+
 -- nothing has no first elements
 pub take_none : {X : Type 0} (n : ℕ) → take {A = X} n [] ≡ []
 take_none zero = refl

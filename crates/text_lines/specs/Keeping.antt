@@ -6,6 +6,7 @@ use Rattle.cha_list.specs.declared.memory.NoMemory.{NoMemory}
 use Rattle.cha_list.specs.Bytes.{in_class}
 use Rattle.text_lines.specs.declared.lines.TextLine.{TextLine}
 use Rattle.text_lines.specs.declared.reading.Lines.{Lines}
+use Rattle.text_lines.specs.Reading.{TookNoMore}
 use Rattle.text_lines.specs.Holding.{IsHeld}
 
 -- the bytes that were taken of the source
@@ -14,6 +15,10 @@ taken_by s = s.text.before ++ s.text.piece.items
 
 abbrev pub IsHeldBy : Lines → Type 0
 IsHeldBy s = IsHeld s.text.before s.text.piece.items s.text.used s.text.scanned s.number s.given s.text.taken s.ended s.finished
+
+-- its last piece was taken when it was needed
+abbrev pub WaitsAt : Lines → Type 0
+WaitsAt s = (piece : List ℕ) × TookNoMore (taken_by s) piece s.given
 
 -- no line feed is left in the piece
 abbrev pub HasNoFeed : Lines → Type 0

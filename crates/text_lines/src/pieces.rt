@@ -124,6 +124,7 @@ impl OpenText {
         requires inside { (self.old.used ≤ self.old.scanned) × (self.old.scanned ≤ length self.old.piece.items) }
         requires few { self.old.taken ≤ MOST_BYTES }
         ensures bytes { Gathers (S.left source.old) (S.left source.new) (drop self.old.used self.old.piece.items) self.new.piece.items }
+        ensures few_more { length self.new.piece.items ≤ length (drop self.old.used self.old.piece.items) + 4096 }
         ensures before { self.new.before ≡ self.old.before ++ take self.old.used self.old.piece.items }
         ensures used { self.new.used ≡ 0 }
         ensures scanned { self.new.scanned + self.old.used ≡ self.old.scanned }

@@ -1,6 +1,6 @@
 //! The reader of lines.
 
-ghost use Rattle.std.specs.Prelude.{if◌then◌else◌, ◌≡◌, ◌+◌, ◌-◌, ◌<◌, ◌≤◌, ◌↔◌, [], true, false, length, take, drop, slice_get, is_err, is_some, OnOk, OnErr, IfOk, IfSome, IfNone};
+ghost use Rattle.std.specs.Prelude.{if◌then◌else◌, ◌≡◌, ◌+◌, ◌-◌, ◌<◌, ◌≤◌, ◌↔◌, ℕ, List, [], true, false, length, take, drop, slice_get, is_err, is_some, OnOk, OnErr, IfOk, IfSome, IfNone};
 ghost use Rattle.std.specs.declared.result.Result.TheVariants.{Ok, Err};
 ghost use Rattle.std.specs.declared.option.Option.TheVariants.{Some, None};
 ghost use Rattle.std.specs.List.{prefix_len};
@@ -10,7 +10,7 @@ ghost use Rattle.cha_list.specs.Bytes.{in_class};
 ghost use Rattle.cha_outside.specs.Faults.{Rose};
 ghost use Rattle.cha_outside.specs.Gathering.{Gathers};
 ghost use Rattle.text_lines.specs.Lines.{text_lines, settled_lines};
-ghost use Rattle.text_lines.specs.Reading.{gives_line};
+ghost use Rattle.text_lines.specs.Reading.{TookNoMore, gives_line};
 
 use crate::lines::{TextLine, without_return};
 use crate::pieces::{Filled, OpenText, line_of};
@@ -46,13 +46,13 @@ pub struct LineReader {
 impl Model for LineReader {
     ghost use Rattle.std.specs.Prelude.{◌≡◌, false};
     ghost use Rattle.text_lines.specs.Reading.{ReaderState};
-    ghost use Rattle.text_lines.specs.Keeping.{taken_by, IsHeldBy};
+    ghost use Rattle.text_lines.specs.Keeping.{taken_by, IsHeldBy, WaitsAt};
 
     ghost Value = { ReaderState };
 
     ghost view = { λ s. record { taken = taken_by s.lines; given = s.lines.given; ended = s.lines.ended; failed = s.failed } };
 
-    ghost invariant = { λ s. s.failed ≡ false → IsHeldBy s.lines };
+    ghost invariant = { λ s. s.failed ≡ false → IsHeldBy s.lines × WaitsAt s.lines };
 }
 
 /// How many lines were found: one or none.
@@ -66,7 +66,7 @@ fn one_if(found: &Option<TextLine>) -> usize
 }
 
 impl Lines {
-    ghost use Rattle.text_lines.specs.Keeping.{taken_by, IsHeldBy, found_one, HasNoFeed};
+    ghost use Rattle.text_lines.specs.Keeping.{taken_by, IsHeldBy, WaitsAt, found_one, HasNoFeed};
 
     /// Takes the line that a line feed at this place ends, and gives it unless it is blank.
     fn take_line(&mut self, alloc: Global, end: usize) -> Result<Option<TextLine>, NoMemory>
@@ -80,6 +80,7 @@ impl Lines {
         ensures used { OnOk result (self.old.text.used < self.new.text.used) }
         ensures given { self.new.given ≡ (if found_one result then self.old.given + 1 else self.old.given) }
         ensures line { IfOk result (λ found. IfSome found (λ line. slice_get (text_lines (taken_by self.old)) self.old.given ≡ Some line)) }
+        ensures settled { IfOk result (λ found. IfSome found (λ line. self.old.given < settled_lines (taken_by self.old))) }
     {
         let found = line_of(alloc, self.number, without_return(self.text.line(end)))?;
         self.text.used = end + 1;
@@ -97,6 +98,7 @@ impl Lines {
         ensures held { OnOk result (IsHeldBy self.new) }
         ensures given { self.new.given ≡ (if found_one result then self.old.given + 1 else self.old.given) }
         ensures line { IfOk result (λ found. IfSome found (λ line. slice_get (text_lines (taken_by self.old)) self.old.given ≡ Some line)) }
+        ensures settled { IfOk result (λ found. IfSome found (λ line. self.old.given < settled_lines (taken_by self.old))) }
         ensures none { result ≡ Ok None → HasNoFeed self.new }
     {
         loop {
@@ -142,6 +144,7 @@ impl Lines {
         ensures bytes { Gathers (S.left source.old) (S.left source.new) (taken_by self.old) (taken_by self.new) }
         ensures same { (self.new.given ≡ self.old.given) × (self.new.ended ≡ false) }
         ensures held { OnOk result (IsHeldBy self.new) }
+        ensures waits { WaitsAt self.new }
         ensures first { take self.old.given (text_lines (taken_by self.new)) ≡ take self.old.given (text_lines (taken_by self.old)) }
         ensures more { result ≡ Ok Filled.More → length (taken_by self.old) < length (taken_by self.new) }
         ensures end { result ≡ Ok Filled.End → IsAtEnd (S.left source.new) × HasNoFeed self.new }
@@ -159,9 +162,10 @@ impl Lines {
         alloc: Global,
         source: &mut S,
     ) -> Result<Option<TextLine>, ReadEnd>
-        requires { IsHeldBy self.old }
+        requires held { IsHeldBy self.old }
+        requires waits { WaitsAt self.old }
         ensures bytes { Gathers (S.left source.old) (S.left source.new) (taken_by self.old) (taken_by self.new) }
-        ensures held { OnOk result (IsHeldBy self.new) }
+        ensures held { OnOk result (IsHeldBy self.new × WaitsAt self.new) }
         ensures line { IfOk result (λ found. IfSome found (λ line. slice_get (text_lines (taken_by self.new)) self.old.given ≡ Some line)) }
         ensures given { self.new.given ≡ (if gives_line result then self.old.given + 1 else self.old.given) }
         ensures none { result ≡ Ok None → (self.new.ended ≡ true) × (length (text_lines (taken_by self.new)) ≤ self.old.given) }
@@ -170,6 +174,8 @@ impl Lines {
         ensures no_more_reads { self.old.ended ≡ true → (source.new ≡ source.old) × (self.new.ended ≡ true) }
         ensures end { self.old.ended ≡ false → self.new.ended ≡ true → IsAtEnd (S.left source.new) }
         ensures read_fault { result ≡ Err ReadEnd.ReadFault → Rose (S.faults source.old) (S.faults source.new) }
+        ensures before_end { self.new.ended ≡ false → IfOk result (λ found. IfSome found (λ line. self.old.given < settled_lines (taken_by self.new))) }
+        ensures no_more { self.new.ended ≡ false → IfOk result (λ found. IfSome found (λ line. (piece : List ℕ) × TookNoMore (taken_by self.new) piece self.old.given)) }
         ensures settled { result ≡ Err ReadEnd.ReadFault → settled_lines (taken_by self.new) ≤ self.old.given }
         ensures too_long { (result ≡ Err ReadEnd.TooLong) ↔ (MOST_BYTES < length (taken_by self.new)) }
         ensures few { length (taken_by self.new) ≤ MOST_BYTES + 4096 }
@@ -231,6 +237,8 @@ impl LineReader {
         ensures no_more_reads { self.old.ended ≡ true → (source.new ≡ source.old) × (self.new.ended ≡ true) }
         ensures end { self.old.ended ≡ false → self.new.ended ≡ true → IsAtEnd (S.left source.new) }
         ensures read_fault { result ≡ Err ReadEnd.ReadFault → Rose (S.faults source.old) (S.faults source.new) }
+        ensures before_end { self.new.ended ≡ false → IfOk result (λ found. IfSome found (λ line. self.old.given < settled_lines self.new.taken)) }
+        ensures no_more { self.new.ended ≡ false → IfOk result (λ found. IfSome found (λ line. (piece : List ℕ) × TookNoMore self.new.taken piece self.old.given)) }
         ensures settled { result ≡ Err ReadEnd.ReadFault → settled_lines self.new.taken ≤ self.old.given }
         ensures too_long { (result ≡ Err ReadEnd.TooLong) ↔ (MOST_BYTES < length self.new.taken) }
         ensures few { length self.new.taken ≤ MOST_BYTES + 4096 }

@@ -1,5 +1,5 @@
 use Rattle.std.proofs.Common.{length, ◌≡◌, None, is_some, ap}
-use Rattle.text_lines.proofs.Given.{held_last, found_last, none_last}
+use Rattle.text_lines.proofs.Kept.{held_last, found_last, none_last}
 use Rattle.text_lines.proofs.reading.Lines.take_last.Goals as goal
 
 pub returns-clause-held : goal.returns-clause-held

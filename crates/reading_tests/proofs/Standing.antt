@@ -7,10 +7,12 @@ use Rattle.pgn_games.proofs.InOrder.{placed_games_order}
 
 standing : (games : List PlacedGame) (n low size : ℕ) (game : PlacedGame) → slice_get games n ≡ Some game → AreInOrder low size games → (game.span.start ≤ game.span.end) × (game.span.end ≤ size)
 unfolding AreInOrder
-standing [] n low size game e h = absurd (cc (e))
-standing (g ∷ games) zero low size game e h = 
+standing [] n low size game e h = cc
+standing (g ∷ games) zero low size game e h =
     let same : g ≡ game = cc in
-    rw same.in-reverse (omega (arith, h.1), h.2.0)
+    let start = ap (λ (p : PlacedGame). p.span.start) same in
+    let end = ap (λ (p : PlacedGame). p.span.end) same in
+    (omega (arith, h.1, start, end), omega (arith, h.2, end))
 standing (g ∷ games) (suc n) low size game e h = standing games n g.span.end size game e h.3
 
 -- a game ends behind its first byte, and within its text

@@ -10,7 +10,8 @@ use std::alloc::Global;
 use std::test::Fail;
 
 /// Three games, the third at once behind the second, and bytes before, between and behind them.
-const TEXT: &str = "\n% before\n{a} 1. e4 e5 *\n\n; between\n[Result \"*\"]\n\n1. d4 *c4 c5 1/2-1/2\n\n{behind}\n";
+const TEXT: &str =
+    "\n% before\n{a} 1. e4 e5 *\n\n; between\n[Result \"*\"]\n\n1. d4 *c4 c5 1/2-1/2\n\n{behind}\n";
 
 /// The results that the games get, the text with all its bytes, and the games that change alone.
 type Row = ([Option<ResultMark>; 3], &'static str, &'static str);

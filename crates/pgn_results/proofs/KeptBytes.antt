@@ -8,10 +8,11 @@ use Rattle.pgn_games.specs.Games.{placed_games}
 use Rattle.pgn_games.specs.Order.{AreInOrder}
 use Rattle.pgn_games.specs.Settling.{settled_games}
 use Rattle.pgn_games.proofs.InOrder.{placed_games_order}
+use Rattle.pgn_games.proofs.KeptTokens.{nothing_more}
 use Rattle.pgn_games.proofs.Settled.{settled_grow}
 use Rattle.pgn_results.specs.declared.intake.Intake.{Intake}
 use Rattle.pgn_results.specs.Correcting.{between}
-use Rattle.pgn_results.specs.Keeping.{arrived, IsOpen}
+use Rattle.pgn_results.specs.Keeping.{arrived, IsOpen, Waits}
 use Rattle.pgn_results.proofs.GameByGame.{same_first}
 
 -- the games given are the same, whatever comes
@@ -64,8 +65,8 @@ settled_of i h = omega (arith, h.settled refl, ap settled_games (arrived_is i h)
 -- a piece was kept and handed on
 pub open_more : (i j : Intake) (piece : List ℕ) → IsOpen i false → (j.games.failed ≡ false) × (j.games.ended ≡ false) → j.piece.items ≡ []
     → arrived j ≡ i.games.taken ++ piece → j.games.given ≡ i.games.given → j.kept ≡ drop i.written i.kept ++ piece → (j.start ≡ i.start + i.written) × (j.written ≡ 0)
-    → i.start + (length i.kept + length piece) ≤ MOST_BYTES → IsOpen j false
-open_more i j piece h games handed_on now given kept start few =
+    → i.start + (length i.kept + length piece) ≤ MOST_BYTES → length piece ≤ 4096 → settled_games i.games.taken ≤ i.games.given → IsOpen j false
+open_more i j piece h games handed_on now given kept start few short needed =
     let taken : j.games.taken ≡ i.games.taken ++ piece = sym (ap (λ xs. j.games.taken ++ xs) handed_on ∙ append-nil j.games.taken) ∙ now in
     let size = ap length taken ∙ length-append i.games.taken piece in
     let lengths = length-append (drop i.written i.kept) piece in
@@ -77,6 +78,7 @@ open_more i j piece h games handed_on now given kept start few =
       size = omega (arith, size, h.size, h.some, start.0, ap length kept, lengths, length-drop i.written i.kept);
       some = omega (arith, start.1);
       settled = λ e. omega (arith, given, h.settled refl, settled_grow i.games.taken piece, ap settled_games taken);
+      waits = λ e. (piece, (i.games.taken, taken, short, omega (arith, needed, given)));
     }
 
 -- the first games are the same over two readings
@@ -84,3 +86,11 @@ pub first_on : (given games : ℕ) (now mid before : List ℕ) → games ≡ giv
     → take given (placed_games mid) ≡ take given (placed_games before) → take given (placed_games now) ≡ take given (placed_games before)
 first_on given games now mid before e second first =
     ap (λ n. take n (placed_games now)) (sym e) ∙ second ∙ ap (λ n. take n (placed_games mid)) e ∙ first
+
+-- the piece that came last was needed for the games that are given behind it too
+pub waits_on : (taken taken' : List ℕ) (given given' : ℕ) → Waits taken given → taken' ≡ taken → given ≤ given' → Waits taken' given'
+waits_on taken taken' given given' w e p = (w.0, (w.1.0, e ∙ w.1.1, w.1.2, omega (arith, w.1.3, p)))
+
+-- where nothing has come, no piece was taken
+pub nothing_waits : (taken : List ℕ) (given : ℕ) → taken ≡ [] → given ≡ 0 → Waits taken given
+nothing_waits taken given e f = rw (e, f) ([], nothing_more [] [] refl refl)

@@ -3,6 +3,7 @@ use Rattle.std.specs.Prelude.{◌≡◌, ℕ, ◌+◌, ◌≤◌, Bool, false, L
 use Rattle.cha_outside.specs.declared.gathering.TheConstants.{MOST_BYTES}
 use Rattle.pgn_games.specs.declared.marks.ResultMark.{ResultMark}
 use Rattle.pgn_games.specs.declared.played.Span.{Span}
+use Rattle.pgn_games.specs.Reading.{TookNoMore}
 use Rattle.pgn_games.specs.Settling.{settled_games}
 use Rattle.pgn_results.specs.declared.intake.Intake.{Intake}
 use Rattle.pgn_results.specs.Correcting.{between}
@@ -21,8 +22,13 @@ pub record KeptState : Type 0 where
 abbrev pub arrived : Intake → List ℕ
 arrived i = i.games.taken ++ i.piece.items
 
+-- the last piece was taken when it was needed for one game more
+abbrev pub Waits : List ℕ → ℕ → Type 0
+Waits taken given = (piece : List ℕ) × TookNoMore taken piece given
+
 -- No call failed: the splitter has taken all bytes, and is open as long as the source is; the bytes that are kept are the last ones of
--- them, as many as were not written at least; and the games given are settled, as long as the source has not ended.
+-- them, as many as were not written at least; and as long as the source has not ended, the games given are settled, and the last piece
+-- was taken when it was needed.
 pub record IsOpen (i : Intake) (ended : Bool) : Type 0 where
   pub handed_on : i.piece.items ≡ []
   pub games : (i.games.failed ≡ false) × (i.games.ended ≡ ended)
@@ -31,6 +37,7 @@ pub record IsOpen (i : Intake) (ended : Bool) : Type 0 where
   pub size : i.start + length i.kept ≡ length i.games.taken
   pub some : i.written ≤ length i.kept
   pub settled : ended ≡ false → i.games.given ≤ settled_games i.games.taken
+  pub waits : ended ≡ false → Waits i.games.taken i.games.given
 
 -- the same, as long as no call failed
 abbrev pub IsKept : Intake → Bool → Bool → Type 0

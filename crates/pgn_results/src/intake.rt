@@ -6,6 +6,7 @@ ghost use Rattle.std.specs.Io.KnownBytes.{IsAtEnd};
 ghost use Rattle.cha_outside.specs.Faults.{Rose};
 ghost use Rattle.cha_outside.specs.Gathering.{Gathers};
 ghost use Rattle.pgn_games.specs.Games.{placed_games};
+ghost use Rattle.pgn_games.specs.Settling.{settled_games};
 ghost use Rattle.pgn_results.specs.Correcting.{between};
 ghost use Rattle.pgn_results.specs.Keeping.{IsOpen, arrived};
 
@@ -31,10 +32,12 @@ pub struct Intake {
 }
 
 impl Intake {
-    /// Reads the next piece of a source and hands it on, or finds that the source has ended. After an error no call may follow.
+    /// Reads the next piece of a source and hands it on, or finds that the source has ended. No game that is
+    /// settled may be left to give. After an error no call may follow.
     pub fn refill<S: Source>(&mut self, source: &mut S) -> Result<Filled, ReadEnd>
         requires open { IsOpen self.old false }
         requires spent { self.old.games.spent ≡ true }
+        requires needed { settled_games self.old.games.taken ≤ self.old.games.given }
         ensures bytes { Gathers (S.left source.old) (S.left source.new) (arrived self.old) (arrived self.new) }
         ensures written { self.new.start + self.new.written ≡ self.old.start + self.old.written }
         ensures given { self.new.games.given ≡ self.old.games.given }

@@ -1,13 +1,13 @@
 //! A reader of games that keeps the bytes of their text until they are written.
 
-ghost use Rattle.std.specs.Prelude.{if◌then◌else◌, ◌≡◌, ◌+◌, ◌-◌, ◌^◌, ◌<◌, ◌≤◌, ◌↔◌, ◌++◌, [], true, false, length, take, drop, slice_get, is_err, Option, OnErr, OnOk, IfOk, IfSome, IfNone};
+ghost use Rattle.std.specs.Prelude.{if◌then◌else◌, ◌≡◌, ◌+◌, ◌-◌, ◌^◌, ◌<◌, ◌≤◌, ◌↔◌, ◌++◌, ℕ, List, [], true, false, length, take, drop, slice_get, is_err, Option, OnErr, OnOk, IfOk, IfSome, IfNone};
 ghost use Rattle.std.specs.declared.result.Result.TheVariants.{Ok, Err};
 ghost use Rattle.std.specs.declared.option.Option.TheVariants.{Some, None};
 ghost use Rattle.std.specs.Io.KnownBytes.{IsAtEnd};
 ghost use Rattle.cha_outside.specs.Faults.{Rose};
 ghost use Rattle.cha_outside.specs.Gathering.{Gathers};
 ghost use Rattle.pgn_games.specs.Games.{placed_games, is_closed as is_closed_text};
-ghost use Rattle.pgn_games.specs.Reading.{gives_game};
+ghost use Rattle.pgn_games.specs.Reading.{TookNoMore, gives_game};
 ghost use Rattle.pgn_games.specs.Settling.{settled_games};
 ghost use Rattle.pgn_games.specs.declared.played.PlacedGame.{PlacedGame as GamePlaced};
 ghost use Rattle.pgn_games.specs.declared.marks.ResultMark.{ResultMark as Mark};
@@ -85,6 +85,7 @@ impl KeptReader {
         ensures none { result ≡ Ok None → (self.new.ended ≡ true) × (length (placed_games self.new.taken) ≤ self.old.given) }
         ensures first { take self.old.given (placed_games self.new.taken) ≡ take self.old.given (placed_games self.old.taken) }
         ensures before_end { self.new.ended ≡ false → IfOk result (λ found. IfSome found (λ game. self.old.given < settled_games self.new.taken)) }
+        ensures no_more { self.new.ended ≡ false → IfOk result (λ found. IfSome found (λ game. (piece : List ℕ) × TookNoMore self.new.taken piece self.old.given)) }
         ensures still { self.old.ended ≡ true → (self.new.taken ≡ self.old.taken) × (self.new.ended ≡ true) }
         ensures no_more_reads { self.old.ended ≡ true → source.new ≡ source.old }
         ensures end { self.old.ended ≡ false → self.new.ended ≡ true → IsAtEnd (S.left source.new) }

@@ -1,5 +1,7 @@
 //! Games that get another result.
 
+mod kept;
+
 use cha_list::Text;
 use pgn_games::ResultMark;
 use pgn_results::put_with_mark;

@@ -18,4 +18,4 @@ returns-in-Err-hand_on-clause-first g c =
 pub returns-in-Ok-hand_on-clause-more : goal.returns-in-Ok-hand_on-clause-more
 returns-in-Ok-hand_on-clause-more g c = λ e.
     let h = c.in-Ok-hand_on.ensures in
-    open_more c.args.self.now c.hand_on.new.self c.fill.new.piece.items c.requires.open h.games h.handed_on h.arrived h.given h.kept h.start (omega (arith, c.if-taken.false, c.taken.ensures))
+    open_more c.args.self.now c.hand_on.new.self c.fill.new.piece.items c.requires.open h.games h.handed_on h.arrived h.given h.kept h.start (omega (arith, c.if-taken.false, c.taken.ensures)) c.fill.ensures.few c.requires.needed

@@ -1,9 +1,9 @@
-use Rattle.std.proofs.Common.{rules, ◌≡◌, ◌++◌, ℕ, List, Ok, Some, true≢false, sym, ap, subst, ◌∙◌, arith, length, take, slice_get, length-append, IfSome}
+use Rattle.std.proofs.Common.{rules, ◌≡◌, ◌++◌, ℕ, List, Ok, Some, true≢false, sym, ap, subst, ◌∙◌, arith, length, take, slice_get, length-append, append-nil, IfSome}
 use Rattle.cha_outside.proofs.Gathered.{gathers_more}
 use Rattle.pgn_games.specs.declared.played.PlacedGame.{PlacedGame}
 use Rattle.pgn_games.specs.Games.{placed_games}
 use Rattle.pgn_results.specs.Keeping.{arrived, IsOpen}
-use Rattle.pgn_results.proofs.KeptBytes.{games_few, first_on}
+use Rattle.pgn_results.proofs.KeptBytes.{games_few, first_on, waits_on}
 use Rattle.pgn_results.proofs.kept.KeptReader.next.Invariants.{end_left}
 use Rattle.pgn_results.proofs.kept.KeptReader.next.Goals as goal
 
@@ -66,3 +66,10 @@ returns-in-Err-clause-bytes g c =
     let inv = c.loop-found.invariant in
     let h = c.refill.ensures in
     gathers_more _ _ _ _ _ _ h.bytes.0 inv.bytes h.bytes.1 (h.bytes.2 ∙ ap (λ (x : List ℕ). (x ++ c.loop-found.self-inside.intake.piece.items) ++ h.bytes.0) c.next.ensures.same.0)
+
+pub returns-in-Some-clause-no_more : goal.returns-in-Some-clause-no_more
+returns-in-Some-clause-no_more g c = λ e.
+    let inv = c.loop-found.invariant in
+    let same = c.next.ensures.same in
+    let w = inv.is_open.waits e in
+    waits_on _ _ _ _ w (ap (λ (xs : List ℕ). c.next.new.self.taken ++ xs) inv.is_open.handed_on ∙ append-nil c.next.new.self.taken ∙ same.0) (omega (arith, inv.given))

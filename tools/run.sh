@@ -1,6 +1,6 @@
 #!/usr/bin/env bash
 # Judges the sample: by the proved ./cha where it is there and no source is newer, else by a build that is compiled and not proved,
-# with a check at run time of each index, sum and unwrap. Standard output has the block alone, as ./cha writes it.
+# with a check at run time of each index, sum and unwrap. Standard output is that of ./cha; standard error has a few lines more.
 #
 #     tools/run.sh [WORD ..] < INPUT        by default: adjudicate < docs/sample.pgn
 set -u
@@ -34,7 +34,10 @@ if [ -n "$ticks" ]; then
     printf '\r        \r' >&2
 fi
 cat "$room/out"
-if ! grep -q '^run=ended' "$room/err"; then
+# what the program said, without the last lines, in which the kit tells how the run ended
+if grep -q '^run=ended' "$room/err"; then
+    grep -v -e '^checked: ' -e '^races: ' -e '^run=ended' "$room/err" >&2
+else
     cat "$room/err" >&2
     exit 2
 fi

@@ -254,9 +254,11 @@ module _ (q : Question) (changed : Bool) (asked : IsAskedOf GameItems q) (old no
       let j = judged_more q taken given (given + 1) written game.span.end s at.os o game at.judged found answers refl refl in
       let more : HasFirst (on_kept_games q) taken (at.os ++ o ∷ []) =
       (drop (given + 1) (kept_items taken), sym (take-append-drop (given + 1) (kept_items taken)) ∙ ap (λ x. x ++ drop (given + 1) (kept_items taken)) j.first, j.sound) in
-      let out : Grew old next (λ x. IsFront x (corrected_front changed taken (at.os ++ o ∷ []))) =
-      (front ++ take n text, Appends-trans old now next front (take n text) at.text added,
-        (drop n text, front_next q changed taken given written s at.os o game text at.judged found text_is ∙ ap (λ x. front ++ x) (sym (take-append-drop n text)) ∙ sym (append_assoc front (take n text) (drop n text)))) in
+      let out : Grew old next (λ x. IsFront x (corrected_front changed taken (at.os ++ o ∷ []))) = (
+        front ++ take n text,
+        Appends-trans old now next front (take n text) at.text added,
+        (drop n text, front_next q changed taken given written s at.os o game text at.judged found text_is ∙ ap (λ x. front ++ x) (sym (take-append-drop n text)) ∙ sym (append_assoc front (take n text) (drop n text))),
+      ) in
       short WriteFault next g' notes (taken, consumed, (at.os ++ o ∷ [], inl (more, out, refl))) (λ h. cc) (λ _. inl rose) (λ h. cc) few later (omega arith)
 
   -- all games were judged, and the rest and the summary were written or not

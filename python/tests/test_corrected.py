@@ -104,7 +104,7 @@ def test_what_was_kept_is_what_adjudicate_says(made: Path) -> None:
 
 def test_killed_at_random_moments(files: List[Path], tmp_path: Path) -> None:
     chance = random.Random("corrected")
-    order: List[Any] = [*files, files[0], "--piece", 4000, "--threads", 2, "--corrected"]
+    order: List[Any] = [*files * 5, files[0], "--piece", 4000, "--threads", 2, "--corrected"]
     run([*order, tmp_path / "whole.pgn"])
     resumed = [*order, tmp_path / "part.pgn", "--quiet", "--resume"]
     moments = [killed(resumed, tmp_path / "part.pgn.state", chance) for _ in range(10)]

@@ -47,6 +47,12 @@ def test_the_two_places_of_a_game() -> None:
     assert cha.corrected(b"f3 e5 g4 Qh4*1. e4 *") == b"f3 e5 g4 Qh4 0-1 1. e4 *"
 
 
+def test_bytes_that_are_no_text_in_utf_8_stay() -> None:
+    data = '[White "M\u00fcller"]\r\n[Result "1-0"]\r\n\r\n1. f3 {sch\u00f6n} e5 2. g4 Qh4# 1-0\r\n'.encode("latin-1")
+    assert b"M\xfcller" in data
+    assert cha.corrected(data) == data.replace(b'"1-0"', b'"0-1"').replace(b"# 1-0", b"# 0-1")
+
+
 def test_only_the_games_that_change() -> None:
     data = b"; notes\n1. e4 *\n" + _MATE + b" {behind} 1. e4 ) *"
     assert cha.corrected(data, changed=True) == _MENDED + b"\n\n"

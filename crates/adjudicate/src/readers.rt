@@ -62,7 +62,7 @@ impl ItemReader {
         }
     }
 
-    /// Whether the text that was taken is closed, once all of it was. Lines always are.
+    /// Whether the text is closed, once its source has ended; a text of lines always is.
     pub fn is_closed(&self) -> bool
         ensures { has_ended self.now ≡ true → result ≡ closed_by (kind_of self.now) (taken_by self.now) }
     {

@@ -42,7 +42,7 @@ fn value(digit: u8) -> u64
     }
 }
 
-/// The number of digits to a base, sixteen at most. Bytes that are no digits stand for some number or other.
+/// The value of up to 16 digits in a base up to 16. It does not check that the bytes are digits.
 #[tactic(auto, unfolding(crate::specs::Digits::value_of))]
 pub fn number(base: u64, digits: &[u8]) -> u64
     requires base { base ≤ 16 }

@@ -44,7 +44,7 @@ impl Kept {
         }
     }
 
-    /// That the position is valid.
+    /// Proves to the caller that the position is valid.
     pub fn known(&self)
         ensures { IsValid self.now }
     {

@@ -79,7 +79,7 @@ impl Position {
         &self.men
     }
 
-    /// That the position is valid.
+    /// Proves to the caller that the position is valid.
     pub fn known(&self)
         ensures { IsValid self.now }
     {

@@ -79,7 +79,7 @@ impl Index {
         let _places = &self.places;
     }
 
-    /// A position as words against those of one place. It is one step, and takes no memory.
+    /// Compares a packed position with the one at a place of the index, and counts one step. It takes no memory.
     pub fn compare<L: Ledger>(&self, place: u32, key: &Packed, steps: &mut Steps<L>) -> Ordering
         requires { place < length self.now }
         ensures value { HoldsAt (λ there. result ≡ slice_cmp nat_cmp key.now.words there.packed.words) self.now place }

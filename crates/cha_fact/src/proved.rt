@@ -34,7 +34,7 @@ impl Model for Proved {
 }
 
 impl Proved {
-    /// What a line shows that mates for a side.
+    /// The fact that this line of legal moves mates for a side.
     pub fn mate(position: &Position, winner: Color, line: Line) -> Proved
         requires { IsMatingLine position.now winner line }
         ensures { result ≡ record { position = position.now; winner = winner; fact = Fact.Mate line } }

@@ -23,7 +23,7 @@ impl<L: Ledger> Model for Steps<L> {
 }
 
 impl<L: Ledger> Steps<L> {
-    /// The count that a book has come to.
+    /// A count of steps that goes on from the total of this book.
     pub fn opened(book: Book<L>, share: Share<L>) -> Self
         requires { 0 < share.parts }
         ensures { result ≡ book.total }

@@ -112,7 +112,7 @@ pub fn promotes(side: Color, kind: Kind, to: Square) -> bool
     kind.is(Kind::Pawn) && to.rank() == promotion_rank(side)
 }
 
-/// Whether a man that arrives on a square becomes what it has to.
+/// Whether the promotion fits: a piece is named where a pawn reaches its last rank, and none elsewhere.
 #[tactic(auto, unfolding(crate::specs::Moves::promotes_well))]
 pub fn promotes_well(side: Color, kind: Kind, to: Square, promotion: Option<Kind>) -> bool
     ensures { result ≡ promotes_well_on side kind to promotion }

@@ -46,8 +46,8 @@ fn is_legal_way(position: &Position, man: Man, from: Square, to: Square) -> bool
     }
 }
 
-/// Whether some move is legal from one square to another to which the man there may go. A king asks only whether its new
-/// square is attacked over the men without it, and that is known where it castles.
+/// Whether the man, which may go from one square to the other, goes legally. A king's step asks only whether its new square is
+/// attacked once the king has left the old one, and for castling that is known.
 pub fn goes_well(position: &Position, less: &Men, man: Man, from: Square, to: Square) -> bool
     requires man { man_at position.now.men from ≡ Some man }
     requires way { IsTrue (is_way position.now from to) }

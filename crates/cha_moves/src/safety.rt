@@ -23,7 +23,7 @@ fn men_kept(position: &Position, m: Move) -> Men
     men_made(position, m)
 }
 
-/// Whether a move is legal that may be made but for what its king suffers.
+/// Whether a pseudo-legal move leaves its own king unattacked, so that it is legal.
 #[tactic(auto, unfolding(crate::specs::Moves::is_legal_in))]
 pub fn stays_safe(position: &Position, m: Move) -> bool
     requires { IsTrue (is_pseudo_legal position.now m) }

@@ -40,7 +40,7 @@ pub fn aimers(position: &Position, by: Color, at: Square) -> SquareSet
         .joined(aimers_of(position, by, Kind::Queen, at))
 }
 
-/// The set, if it has no second square, and otherwise the set of no square.
+/// The set itself where it has at most one square; otherwise the empty set.
 pub fn lone(set: SquareSet) -> SquareSet
     ensures { (s : ℕ) → has_square set s ≡ true → ((y : ℕ) → y < 64 → has_square set y ≡ true → y ≡ s) → has_square result s ≡ true }
 {

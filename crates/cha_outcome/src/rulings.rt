@@ -269,8 +269,8 @@ fn was_dead(game: &PlayedGame, scan: &Option<Scan>) -> bool
     }
 }
 
-/// The result of a game whose final position stands so and of whose end its text says this, by the verdicts on that position and from
-/// where on the game was dead, if it was.
+/// The ruling on a game, by how its final position stands, the end that its text claims, the verdicts, and from where on it was dead,
+/// if it was.
 pub fn judgment_of(
     game: &PlayedGame,
     claim: Claim,

@@ -18,7 +18,7 @@ pub enum Found {
 }
 
 impl Found {
-    /// The same once another move is found.
+    /// What is found after one more fitting move: the first is kept; with a second there are several.
     pub fn and(self, m: &Move) -> Found
         ensures { result ≡ with_one self m.now }
     {

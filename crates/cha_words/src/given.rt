@@ -217,7 +217,7 @@ fn with_name(command: Command, given: Given, setting: Setting) -> Option<Progres
     }
 }
 
-/// Takes one word, or None where the command has it not there.
+/// Reads the next command word; None where it may not stand there.
 pub fn with_word(command: Command, progress: Progress, word: &str) -> Option<Progress>
     requires { Stands command progress }
     ensures { TakesWord command progress word.now result }

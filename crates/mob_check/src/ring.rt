@@ -30,7 +30,8 @@ pub fn fills(ring: &Ring, left: SquareSet) -> bool
     left.within(ring.blockers) && left.len() <= ring.men
 }
 
-/// What keeps a king in while the winner's only man, as a kind on a square, gives check.
+/// What holds the loser's king while the winner's only man, of this kind and on this square, gives check: the squares that are
+/// attacked, those that the loser's own men may fill without ending the check, and how many men there are.
 #[tactic(auto, unfolding(crate::specs::MatesInReach::ring_of_one))]
 pub fn ring_of(
     scene: &Scene,

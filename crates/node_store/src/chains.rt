@@ -56,7 +56,7 @@ impl Chains {
         }
     }
 
-    /// That there are 64 lists of names that exist, and the names of each fall.
+    /// Proves to the caller that there are 64 lists of names that exist, and that the names of each fall.
     pub fn known(&self)
         ensures { AreChained self.now.lists self.now.slots }
     {

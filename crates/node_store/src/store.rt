@@ -64,7 +64,7 @@ impl Store {
         Ok(Store { nodes, waiting })
     }
 
-    /// What holds of every store: positions are distinct and valid, each node but the root comes from an earlier one by a
+    /// Proves to the caller what holds of every store: positions are distinct and valid, each node but the root comes from an earlier one by a
     /// legal move, each waiting name is a node that is no leaf, and waits once.
     pub fn known(&self)
         ensures { IsStore self.now.nodes self.now.waiting }

@@ -84,7 +84,7 @@ pub fn deeper(depth: usize, token: &Token) -> usize
     }
 }
 
-/// What a token does at a place.
+/// What a token does to the game being read: it goes on, ends, or the next one begins.
 #[tactic(auto, unfolding(crate::specs::Cutting::turn))]
 pub fn turned(place: Place, token: &Token) -> Turn
     requires { open_at place < 2 ^ 64 - 1 }
@@ -117,7 +117,7 @@ fn turned_to(turn: Turn) -> Place
     }
 }
 
-/// The place behind tokens.
+/// The place in a game that these tokens lead to from a given place.
 pub fn led_to(place: Place, tokens: &[Placed]) -> Place
     requires { open_at place + length tokens.now < 2 ^ 64 - 1 }
     ensures { result ≡ place_behind place tokens.now }

@@ -118,7 +118,7 @@ impl KeptReader {
         }
     }
 
-    /// The bytes that have come and were not written: once all games are written, what stands behind them.
+    /// The bytes that were read and not yet written; after the last game, those behind it.
     pub fn unwritten(&self) -> &[u8]
         requires { self.now.failed ≡ false }
         ensures { result.now ≡ rest_of self.now.written self.now.taken }

@@ -26,7 +26,7 @@ pub(crate) fn probe(cache: &mut LruCache<Key, Proved>, key: &Key) -> Probe
     }
 }
 
-/// Gives a row to keep. Where there is no memory for a new key nothing changes, and the row comes back.
+/// Stores a row. Where there is no memory for a new key nothing changes, and the row comes back.
 pub(crate) fn store(cache: &mut LruCache<Key, Proved>, row: Proved) -> Result<Stored, Proved>
     requires { AreKeyed cache.old.entries }
     ensures keyed { AreKeyed cache.new.entries }

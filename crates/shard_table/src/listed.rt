@@ -73,7 +73,7 @@ fn store_new(rows: &mut Vec<Proved>, entries: u32, row: Proved) -> Stored
     Stored::Evicted(last.key())
 }
 
-/// Gives a row to keep.
+/// Stores a row.
 pub(crate) fn store(rows: &mut Vec<Proved>, entries: u32, row: Proved) -> Stored
     requires some { 0 < entries }
     requires few { length rows.old.items ≤ entries }

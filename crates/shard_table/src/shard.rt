@@ -68,8 +68,8 @@ impl Shard {
         listed::probe(&mut self.listed, key)
     }
 
-    /// Gives a row to keep: a key that is not there gets it, and one that is there gets it where it says more. It is never
-    /// dropped, also where memory is refused.
+    /// Stores a row. One under the same key is replaced only by a row that says more. It is never dropped, even where memory is
+    /// refused.
     pub fn store(&mut self, row: Proved) -> Stored
         ensures reply { Stores self.old.entries row self.old.rows result self.new.rows }
         ensures kept { result ≢ Stored.Dropped }

@@ -16,7 +16,7 @@ pub struct TableFacts<'a, R: Wait> {
 }
 
 impl<'a, R: Wait> TableFacts<'a, R> {
-    /// Calls are made with this pass, which has them once the place is gone.
+    /// A place of facts whose calls are turns of this pass; the pass keeps them in its history.
     pub fn new(rt: &'a R, table: &'a Table, pass: &'a mut TablePass) -> TableFacts<'a, R>
         ensures same_pass { result.pass.ghost_name ≡ pass.entry.ghost_name }
         ensures state { result.pass.now ≡ pass.old }

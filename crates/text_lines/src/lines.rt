@@ -14,7 +14,7 @@ pub struct TextLine {
     pub text: Text,
 }
 
-/// A line without one carriage return at its end.
+/// The line with one carriage return at its end taken off, if there is one.
 pub fn without_return(line: &[u8]) -> &[u8]
     ensures { result.now ≡ without_return_of line.now }
 {

@@ -9,7 +9,7 @@ ghost use Rattle.pgn_games.specs.Games.{placed_games, placed_game_of, is_closed}
 ghost use Rattle.pgn_games.specs.Settling.{settled_games};
 ghost use Rattle.pgn_games.specs.Reading.{Takes};
 
-use crate::filling::{Filled, fill};
+use crate::filling::{Filled, MOST_TAKEN, fill};
 use crate::gathering::{Standing, gather, gather_any};
 use crate::played::PlacedGame;
 use crate::summary::Summary;
@@ -104,14 +104,14 @@ impl Cutter {
         }
     }
 
-    /// Takes the next piece of the source, where the last one is used up.
-    fn refill<S: Source>(&mut self, source: &mut S) -> Result<Filled, ReadEnd>
+    /// Takes the next piece of the source, which is read into the room, where the last one is used up.
+    fn refill<S: Source>(&mut self, room: &mut Vec<u8>, source: &mut S) -> Result<Filled, ReadEnd>
         requires open { IsOpenAt self.old }
         requires used_up { self.old.used ≡ length self.old.piece.items }
         ensures bytes { Takes (S.left source.old) (S.left source.new) (taken_by self.old) (taken_by self.new) }
         ensures same { (self.new.given ≡ self.old.given) × (self.new.lexer ≡ self.old.lexer) × (self.new.game ≡ self.old.game) × (self.new.behind ≡ self.old.behind) × (self.new.place ≡ self.old.place) }
         ensures open { OnOk result (IsOpenAt self.new) }
-        ensures piece { (taken_by self.new ≡ taken_by self.old ++ self.new.piece.items) × (length self.new.piece.items ≤ 4096) }
+        ensures piece { (taken_by self.new ≡ taken_by self.old ++ self.new.piece.items) × (length self.new.piece.items ≤ 65536) }
         ensures more { result ≡ Ok Filled.More → length (taken_by self.old) < length (taken_by self.new) }
         ensures end { result ≡ Ok Filled.End → IsAtEnd (S.left source.new) × (self.new.piece.items ≡ []) }
         ensures fault { result ≡ Err ReadEnd.ReadFault → Rose (S.faults source.old) (S.faults source.new) × (self.new.piece.items ≡ []) }
@@ -120,7 +120,7 @@ impl Cutter {
         ensures later { S.faults source.old ≤ S.faults source.new }
     {
         self.used = 0;
-        let filled = match fill(&mut self.piece, source) {
+        let filled = match fill(&mut self.piece, room, source, MOST_TAKEN - self.taken) {
             Ok(filled) => filled,
             Err(end) => return Err(end),
         };
@@ -181,7 +181,11 @@ impl Cutter {
     }
 
     /// Reads on until the game is whole, or to the end of the source. No piece is read before the last one is used up.
-    pub fn advance<S: Source>(&mut self, source: &mut S) -> Result<Advanced, ReadEnd>
+    pub fn advance<S: Source>(
+        &mut self,
+        room: &mut Vec<u8>,
+        source: &mut S,
+    ) -> Result<Advanced, ReadEnd>
         requires open { IsOpenAt self.old }
         requires scanned { IsScannedAt self.old }
         requires waits { WaitsAt self.old }
@@ -203,7 +207,7 @@ impl Cutter {
                 Ok(Standing::Open) => {}
                 Err(_) => return Err(ReadEnd::NoMemory),
             }
-            match self.refill(source) {
+            match self.refill(room, source) {
                 Ok(Filled::More) => {}
                 Ok(Filled::End) => {
                     return match self.take_end() {

@@ -5,10 +5,13 @@ ghost use Rattle.std.specs.declared.result.Result.TheVariants.{Ok, Err};
 ghost use Rattle.std.specs.Io.KnownBytes.{Consumes, IsAtEnd};
 ghost use Rattle.cha_outside.specs.Faults.{Rose};
 
-use cha_outside::{Got, ReadEnd, Source};
+use cha_outside::{Got, MOST_BYTES, ReadEnd, Source};
 
-/// How many bytes one read asks for.
-const PIECE: usize = 4096;
+/// How many bytes one read asks for, where so many may still be taken.
+const PIECE: usize = 65_536;
+
+/// The most bytes that are taken of a source: 4,096 more than a text may have, by which it is seen to be too long.
+pub const MOST_TAKEN: usize = MOST_BYTES + 4096;
 
 /// What one read gave.
 #[derive(Clone, Copy, Debug, PartialEq, Eq)]
@@ -19,10 +22,18 @@ pub enum Filled {
     End,
 }
 
-/// Reads the next piece of a source, in place of the last one.
-pub fn fill<S: Source>(piece: &mut Vec<u8>, source: &mut S) -> Result<Filled, ReadEnd>
+/// Reads the next piece of a source, in place of the last one. It asks for `most` bytes, and for no more than 65,536. The room is
+/// what is read into; it grows once, and serves again.
+pub fn fill<S: Source>(
+    piece: &mut Vec<u8>,
+    room: &mut Vec<u8>,
+    source: &mut S,
+    most: usize,
+) -> Result<Filled, ReadEnd>
+    requires { 0 < most }
     ensures bytes { Consumes (S.left source.old) (S.left source.new) piece.new.items }
-    ensures few { length piece.new.items ≤ 4096 }
+    ensures few { length piece.new.items ≤ 65536 }
+    ensures within { length piece.new.items ≤ most }
     ensures more { result ≡ Ok Filled.More → 0 < length piece.new.items }
     ensures end { result ≡ Ok Filled.End → IsAtEnd (S.left source.new) × (piece.new.items ≡ []) }
     ensures err { OnErr result (piece.new.items ≡ []) }
@@ -31,13 +42,13 @@ pub fn fill<S: Source>(piece: &mut Vec<u8>, source: &mut S) -> Result<Filled, Re
     ensures later { S.faults source.old ≤ S.faults source.new }
 {
     piece.clear();
-    let Ok(()) = piece.try_reserve(PIECE) else {
+    let size = most.min(PIECE);
+    let (Ok(()), Ok(())) = (room.resize(size, 0), piece.try_reserve(size)) else {
         return Err(ReadEnd::NoMemory);
     };
-    let mut buffer = [0u8; PIECE];
-    match source.read(&mut buffer) {
+    match source.read(room.as_mut_slice()) {
         Got::Bytes(n) => {
-            let Ok(()) = piece.extend_from_slice(&buffer[..n]) else {
+            let Ok(()) = piece.extend_from_slice(&room[..n]) else {
                 unreachable!()
             };
             Ok(Filled::More)

@@ -28,7 +28,7 @@ mod whole;
 
 pub use cha_outside::ReadEnd;
 pub use faults::GameFault;
-pub use filling::{Filled, fill};
+pub use filling::{Filled, MOST_TAKEN, fill};
 pub use joining::closed_texts_join;
 pub use marks::ResultMark;
 pub use opening::games_begin_at_the_opening;

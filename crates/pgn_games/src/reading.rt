@@ -9,9 +9,11 @@ ghost use Rattle.cha_outside.specs.Faults.{Rose};
 ghost use Rattle.cha_fen.specs.Written.{fen_text};
 ghost use Rattle.pgn_games.specs.Games.{opening, placed_games, is_closed as is_closed_text};
 ghost use Rattle.pgn_games.specs.Settling.{settled_games};
+ghost use Rattle.pgn_games.specs.Keeping.{found_one};
 ghost use Rattle.pgn_games.specs.Reading.{Takes, TookNoMore, gives_game};
 
 use crate::cutter::{Advanced, Cutter};
+use crate::gathering::Standing;
 use crate::opening::games_begin_at_the_opening;
 use crate::played::PlacedGame;
 use cha_list::NoMemory;
@@ -25,6 +27,7 @@ use std::marker::Model;
 pub struct Reader {
     alloc: Global,
     cutter: Cutter,
+    room: Vec<u8>,
     ended: bool,
     failed: bool,
 }
@@ -50,6 +53,7 @@ impl Reader {
         Ok(Reader {
             alloc,
             cutter,
+            room: Vec::new(alloc),
             ended: false,
             failed: false,
         })
@@ -71,11 +75,11 @@ impl Reader {
 
     /// The next game of a source, or None where the source has ended and all its games were given.
     ///
-    /// A game whose tags tell no other position begins at the opening. It reads no further piece than the game needs: a game is given once the byte behind its last token was taken. The games
-    /// given are the first games of the bytes taken, in order. `ReadFault` comes only where the source failed in this call, and
-    /// each game that is settled in the bytes taken was given before; `TooLong` comes where the source gave more than 268,435,456
-    /// bytes (at most 4,096 more are taken), and `NoMemory` where the allocator refused memory. The time of all calls together
-    /// grows as the number of bytes.
+    /// A game whose tags tell no other position begins at the opening. It reads no further piece, of at most 65,536 bytes, than the
+    /// game needs: a game is given once the byte behind its last token was taken. The games given are the first games of the bytes
+    /// taken, in order. `ReadFault` comes only where the source failed in this call, and each game that is settled in the bytes taken
+    /// was given before; `TooLong` comes where the source gave more than 268,435,456 bytes (at most 4,096 more are taken), and
+    /// `NoMemory` where the allocator refused memory. The time of all calls together grows as the number of bytes.
     pub fn next<S: Source>(&mut self, source: &mut S) -> Result<Option<PlacedGame>, ReadEnd>
         requires { self.old.failed ≡ false }
         ensures bytes { Takes (S.left source.old) (S.left source.new) self.old.taken self.new.taken }
@@ -98,7 +102,7 @@ impl Reader {
     {
         games_begin_at_the_opening();
         if !self.ended {
-            match self.cutter.advance(source) {
+            match self.cutter.advance(&mut self.room, source) {
                 Ok(Advanced::Whole) => return Ok(Some(self.cutter.give(self.alloc))),
                 Ok(Advanced::Ended) => self.ended = true,
                 Err(end) => {
@@ -112,6 +116,36 @@ impl Reader {
             Err(_) => {
                 self.failed = true;
                 Err(ReadEnd::NoMemory)
+            }
+        }
+    }
+
+    /// The next game that is whole in what was taken, or None where there is none. It reads nothing.
+    ///
+    /// A game is whole once the byte behind its last token was taken; such a game is settled, and None comes where each settled game
+    /// was given. What is left once the source has ended is for `next` alone: from then on None comes here. The games given by both
+    /// calls are the first games of the bytes taken, in order. The only error is want of memory; no call may follow it.
+    pub fn ready(&mut self) -> Result<Option<PlacedGame>, NoMemory>
+        requires { self.old.failed ≡ false }
+        ensures same { (self.new.taken ≡ self.old.taken) × (self.new.ended ≡ self.old.ended) }
+        ensures game { IfOk result (λ found. IfSome found (λ game. slice_get (placed_games self.new.taken) self.old.given ≡ Some game)) }
+        ensures given { self.new.given ≡ (if found_one result then self.old.given + 1 else self.old.given) }
+        ensures settled { IfOk result (λ found. IfSome found (λ game. self.old.given < settled_games self.new.taken)) }
+        ensures open { self.old.ended ≡ false → result ≡ Ok None → settled_games self.new.taken ≤ self.old.given }
+        ensures ended { self.old.ended ≡ true → result ≡ Ok None }
+        ensures no_more { self.old.ended ≡ false → (piece : List ℕ) × TookNoMore self.new.taken piece self.old.given }
+        ensures few { length self.new.taken ≤ MOST_BYTES }
+        ensures failed { self.new.failed ≡ is_err result }
+    {
+        if self.ended {
+            return Ok(None);
+        }
+        match self.cutter.feed_piece() {
+            Ok(Standing::Whole) => Ok(Some(self.cutter.give(self.alloc))),
+            Ok(Standing::Open) => Ok(None),
+            Err(refused) => {
+                self.failed = true;
+                Err(refused)
             }
         }
     }

@@ -1,5 +1,5 @@
 -- The bytes that are kept, and the games among them.
-use Rattle.std.proofs.Common.{◌≡◌, ℕ, zero, suc, ◌+◌, ◌-◌, ◌<◌, ◌≤◌, List, [], ◌∷◌, ◌++◌, Some, length, take, drop, slice_get, slice_range, refl, sym, ap, ◌∙◌, arith, append-nil, drop-drop, length-append, length-drop, false}
+use Rattle.std.proofs.Common.{◌≡◌, ℕ, zero, suc, ◌+◌, ◌-◌, ◌^◌, ◌<◌, ◌≤◌, List, [], ◌∷◌, ◌++◌, Option, Some, None, IfSome, length, take, drop, slice_get, slice_range, refl, sym, ap, ◌∙◌, arith, append-nil, drop-drop, length-append, length-drop, false}
 use Rattle.std.proofs.lemmas.List.{drop-append-le, drop-take}
 use Rattle.std.proofs.lemmas.Slice.{between_is}
 use Rattle.cha_outside.specs.declared.gathering.TheConstants.{MOST_BYTES}
@@ -55,6 +55,11 @@ there (g ∷ games) (suc n) game e = omega (arith, there games n game e)
 pub games_few : (bytes : List ℕ) (n : ℕ) (game : PlacedGame) → slice_get (placed_games bytes) n ≡ Some game → n < length bytes
 games_few bytes n game e = omega (arith, there (placed_games bytes) n game e, ordered_few (placed_games bytes) 0 (length bytes) (omega arith) (placed_games_order bytes))
 
+-- and where one is found, few were given
+pub given_few : (bytes : List ℕ) (n k : ℕ) (found : Option PlacedGame) → IfSome found (λ game. slice_get (placed_games bytes) n ≡ Some game) → length bytes ≤ MOST_BYTES → n ≡ k → IfSome found (λ game. k < 2 ^ 62)
+given_few bytes n k None there few same = tt
+given_few bytes n k (Some game) there few same = omega (arith, games_few bytes n game there, few, same)
+
 -- all that came was handed on
 pub arrived_is : (i : Intake) → IsOpen i false → arrived i ≡ i.games.taken
 arrived_is i h = ap (λ xs. i.games.taken ++ xs) h.handed_on ∙ append-nil i.games.taken
@@ -65,7 +70,7 @@ settled_of i h = omega (arith, h.settled refl, ap settled_games (arrived_is i h)
 -- a piece was kept and handed on
 pub open_more : (i j : Intake) (piece : List ℕ) → IsOpen i false → (j.games.failed ≡ false) × (j.games.ended ≡ false) → j.piece.items ≡ []
     → arrived j ≡ i.games.taken ++ piece → j.games.given ≡ i.games.given → j.kept ≡ drop i.written i.kept ++ piece → (j.start ≡ i.start + i.written) × (j.written ≡ 0)
-    → i.start + (length i.kept + length piece) ≤ MOST_BYTES → length piece ≤ 4096 → settled_games i.games.taken ≤ i.games.given → IsOpen j false
+    → i.start + (length i.kept + length piece) ≤ MOST_BYTES → length piece ≤ 65536 → settled_games i.games.taken ≤ i.games.given → IsOpen j false
 open_more i j piece h games handed_on now given kept start few short needed =
     let taken : j.games.taken ≡ i.games.taken ++ piece = sym (ap (λ xs. j.games.taken ++ xs) handed_on ∙ append-nil j.games.taken) ∙ now in
     let size = ap length taken ∙ length-append i.games.taken piece in

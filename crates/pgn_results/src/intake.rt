@@ -12,7 +12,7 @@ ghost use Rattle.pgn_results.specs.Keeping.{IsOpen, arrived};
 
 use cha_list::{NoMemory, Text, text_of};
 use cha_outside::{MOST_BYTES, ReadEnd, Source};
-use pgn_games::{Filled, Splitter, fill};
+use pgn_games::{Filled, MOST_TAKEN, Splitter, fill};
 use std::alloc::Global;
 
 /// What has come of a text: its games, and the last of its bytes.
@@ -29,6 +29,8 @@ pub struct Intake {
     pub written: usize,
     /// What was read and not handed on yet.
     pub piece: Vec<u8>,
+    /// The room that a piece is read into.
+    pub room: Vec<u8>,
 }
 
 impl Intake {
@@ -50,7 +52,8 @@ impl Intake {
         ensures few { length (arrived self.new) ≤ MOST_BYTES + 4096 }
         ensures later { S.faults source.old ≤ S.faults source.new }
     {
-        match fill(&mut self.piece, source) {
+        let most = MOST_TAKEN - self.taken() as usize;
+        match fill(&mut self.piece, &mut self.room, source, most) {
             Ok(Filled::More) => {}
             Ok(Filled::End) => {
                 return match self.games.end() {

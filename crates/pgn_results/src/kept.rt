@@ -7,6 +7,7 @@ ghost use Rattle.std.specs.Io.KnownBytes.{IsAtEnd};
 ghost use Rattle.cha_outside.specs.Faults.{Rose};
 ghost use Rattle.cha_outside.specs.Gathering.{Gathers};
 ghost use Rattle.pgn_games.specs.Games.{placed_games, is_closed as is_closed_text};
+ghost use Rattle.pgn_games.specs.Keeping.{found_one};
 ghost use Rattle.pgn_games.specs.Reading.{TookNoMore, gives_game};
 ghost use Rattle.pgn_games.specs.Settling.{settled_games};
 ghost use Rattle.pgn_games.specs.declared.played.PlacedGame.{PlacedGame as GamePlaced};
@@ -58,6 +59,7 @@ impl KeptReader {
             start: 0,
             written: 0,
             piece: Vec::new(alloc),
+            room: Vec::new(alloc),
         };
         Ok(KeptReader {
             intake,
@@ -114,6 +116,33 @@ impl KeptReader {
                     self.failed = true;
                     return Err(end);
                 }
+            }
+        }
+    }
+
+    /// The next game that is whole in what was taken, or None where there is none. It reads nothing, and says what
+    /// `pgn_games::Reader::ready` does.
+    pub fn ready(&mut self) -> Result<Option<PlacedGame>, NoMemory>
+        requires { self.old.failed ≡ false }
+        ensures same { (self.new.taken ≡ self.old.taken) × (self.new.written ≡ self.old.written) × (self.new.ended ≡ self.old.ended) }
+        ensures game { IfOk result (λ found. IfSome found (λ game. slice_get (placed_games self.new.taken) self.old.given ≡ Some game)) }
+        ensures given { self.new.given ≡ (if found_one result then self.old.given + 1 else self.old.given) }
+        ensures few_games { IfOk result (λ found. IfSome found (λ game. self.old.given < 2 ^ 62)) }
+        ensures settled { IfOk result (λ found. IfSome found (λ game. self.old.given < settled_games self.new.taken)) }
+        ensures open { self.old.ended ≡ false → result ≡ Ok None → settled_games self.new.taken ≤ self.old.given }
+        ensures ended { self.old.ended ≡ true → result ≡ Ok None }
+        ensures no_more { self.old.ended ≡ false → (piece : List ℕ) × TookNoMore self.new.taken piece self.old.given }
+        ensures few { length self.new.taken ≤ MOST_BYTES }
+        ensures failed { self.new.failed ≡ is_err result }
+    {
+        if self.ended {
+            return Ok(None);
+        }
+        match self.intake.games.next() {
+            Ok(found) => Ok(found),
+            Err(refused) => {
+                self.failed = true;
+                Err(refused)
             }
         }
     }

@@ -1,7 +1,7 @@
 //! Tests of what turns bytes into games and plays them.
 //!
 //! `reads_and_writes` has sources and sinks that fail, `tokens` texts with their tokens, `games` texts with their
-//! games, `results` games that get another result, `played` words of SAN and games that are played to their ends, and `drawn` games that are drawn at random.
+//! games, `ready` games and lines that are given without a read, `results` games that get another result, `played` words of SAN and games that are played to their ends, and `drawn` games that are drawn at random.
 #![tactic(auto)]
 
 #[cfg(test)]
@@ -12,6 +12,8 @@ mod games;
 mod played;
 #[cfg(test)]
 mod reads_and_writes;
+#[cfg(test)]
+mod ready;
 #[cfg(test)]
 mod results;
 #[cfg(test)]

@@ -33,7 +33,7 @@ fn answer(alloc: Global, position: &str, word: &[u8]) -> Result<Text, Fail> {
     let Ok(position) = read(position.as_bytes()) else {
         return Ok(text_of(alloc, b"no position")?);
     };
-    match resolve(alloc, &position, word) {
+    match resolve(&position, word) {
         Ok(m) => Ok(text_of(alloc, move_text(m).as_str().as_bytes())?),
         Err(fault) => Ok(text_of(alloc, named(fault).as_bytes())?),
     }
@@ -44,7 +44,7 @@ fn written(alloc: Global, position: &str, word: &[u8]) -> Result<Text, Fail> {
     let Ok(position) = read(position.as_bytes()) else {
         return Ok(text_of(alloc, b"no position")?);
     };
-    match resolve(alloc, &position, word) {
+    match resolve(&position, word) {
         Ok(m) => Ok(san(alloc, &position, m)?),
         Err(fault) => Ok(text_of(alloc, named(fault).as_bytes())?),
     }

@@ -151,6 +151,15 @@ module _ (before piece : List ℕ) (used scanned number given taken : ℕ) (ende
         step None e g = ap (line_if number) (sym line_all) ∙ g
         step (Some x) e g = cc
 
+  -- where no line feed is left in what is kept, each line that one ended was given
+  pub ended_given : used + prefix_len (in_class NotLineFeed) (drop used piece) ≡ length piece → ended ≡ false → settled_lines (before ++ piece) ≤ given
+  ended_given no_feed going =
+      rw whole (settled_given (before ++ take used piece) rest number given (rw (not_finished_yet finished refl) at h.gone) (omega (arith, size_is, no_feed)))
+    where
+      not_finished_yet : (f : Bool) → finished ≡ f → finished ≡ false
+      not_finished_yet true e = let shut : true ≡ false = sym (h.at_end e) ∙ going in cc
+      not_finished_yet false e = e
+
   -- more bytes behind those that are kept
   module _ (no_feed : used + prefix_len (in_class NotLineFeed) (drop used piece) ≡ length piece) (going : ended ≡ false) (more before' piece' : List ℕ) (scanned' taken' : ℕ) (before_is : before' ≡ before ++ take used piece) (piece_is : piece' ≡ drop used piece ++ more)
       (scanned_is : scanned' + used ≡ scanned) (taken_is : taken' + length (drop used piece) ≡ taken + length piece') where
@@ -189,7 +198,7 @@ module _ (before piece : List ℕ) (used scanned number given taken : ℕ) (ende
         ap (λ bs. take given (text_lines bs)) joined ∙ first_given (before ++ take used piece) (rest ++ more) number given finished h.gone (shut (rest ++ more))
         ∙ sym (ap (λ bs. take given (text_lines bs)) whole ∙ first_given (before ++ take used piece) rest number given finished h.gone (shut rest))
 
-    pub refilled_waits : length more ≤ 4096 → (piece : List ℕ) × TookNoMore (before' ++ piece') piece given
+    pub refilled_waits : length more ≤ 65536 → (piece : List ℕ) × TookNoMore (before' ++ piece') piece given
     refilled_waits few =
         (more, (before ++ piece, refilled_whole, few, rw whole (settled_given (before ++ take used piece) rest number given (rw open_yet at h.gone) (omega (arith, size_is, no_feed)))))
 

@@ -1,10 +1,8 @@
 -- What a reader of lines keeps, by its fields.
-use Rattle.std.specs.Prelude.{◌≡◌, ℕ, ◌+◌, Bool, true, false, List, ◌++◌, drop, length, Option, Some, None, Result, Ok, Err}
+use Rattle.std.specs.Prelude.{◌≡◌, ℕ, ◌+◌, List, ◌++◌, drop, length}
 use Rattle.std.specs.List.{prefix_len}
 use Rattle.cha_list.specs.declared.classes.Class.TheVariants.{NotLineFeed}
-use Rattle.cha_list.specs.declared.memory.NoMemory.{NoMemory}
 use Rattle.cha_list.specs.Bytes.{in_class}
-use Rattle.text_lines.specs.declared.lines.TextLine.{TextLine}
 use Rattle.text_lines.specs.declared.reading.Lines.{Lines}
 use Rattle.text_lines.specs.Reading.{TookNoMore}
 use Rattle.text_lines.specs.Holding.{IsHeld}
@@ -23,9 +21,3 @@ WaitsAt s = (piece : List ℕ) × TookNoMore (taken_by s) piece s.given
 -- no line feed is left in the piece
 abbrev pub HasNoFeed : Lines → Type 0
 HasNoFeed s = s.text.used + prefix_len (in_class NotLineFeed) (drop s.text.used s.text.piece.items) ≡ length s.text.piece.items
-
--- a line was given
-abbrev pub found_one : Result (Option TextLine) NoMemory → Bool
-found_one (Ok (Some line)) = true
-found_one (Ok None) = false
-found_one (Err refused) = false

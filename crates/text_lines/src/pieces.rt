@@ -16,8 +16,11 @@ use cha_list::{Class, NoMemory, all_of, run_of, text_of};
 use cha_outside::{Got, MOST_BYTES, ReadEnd, Source};
 use std::alloc::Global;
 
-/// How many bytes one read asks for.
-const PIECE: usize = 4096;
+/// How many bytes one read asks for, where so many may still be taken.
+const PIECE: usize = 65_536;
+
+/// The most bytes that are taken of a source: 4,096 more than a text may have, by which it is seen to be too long.
+const MOST_TAKEN: usize = MOST_BYTES + 4096;
 
 /// How many bytes of a line are given.
 const KEPT: usize = 4097;
@@ -44,6 +47,8 @@ pub struct OpenText {
     pub scanned: usize,
     /// How many bytes were taken of the source.
     pub taken: usize,
+    /// The room that a piece is read into: it grows once, and serves again.
+    pub room: Vec<u8>,
 }
 
 /// A line that is not blank, under its number.
@@ -72,6 +77,7 @@ impl OpenText {
             used: 0,
             scanned: 0,
             taken: 0,
+            room: Vec::new(alloc),
         }
     }
 
@@ -119,12 +125,12 @@ impl OpenText {
         self.used = 0;
     }
 
-    /// Reads on behind the bytes that are kept.
+    /// Reads on behind the bytes that are kept. It asks for 65,536 bytes, or for as many as may still be taken where those are fewer.
     pub fn refill<S: Source>(&mut self, source: &mut S) -> Result<Filled, ReadEnd>
         requires inside { (self.old.used ≤ self.old.scanned) × (self.old.scanned ≤ length self.old.piece.items) }
         requires few { self.old.taken ≤ MOST_BYTES }
         ensures bytes { Gathers (S.left source.old) (S.left source.new) (drop self.old.used self.old.piece.items) self.new.piece.items }
-        ensures few_more { length self.new.piece.items ≤ length (drop self.old.used self.old.piece.items) + 4096 }
+        ensures few_more { length self.new.piece.items ≤ length (drop self.old.used self.old.piece.items) + 65536 }
         ensures before { self.new.before ≡ self.old.before ++ take self.old.used self.old.piece.items }
         ensures used { self.new.used ≡ 0 }
         ensures scanned { self.new.scanned + self.old.used ≡ self.old.scanned }
@@ -137,13 +143,13 @@ impl OpenText {
         ensures later { S.faults source.old ≤ S.faults source.new }
     {
         self.let_go();
-        let Ok(()) = self.piece.try_reserve(PIECE) else {
+        let size = PIECE.min(MOST_TAKEN - self.taken);
+        let (Ok(()), Ok(())) = (self.room.resize(size, 0), self.piece.try_reserve(size)) else {
             return Err(ReadEnd::NoMemory);
         };
-        let mut buffer = [0u8; PIECE];
-        match source.read(&mut buffer) {
+        match source.read(self.room.as_mut_slice()) {
             Got::Bytes(n) => {
-                let Ok(()) = self.piece.extend_from_slice(&buffer[..n]) else {
+                let Ok(()) = self.piece.extend_from_slice(&self.room[..n]) else {
                     unreachable!()
                 };
                 self.taken += n;

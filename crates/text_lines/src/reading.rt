@@ -10,7 +10,7 @@ ghost use Rattle.cha_list.specs.Bytes.{in_class};
 ghost use Rattle.cha_outside.specs.Faults.{Rose};
 ghost use Rattle.cha_outside.specs.Gathering.{Gathers};
 ghost use Rattle.text_lines.specs.Lines.{text_lines, settled_lines};
-ghost use Rattle.text_lines.specs.Reading.{TookNoMore, gives_line};
+ghost use Rattle.text_lines.specs.Reading.{TookNoMore, found_one, gives_line};
 
 use crate::lines::{TextLine, without_return};
 use crate::pieces::{Filled, OpenText, line_of};
@@ -66,7 +66,7 @@ fn one_if(found: &Option<TextLine>) -> usize
 }
 
 impl Lines {
-    ghost use Rattle.text_lines.specs.Keeping.{taken_by, IsHeldBy, WaitsAt, found_one, HasNoFeed};
+    ghost use Rattle.text_lines.specs.Keeping.{taken_by, IsHeldBy, WaitsAt, HasNoFeed};
 
     /// Takes the line that a line feed at this place ends, and gives it unless it is blank.
     fn take_line(&mut self, alloc: Global, end: usize) -> Result<Option<TextLine>, NoMemory>
@@ -222,10 +222,11 @@ impl LineReader {
 
     /// The next line that is not blank, or None where the source has ended and all its lines were given.
     ///
-    /// It reads no further piece than the line needs: a line is given once the line feed behind it was taken. The lines given are the
-    /// first lines of the bytes taken, in order. `ReadFault` comes only where the source failed in this call, and each line that a line
-    /// feed ends in the bytes taken was given before; `TooLong` comes where the source gave more than 268,435,456 bytes (at most 4,096
-    /// more are taken), and `NoMemory` where the allocator refused memory. The time of all calls together grows as the number of bytes.
+    /// It reads no further piece, of at most 65,536 bytes, than the line needs: a line is given once the line feed behind it was
+    /// taken. The lines given are the first lines of the bytes taken, in order. `ReadFault` comes only where the source failed in this
+    /// call, and each line that a line feed ends in the bytes taken was given before; `TooLong` comes where the source gave more than
+    /// 268,435,456 bytes (at most 4,096 more are taken), and `NoMemory` where the allocator refused memory. The time of all calls
+    /// together grows as the number of bytes.
     pub fn next<S: Source>(&mut self, source: &mut S) -> Result<Option<TextLine>, ReadEnd>
         requires { self.old.failed ≡ false }
         ensures bytes { Gathers (S.left source.old) (S.left source.new) self.old.taken self.new.taken }
@@ -246,6 +247,30 @@ impl LineReader {
         ensures later { S.faults source.old ≤ S.faults source.new }
     {
         let found = self.lines.next(self.alloc, source);
+        self.failed = found.is_err();
+        found
+    }
+
+    /// The next line that is not blank and that a line feed ends in what was taken, or None where there is none. It reads nothing.
+    ///
+    /// A last line that no line feed ends is for `next` alone: once the source has ended, None comes here. The lines given by both calls
+    /// are the first lines of the bytes taken, in order. The only error is want of memory; no call may follow it.
+    pub fn ready(&mut self) -> Result<Option<TextLine>, NoMemory>
+        requires { self.old.failed ≡ false }
+        ensures same { (self.new.taken ≡ self.old.taken) × (self.new.ended ≡ self.old.ended) }
+        ensures line { IfOk result (λ found. IfSome found (λ line. slice_get (text_lines self.new.taken) self.old.given ≡ Some line)) }
+        ensures given { self.new.given ≡ (if found_one result then self.old.given + 1 else self.old.given) }
+        ensures settled { IfOk result (λ found. IfSome found (λ line. self.old.given < settled_lines self.new.taken)) }
+        ensures open { self.old.ended ≡ false → result ≡ Ok None → settled_lines self.new.taken ≤ self.old.given }
+        ensures ended { self.old.ended ≡ true → result ≡ Ok None }
+        ensures no_more { (piece : List ℕ) × TookNoMore self.new.taken piece self.old.given }
+        ensures few { length self.new.taken ≤ MOST_BYTES }
+        ensures failed { self.new.failed ≡ is_err result }
+    {
+        if self.lines.ended {
+            return Ok(None);
+        }
+        let found = self.lines.next_ended(self.alloc);
         self.failed = found.is_err();
         found
     }

@@ -25,5 +25,5 @@ returns-clause-fault g c = λ e.
 pub returns-clause-waits : goal.returns-clause-waits
 returns-clause-waits g c =
     let r = c.refill.ensures in
-    let few : length r.bytes.0 ≤ 4096 = omega (arith, r.few_more, ap length r.bytes.2, length-append (drop c.args.self.now.text.used c.args.self.now.text.piece.items) r.bytes.0) in
+    let few : length r.bytes.0 ≤ 65536 = omega (arith, r.few_more, ap length r.bytes.2, length-append (drop c.args.self.now.text.used c.args.self.now.text.piece.items) r.bytes.0) in
     refilled_waits _ _ _ _ _ _ _ _ _ c.requires.held c.requires.no_feed c.requires.open r.bytes.0 _ _ _ _ r.before r.bytes.2 r.scanned r.taken few

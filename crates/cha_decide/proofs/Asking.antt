@@ -12,7 +12,7 @@ use Rattle.cha_fact.specs.declared.calls.Probe.{Probe}
 use Rattle.cha_fact.specs.Keys.{key_of}
 use Rattle.cha_fact.specs.Entries.{Entry, probe_entry, HasProbe, MadeSome}
 use Rattle.root_workers.specs.RoundAnswers.{RoundsCalls}
-use Rattle.root_workers.specs.declared.answers.RoundsDone.{RoundsDone}
+use Rattle.root_workers.specs.declared.answers.RoundsEnd.{RoundsEnd}
 use Rattle.cha_limits.specs.Bounds.{Bounds}
 use Rattle.cha_verdict.specs.declared.verdicts.Verdict.{Verdict}
 use Rattle.cha_verdict.specs.declared.decisions.Decision.{Decision}
@@ -30,7 +30,7 @@ probe_right xs ys q w h = (h.0, Contains-append_right xs ys _ h.1)
 
 module _ {S : Type 0} (made : S → List Entry → S → Type 0) (joined : (a b c : S) (xs ys : List Entry) → made a xs b → made b ys c → made a (xs ++ ys) c) where
   -- the rounds, and then the exploration
-  pub rounds_then : (made_by : _) (a b c : S) (count : _) (q : Board) (w : Color) (limits : Bounds) (r : Result RoundsDone NoMemory) → RoundsCalls made made_by count a b q w limits r → MadeSome made b c → MadeSome made a c
+  pub rounds_then : (made_by : _) (a b c : S) (count : _) (q : Board) (w : Color) (limits : Bounds) (r : Result RoundsEnd NoMemory) → RoundsCalls made made_by count a b q w limits r → MadeSome made b c → MadeSome made a c
   rounds_then made_by a b c count q w limits r calls more = (_, joined a b c _ more.0 calls.entered more.1)
 
   -- the position was asked for, and then nothing or more

@@ -102,7 +102,7 @@ fn deepened_further<C: Crew>(
     ensures found { IfOk result (IsFound position.now winner limits.now) }
     ensures calls { MadeSome C.made crew.old crew.new }
 {
-    match rounds_by(alloc, position, winner, limits, crew)?.end {
+    match rounds_by(alloc, position, winner, limits, crew)? {
         RoundsEnd::Mate(line) => Ok(Verdict::Winnable(moves_of(alloc, &line)?)),
         RoundsEnd::NoneWithin(depth) => explored(alloc, position, winner, limits, depth, crew),
     }

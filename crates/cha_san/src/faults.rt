@@ -9,7 +9,7 @@ pub enum SanFault {
     NoSuchMove,
     /// Two legal moves or more fit the word.
     Ambiguous,
-    /// The allocator refused memory. Nothing is known of the word.
+    /// The allocator refused memory for what words name. No word is resolved to it.
     NoMemory,
 }
 

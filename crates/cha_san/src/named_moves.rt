@@ -5,22 +5,20 @@ ghost use Rattle.cha_moves.specs.Moves.{legal};
 ghost use Rattle.cha_san.specs.Resolving.{resolved};
 ghost use Rattle.cha_san.specs.Playing.{named_move, moves_named};
 
-use crate::faults::SanFault;
 use crate::resolving::resolve;
 use cha_board::Position;
 use cha_list::{NoMemory, Text};
 use cha_moves::{Move, Moves, after};
 use std::alloc::Global;
 
-/// The move that a word names, or None for a word that names none. The only error is want of memory.
-fn move_of(alloc: Global, position: &Position, word: &[u8]) -> Result<Option<Move>, NoMemory>
-    ensures named { IfOk result (λ found. found ≡ named_move (resolved position.now word.now)) }
-    ensures legal { IfOk result (λ found. IfSome found (λ m. Contains (legal position.now) m)) }
+/// The move that a word names, or None for a word that names none.
+fn move_of(position: &Position, word: &[u8]) -> Option<Move>
+    ensures named { result ≡ named_move (resolved position.now word.now) }
+    ensures legal { IfSome result (λ m. Contains (legal position.now) m) }
 {
-    match resolve(alloc, position, word) {
-        Ok(m) => Ok(Some(m)),
-        Err(SanFault::NoMemory) => Err(NoMemory),
-        Err(_) => Ok(None),
+    match resolve(position, word) {
+        Ok(m) => Some(m),
+        Err(_) => None,
     }
 }
 
@@ -33,7 +31,7 @@ pub fn moves_of(alloc: Global, start: &Position, words: &[Text]) -> Result<Moves
     let mut moves = Moves::new(alloc);
     let mut position = *start;
     for word in words {
-        match move_of(alloc, &position, word.items())? {
+        match move_of(&position, word.items()) {
             Some(m) => {
                 moves.push(m)?;
                 position = after(&position, m);

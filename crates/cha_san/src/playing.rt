@@ -15,16 +15,11 @@ use pgn_games::Game;
 use std::alloc::Global;
 
 /// The position after the move of a word, which has this number in its game.
-fn next_position(
-    alloc: Global,
-    position: &Position,
-    word: &[u8],
-    ply: u32,
-) -> Result<Position, PlayFault>
+fn next_position(position: &Position, word: &[u8], ply: u32) -> Result<Position, PlayFault>
     ensures ok { IfOk result (λ next. FollowsBy position.now word.now next) }
-    ensures err { IfErr result (λ fault. (fault.fault ≡ NoMemory) ⊎ ((resolved position.now word.now ≡ Err fault.fault) × (fault.ply ≡ ply))) }
+    ensures err { IfErr result (λ fault. (resolved position.now word.now ≡ Err fault.fault) × (fault.ply ≡ ply)) }
 {
-    match resolve(alloc, position, word) {
+    match resolve(position, word) {
         Ok(m) => Ok(after(position, m)),
         Err(fault) => Err(PlayFault { ply, fault }),
     }
@@ -54,7 +49,7 @@ fn replayed(alloc: Global, start: &Position, words: &[Text]) -> Result<Positions
     let mut ply = 0;
     for word in words {
         ply += 1;
-        let next = match next_position(alloc, &position, word.items(), ply) {
+        let next = match next_position(&position, word.items(), ply) {
             Ok(next) => next,
             Err(fault) => return Err(fault),
         };

@@ -1,9 +1,9 @@
 //! The move that a word names.
 
-ghost use Rattle.std.specs.Prelude.{◌≡◌, ◌≤◌, ◌⊎◌, ◌↔◌, [], ◌∷◌, Ok, Err, None, Some, filter, length, IfOk, Contains};
+ghost use Rattle.std.specs.Prelude.{◌≡◌, ◌≤◌, ◌↔◌, [], ◌∷◌, Ok, Err, None, Some, filter, length, IfOk, Contains};
 ghost use Rattle.cha_moves.specs.Moves.{moves_between, all_moves};
 ghost use Rattle.cha_moves.specs.Moves.{legal as legal_moves};
-ghost use Rattle.cha_san.specs.declared.faults.SanFault.TheVariants.{NotSan, NoSuchMove, Ambiguous, NoMemory};
+ghost use Rattle.cha_san.specs.declared.faults.SanFault.TheVariants.{NotSan, NoSuchMove, Ambiguous};
 ghost use Rattle.cha_san.specs.Forms.{form_of};
 ghost use Rattle.cha_san.specs.Resolving.{fitting, resolved};
 ghost use Rattle.cha_san.specs.Seen.{seen};
@@ -17,7 +17,6 @@ use crate::reading::form;
 use crate::sources::{sources, target};
 use cha_board::{Kind, Position, Square};
 use cha_moves::{Move, is_legal, promotion_rank};
-use std::alloc::Global;
 
 /// What is found once a move was looked at.
 fn with_move(
@@ -80,11 +79,11 @@ pub fn found_for(position: &Position, form: &Form) -> Found
 /// names no promotion leaves it open, so that `e8` fits four moves.
 ///
 /// `NotSan` is a word that is not of the form, `NoSuchMove` one that no legal move fits, and `Ambiguous` one that two or more
-/// fit. `NoMemory` is want of memory, of which nothing more is known.
+/// fit. It takes no memory, so it never answers `NoMemory`.
 ///
 /// At the opening position `Nf3` and `Ng1f3+!` are the move from g1 to f3, `Nd2` is no such move, and `knight` is not SAN.
-pub fn resolve(_alloc: Global, position: &Position, word: &[u8]) -> Result<Move, SanFault>
-    ensures value { (result ≡ Err NoMemory) ⊎ (result ≡ resolved position.now word.now) }
+pub fn resolve(position: &Position, word: &[u8]) -> Result<Move, SanFault>
+    ensures value { result ≡ resolved position.now word.now }
     ensures not_san { (result ≡ Err NotSan) ↔ (form_of word.now ≡ None) }
     ensures no_such_move { result ≡ Err NoSuchMove → fitting position.now word.now ≡ [] }
     ensures ambiguous { result ≡ Err Ambiguous → 2 ≤ length (fitting position.now word.now) }

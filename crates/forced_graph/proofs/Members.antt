@@ -11,26 +11,30 @@ use Rattle.cha_board.specs.Board.{Board}
 use Rattle.cha_moves.specs.Ends.{IsMated}
 use Rattle.cha_moves.proofs.Contained.{not_in_nothing}
 use Rattle.mob_law.specs.Static.{IsStaticallyUnwinnable}
-use Rattle.mob_law.specs.Explored.{ComesFrom, IsExplored}
+use Rattle.mob_law.specs.Explored.{IsExplored}
 use Rattle.node_store.specs.Nodes.{Node}
+use Rattle.forced_graph.specs.Outcomes.{ComesUnshown, HasExpanded}
 use Rattle.forced_graph.specs.Grown.{IsGrown}
 use Rattle.forced_graph.specs.Regions.{AreLed, AreExpanded}
 
-comes_more : (members more : List Board) (before : ℕ) (w : Color) (q : Board) → ComesFrom members before w q → ComesFrom (members ++ more) before w q
+comes_more : (members more : List Board) (before : ℕ) (w : Color) (q : Board) → ComesUnshown members before w q → ComesUnshown (members ++ more) before w q
 comes_more members more before w q c = record {
-  number = c.number;
-  earlier = c.earlier;
-  origin = c.origin;
-  is_origin = stays_at members more c.number c.origin c.is_origin;
-  by = c.by;
-  is_legal = c.is_legal;
-  leads = c.leads;
+  comes = record {
+    number = c.comes.number;
+    earlier = c.comes.earlier;
+    origin = c.comes.origin;
+    is_origin = stays_at members more c.comes.number c.comes.origin c.comes.is_origin;
+    by = c.comes.by;
+    is_legal = c.comes.is_legal;
+    leads = c.comes.leads;
+    unshown = c.comes.unshown;
+  };
   unshown = c.unshown;
 }
 
 -- what may be expanded next: the root first, and then what comes from a position that was expanded
 abbrev pub IsNext : Board → Color → List Board → Board → Type 0
-IsNext root w members q = ((length members ≡ 0) × (q ≡ root)) ⊎ ((0 < length members) × ComesFrom members (length members) w q)
+IsNext root w members q = ((length members ≡ 0) × (q ≡ root)) ⊎ ((0 < length members) × ComesUnshown members (length members) w q)
 
 pub grown_more : (root : Board) (w : Color) (members : List Board) (q : Board) → IsGrown root w members → IsNext root w members q → (Contains members q → ⊥) → (IsMated q (other_color w) → ⊥) → IsGrown root w (members ++ q ∷ [])
 grown_more root w members q was next new running = record {
@@ -47,8 +51,8 @@ grown_more root w members q was next new running = record {
     | inr last ↦ elim next [
       | inl root ↦ (let none = root.0 in let some = last.0 in absurd (omega arith))
       | inr later ↦ (
-          let C : ℕ → Type 0 = λ k. ComesFrom members k w q in
-          let D : Board → Type 0 = λ b. ComesFrom (members ++ q ∷ []) (suc i) w b in
+          let C : ℕ → Type 0 = λ k. ComesUnshown members k w q in
+          let D : Board → Type 0 = λ b. ComesUnshown (members ++ q ∷ []) (suc i) w b in
           subst D last.1 (comes_more members (q ∷ []) (suc i) w q (subst C (sym last.0) later.1)))
     ]
   ];
@@ -71,26 +75,28 @@ first_is : (root : Board) (members : List Board) → 0 < length members → ((q 
 first_is root [] some first = absurd (omega (arith, some))
 first_is root (x ∷ xs) some first = ap Some (first x refl)
 
--- what was expanded makes an explored region
-pub explored_of : (root : Board) (w : Color) (count budget : ℕ) (nodes : List Node) (members : List Board) → IsGrown root w members → AreExpanded nodes w members → length members ≡ count → count ≡ budget → 0 < budget → (IsStaticallyUnwinnable root w → ⊥) → IsExplored root w budget
+-- what was expanded, and why it was
+pub explored_of : (root : Board) (w : Color) (count budget : ℕ) (nodes : List Node) (members : List Board) → IsGrown root w members → AreExpanded nodes w members → length members ≡ count → count ≡ budget → 0 < budget → (IsStaticallyUnwinnable root w → ⊥) → HasExpanded root w budget
 unfolding AreExpanded AreLed
-explored_of root w count budget nodes members grown expanded size all some unshown = record {
-  members = members;
-  size = size ∙ all;
-  distinct = grown.distinct;
-  first = first_is root members (omega arith) grown.first;
-  later = grown.later;
-  mateless = record {
-    none = grown.running;
-    next = λ q m there fits mated. (expanded q there m fits).running mated;
-  };
-  unshown = unshown;
-}
+explored_of root w count budget nodes members grown expanded size all some unshown =
+    let e : IsExplored root w budget = record {
+      members = members;
+      size = size ∙ all;
+      distinct = grown.distinct;
+      first = first_is root members (omega arith) grown.first;
+      later = λ i q at. (grown.later i q at).comes;
+      mateless = record {
+        none = grown.running;
+        next = λ q m there fits mated. (expanded q there m fits).running mated;
+      };
+      unshown = unshown;
+    } in
+    (e, grown.later)
 
 -- and so of the position and the side that were asked for
-pub explored_asked : (root q : Board) (v w : Color) (count budget : ℕ) (nodes : List Node) (members : List Board) → IsGrown root v members → AreExpanded nodes v members → length members ≡ count → root ≡ q → v ≡ w → count ≡ budget → 0 < budget → (IsStaticallyUnwinnable q w → ⊥) → IsExplored q w budget
+pub explored_asked : (root q : Board) (v w : Color) (count budget : ℕ) (nodes : List Node) (members : List Board) → IsGrown root v members → AreExpanded nodes v members → length members ≡ count → root ≡ q → v ≡ w → count ≡ budget → 0 < budget → (IsStaticallyUnwinnable q w → ⊥) → HasExpanded q w budget
 explored_asked root q v w count budget nodes members grown expanded size is same all some unshown =
-    subst (λ (c : Color). IsExplored q c budget) same
-    (subst (λ (b : Board). IsExplored b v budget) is
+    subst (λ (c : Color). HasExpanded q c budget) same
+    (subst (λ (b : Board). HasExpanded b v budget) is
     (explored_of root v count budget nodes members grown expanded size all some
     (subst (λ (b : Board). IsStaticallyUnwinnable b v → ⊥) (sym is) (subst (λ (c : Color). IsStaticallyUnwinnable q c → ⊥) (sym same) unshown))))

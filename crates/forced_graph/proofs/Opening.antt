@@ -1,5 +1,5 @@
 -- Whether the node that was taken is a leaf.
-use Rattle.std.proofs.Common.{◌≡◌, ℕ, List, Option, None, Some, IsTrue, slice_get, sym, subst, ◌∙◌}
+use Rattle.std.proofs.Common.{◌≡◌, ℕ, List, Option, None, Some, IsTrue, inl, inr, slice_get, sym, subst, ◌∙◌}
 use Rattle.std.specs.Option.{IfSome, IfNone}
 use Rattle.std.proofs.lemmas.Option.{same_Some}
 use Rattle.cha_board.specs.declared.men.Color.{Color}
@@ -15,6 +15,7 @@ use Rattle.mob_small.specs.Lone.{IsLoneUnwinnable}
 use Rattle.cha_cert.specs.Certificates.{LeafHolds}
 use Rattle.node_store.specs.declared.origin.Origin.{Origin}
 use Rattle.node_store.specs.Nodes.{Node, origins, IsAt}
+use Rattle.forced_graph.specs.Outcomes.{IsShown}
 use Rattle.forced_graph.specs.Regions.{IsLeaf, IsLeafPart, IsOpen}
 
 -- the root came by no move
@@ -31,14 +32,19 @@ open_quiet nodes name w o p from at quiet o2 p2 q from2 at2 here zeroing shown =
     let p_is : p2 ≡ p = same_Some p2 p (sym p_at ∙ at) in
     quiet (subst (λ (b : Board). IsTrue (is_zeroing b o.by)) p_is (subst (λ (x : Origin). IsTrue (is_zeroing p2 x.by)) o_is zeroing))
 
--- no closed sets are without a mate
-pub open_unshown : (nodes : List Node) (name : ℕ) (w : Color) (q : Board) (verdict : Option SetRows) → IsAt nodes name q → verdict ≡ None → IfNone verdict (IsStaticallyUnwinnable q w → ⊥) → IsOpen nodes name w
-unfolding IsOpen
-open_unshown nodes name w q (Some sets) at none unshown o p q2 from parent here zeroing shown = cc
-open_unshown nodes name w q None at none unshown o p q2 from parent here zeroing shown =
-    unshown (subst (λ (b : Board). IsStaticallyUnwinnable b w) (same_Some q2 q (sym here ∙ at)) shown)
+shown_not : (q : Board) (w : Color) → (IsStaticallyUnwinnable q w → ⊥) → (IsSmallUnwinnable q w → ⊥) → (IsLoneUnwinnable q w → ⊥) → IsShown q w → ⊥
+shown_not q w sets small lone (inl s) = sets s
+shown_not q w sets small lone (inr (inl s)) = small s
+shown_not q w sets small lone (inr (inr s)) = lone s
 
--- these are
+-- no closed sets are without a mate, the material is not small, and the minor pieces are not lone
+pub open_unshown : (nodes : List Node) (name : ℕ) (w : Color) (q : Board) (verdict : Option SetRows) → IsAt nodes name q → verdict ≡ None → IfNone verdict (IsStaticallyUnwinnable q w → ⊥) → (IsSmallUnwinnable q w → ⊥) → (IsLoneUnwinnable q w → ⊥) → IsOpen nodes name w
+unfolding IsOpen
+open_unshown nodes name w q (Some sets) at none unshown small lone o p q2 from parent here zeroing shown = cc
+open_unshown nodes name w q None at none unshown small lone o p q2 from parent here zeroing shown =
+    shown_not q w unshown small lone (subst (λ (b : Board). IsShown b w) (same_Some q2 q (sym here ∙ at)) shown)
+
+-- some are
 pub leaf_shown : (nodes : List Node) (name : ℕ) (w : Color) (q : Board) (verdict : Option SetRows) (sets : SetRows) → IsAt nodes name q → verdict ≡ Some sets → IfSome verdict (λ s. IsClosed q (sets_of s)) → IfSome verdict (λ s. HasNoMate q (sets_of s) w) → IsLeafPart nodes name w (Leaf sets)
 unfolding IsLeafPart IsLeaf
 leaf_shown nodes name w q None sets at some closed no_mate q2 here = cc

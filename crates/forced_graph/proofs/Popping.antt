@@ -185,13 +185,16 @@ next_here root w nodes waiting parts members name here (Some o) m grown at new h
     inr (
       some_before members parent.0 parent.2,
       record {
-        number = place.0;
-        earlier = place.1;
-        origin = parent.0;
-        is_origin = place.2;
-        by = o.by;
-        is_legal = subst (λ (b : Board). Contains (legal b) o.by) same reached.2.0;
-        leads = subst (λ (b : Board). after b o.by ≡ here) same reached.2.1;
+        comes = record {
+          number = place.0;
+          earlier = place.1;
+          origin = parent.0;
+          is_origin = place.2;
+          by = o.by;
+          is_legal = subst (λ (b : Board). Contains (legal b) o.by) same reached.2.0;
+          leads = subst (λ (b : Board). after b o.by ≡ here) same reached.2.1;
+          unshown = λ zeroing shown. unshown o parent.0 here from parent.1 at zeroing (inl shown);
+        };
         unshown = unshown o parent.0 here from parent.1 at;
       },
     )

@@ -1,5 +1,6 @@
 -- what public contracts say
 pub mod Outcomes
+pub mod Asking
 -- inside the crate
 pub mod Grown
 pub mod Regions

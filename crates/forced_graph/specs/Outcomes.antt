@@ -1,10 +1,14 @@
 -- What an exploration answers (this project).
-use Rattle.std.specs.Prelude.{◌≡◌, ℕ, ◌≤◌, ⊤, length}
+use Rattle.std.specs.Prelude.{◌≡◌, ℕ, suc, ◌≤◌, ⊤, ◌⊎◌, IsTrue, List, Some, length, slice_get}
 use Rattle.cha_board.specs.declared.men.Color.{Color}
 use Rattle.cha_board.specs.Board.{Board}
+use Rattle.cha_moves.specs.Moves.{is_zeroing}
 use Rattle.cha_moves.specs.Ends.{IsMatingLine}
 use Rattle.cha_moves.specs.Lines.{HasPositions}
-use Rattle.mob_law.specs.Explored.{IsExplored}
+use Rattle.mob_law.specs.Static.{IsStaticallyUnwinnable}
+use Rattle.mob_law.specs.Explored.{ComesFrom, IsExplored}
+use Rattle.mob_small.specs.Small.{IsSmallUnwinnable}
+use Rattle.mob_small.specs.Lone.{IsLoneUnwinnable}
 use Rattle.cha_cert.specs.Certificates.{IsValidCert}
 use Rattle.forced_graph.specs.declared.explored.Explored.{Explored}
 use Rattle.forced_graph.specs.declared.explored.Explored.TheVariants.{Mate, Closed, Spent}
@@ -13,11 +17,30 @@ use Rattle.forced_graph.specs.declared.explored.Explored.TheVariants.{Mate, Clos
 abbrev pub IsCertSize : ℕ → Type 0
 IsCertSize n = (1 ≤ n) × (n ≤ 4294967295)
 
+-- closed sets without a mate show that w cannot mate, or the men are too few for it, or its minor pieces are lone
+abbrev pub IsShown : Board → Color → Type 0
+IsShown q w = IsStaticallyUnwinnable q w ⊎ IsSmallUnwinnable q w ⊎ IsLoneUnwinnable q w
+
+-- A position comes by a legal move from one of the first so many of a list; where that move is a capture or a pawn's, nothing
+-- shows at once that w cannot mate.
+pub record ComesUnshown (members : List Board) (before : ℕ) (w : Color) (q : Board) : Type 0 where
+  pub comes : ComesFrom members before w q
+  pub unshown : IsTrue (is_zeroing comes.origin comes.by) → IsShown q w → ⊥
+
+-- each position of a list but the first comes from an earlier one, and where a capture or a pawn's move leads to it, nothing shows
+-- at once that w cannot mate
+abbrev pub AreUnshown : Color → List Board → Type 0
+AreUnshown w members = (i : ℕ) (q : Board) → slice_get members (suc i) ≡ Some q → ComesUnshown members (suc i) w q
+
+-- so many positions were expanded, of which none is one that is never to be expanded
+abbrev pub HasExpanded : Board → Color → ℕ → Type 0
+HasExpanded q w count = (e : IsExplored q w count) × AreUnshown w e.members
+
 -- the moves mate; or the certificate is valid; or exactly as many positions were expanded as were allowed
 abbrev pub IsOutcome : Board → Color → ℕ → Explored → Type 0
 IsOutcome q winner budget (Mate moves) = IsMatingLine q winner moves
 IsOutcome q winner budget (Closed cert) = IsValidCert q winner cert × IsCertSize (length cert)
-IsOutcome q winner budget (Spent count) = (count ≡ budget) × IsExplored q winner count
+IsOutcome q winner budget (Spent count) = (count ≡ budget) × HasExpanded q winner count
 
 -- where the budget is spent, as many distinct positions can be reached by legal moves: where fewer can, it never is
 abbrev pub HasManyIfSpent : Board → ℕ → Explored → Type 0

@@ -6,6 +6,7 @@ ghost use Rattle.cha_moves.specs.Ends.{IsMated};
 ghost use Rattle.cha_fact.specs.Entries.{Entry};
 ghost use Rattle.mob_law.specs.Static.{IsStaticallyUnwinnable};
 ghost use Rattle.forced_graph.specs.Outcomes.{IsOutcome, HasManyIfSpent};
+ghost use Rattle.forced_graph.specs.Asking.{AsksEach};
 
 use crate::explored::Explored;
 use crate::known::known_mate;
@@ -37,6 +38,7 @@ pub fn explore_in<F: Facts>(
     ensures holds { IfOk result (IsOutcome position.now winner budget) }
     ensures many { IfOk result (HasManyIfSpent position.now budget) }
     ensures calls { (entries : List Entry) × F.made facts.old entries facts.new }
+    ensures asks { AsksEach F.made facts.old facts.new result }
 {
     let mut region = Region::new(alloc, position, winner)?;
     while let Some(name) = region.next(alloc)? {

@@ -1,5 +1,5 @@
 -- Moves that were tried one after the other, and the calls of a place that were made by it.
-use Rattle.std.proofs.Common.{◌≡◌, ℕ, zero, suc, ◌+◌, ◌-◌, ◌<◌, ◌≤◌, List, [], ◌∷◌, ◌++◌, length, get_or, take, Option, Some, None, Result, Ok, inl, inr, refl, sym, ◌∙◌, ap, subst, arith}
+use Rattle.std.proofs.Common.{◌≡◌, ℕ, zero, suc, ◌+◌, ◌-◌, ◌<◌, ◌≤◌, List, [], ◌∷◌, ◌++◌, length, get_or, take, Option, Some, None, Result, Ok, IfOk, inl, inr, refl, sym, ◌∙◌, ap, subst, arith}
 use Rattle.std.specs.List.{Contains}
 use Rattle.std.proofs.lemmas.List.{take_more, take_all}
 use Rattle.std.proofs.lemmas.List.Elements.{Contains-append_right, Contains-push, Contains-push_cases}
@@ -21,7 +21,7 @@ use Rattle.cha_fact.proofs.Searching.{front_within, back_within, searched_more}
 use Rattle.helpmate.specs.declared.answers.RoundAnswer.{RoundAnswer}
 use Rattle.helpmate.specs.declared.answers.RoundAnswer.TheVariants.{NoneWithin}
 use Rattle.helpmate.specs.declared.answers.RoundDone.{RoundDone}
-use Rattle.helpmate.specs.Rounds.{decided_by, FollowsProbe, RoundCalls}
+use Rattle.helpmate.specs.Rounds.{decided_by, IsCounted, FollowsProbe, RoundCalls}
 use Rattle.helpmate.specs.Searches.{AreSearched, IsExpanded, Expands, BeginsWithProbe, Searches, RootSearches}
 use Rattle.helpmate.proofs.Saying.{says_none}
 
@@ -133,10 +133,10 @@ the_answer : (a b : RoundAnswer) (o : Result RoundAnswer NoMemory) → o ≡ Ok 
 the_answer a b o e f = cc
 
 -- what was found decides
-pub follows_found : (d units : ℕ) (reply : Probe) (row : Claim) (answer : RoundAnswer) → reply ≡ Found row → decided_by d row.fact ≡ Some answer → units ≡ 0 → FollowsProbe d reply answer units
-follows_found d units reply row answer is decided none =
-    let F : Probe → Type 0 = λ p. FollowsProbe d p answer units in
-    subst F (sym is) (λ b says. (the_same answer b (decided_by d row.fact) decided says, none))
+pub follows_found : (q : Board) (w : Color) (d units : ℕ) (reply : Probe) (row : Claim) (answer : RoundAnswer) → reply ≡ Found row → decided_by d row.fact ≡ Some answer → units ≡ 0 → FollowsProbe q w d reply answer units
+follows_found q w d units reply row answer is decided none =
+    let F : Probe → Type 0 = λ p. FollowsProbe q w d p answer units in
+    subst F (sym is) ((λ b says. (the_same answer b (decided_by d row.fact) decided says, none)), (λ not. cc))
 
 pub decides : {S : Type 0} (made : S → List Entry → S → Type 0) (old new : S) (q : Board) (w : Color) (d units : ℕ) (reply : Probe) (row : Claim) (answer : RoundAnswer) (result : Result RoundAnswer NoMemory)
     → made old (probe_entry (key_of q w) reply ∷ []) new → reply ≡ Found row → decided_by d row.fact ≡ Some answer → units ≡ 0 → result ≡ Ok answer → RootSearches made old new q w d units result
@@ -153,8 +153,8 @@ decides made old new q w d units reply row answer result entered is decided none
         [],
         refl,
         (λ a same.
-            let A : RoundAnswer → Type 0 = λ x. FollowsProbe d reply x units in
-            subst A (the_answer answer a result ends same) (follows_found d units reply row answer is decided none)),
+            let A : RoundAnswer → Type 0 = λ x. FollowsProbe q w d reply x units in
+            subst A (the_answer answer a result ends same) (follows_found q w d units reply row answer is decided none)),
       );
     }
 
@@ -190,7 +190,7 @@ all_later e entries q w d ms all m there = searched_more entries (e ∷ entries)
 -- what was found does not decide, or nothing was found, and the position was expanded
 pub expanded : {S : Type 0} (made : S → List Entry → S → Type 0) (old mid new : S) (q : Board) (w : Color) (d units : ℕ) (reply : Probe) (result : Result RoundAnswer NoMemory)
     → ((a b c : S) (xs ys : List Entry) → made a xs b → made b ys c → made a (xs ++ ys) c)
-    → made old (probe_entry (key_of q w) reply ∷ []) mid → Expands made mid new q w d result → ((a : RoundAnswer) → FollowsProbe d reply a units) → Searches made old new q w d units result
+    → made old (probe_entry (key_of q w) reply ∷ []) mid → Expands made mid new q w d result → ((a : RoundAnswer) → result ≡ Ok a → FollowsProbe q w d reply a units) → Searches made old new q w d units result
 unfolding BeginsWithProbe Expands IsExpanded
 expanded made old mid new q w d units reply result both entered h follows =
     let first = probe_entry (key_of q w) reply in
@@ -199,25 +199,25 @@ expanded made old mid new q w d units reply result both entered h follows =
       entries = first ∷ rest;
       entered = both old mid new (first ∷ []) rest entered h.1;
       searched = λ same. (let parts = h.2 same in by_parts (first ∷ rest) q w d (probe_first rest q w reply) (store_later first rest q w d parts.0) (all_later first rest q w (d - 1) (legal q) parts.1));
-      first = λ _. (reply, rest, refl, (λ a same. follows a));
+      first = λ _. (reply, rest, refl, follows);
     }
 
 -- nothing is decided by what was found
-pub undecided : (d units : ℕ) (reply : Probe) (row : Claim) → reply ≡ Found row → decided_by d row.fact ≡ None → (a : RoundAnswer) → FollowsProbe d reply a units
-undecided d units reply row is none a =
-    let F : Probe → Type 0 = λ p. FollowsProbe d p a units in
-    subst F (sym is) (λ b says. cc)
+pub undecided : (q : Board) (w : Color) (d units : ℕ) (reply : Probe) (row : Claim) (result : Result RoundAnswer NoMemory) → reply ≡ Found row → decided_by d row.fact ≡ None → IfOk result (λ a. IsCounted q w d a units) → (a : RoundAnswer) → result ≡ Ok a → FollowsProbe q w d reply a units
+undecided q w d units reply row result is none counted a same =
+    let F : Probe → Type 0 = λ p. FollowsProbe q w d p a units in
+    subst F (sym is) ((λ b says. cc), (λ not. subst (λ (r : Result RoundAnswer NoMemory). IfOk r (λ x. IsCounted q w d x units)) same counted))
 
-pub missed : (d units : ℕ) (reply : Probe) → reply ≡ Miss → (a : RoundAnswer) → FollowsProbe d reply a units
-missed d units reply is a =
-    let F : Probe → Type 0 = λ p. FollowsProbe d p a units in
-    subst F (sym is) tt
+pub missed : (q : Board) (w : Color) (d units : ℕ) (reply : Probe) (result : Result RoundAnswer NoMemory) → reply ≡ Miss → IfOk result (λ a. IsCounted q w d a units) → (a : RoundAnswer) → result ≡ Ok a → FollowsProbe q w d reply a units
+missed q w d units reply result is counted a same =
+    let F : Probe → Type 0 = λ p. FollowsProbe q w d p a units in
+    subst F (sym is) (subst (λ (r : Result RoundAnswer NoMemory). IfOk r (λ x. IsCounted q w d x units)) same counted)
 
 the_done : (a b : RoundDone) (o : Result RoundDone NoMemory) → o ≡ Ok a → o ≡ Ok b → a ≡ b
 the_done a b o e f = cc
 
 -- a round of one ply or none asks once
-pub asks_once : {S : Type 0} (made : S → List Entry → S → Type 0) (old new : S) (q : Board) (w : Color) (d units : ℕ) (reply : Probe) (result : Result RoundAnswer NoMemory) → made old (probe_entry (key_of q w) reply ∷ []) new → d ≤ 1 → ((a : RoundAnswer) → FollowsProbe d reply a units) → RootSearches made old new q w d units result
+pub asks_once : {S : Type 0} (made : S → List Entry → S → Type 0) (old new : S) (q : Board) (w : Color) (d units : ℕ) (reply : Probe) (result : Result RoundAnswer NoMemory) → made old (probe_entry (key_of q w) reply ∷ []) new → d ≤ 1 → ((a : RoundAnswer) → result ≡ Ok a → FollowsProbe q w d reply a units) → RootSearches made old new q w d units result
 unfolding BeginsWithProbe
 asks_once made old new q w d units reply result entered few follows =
     let first = probe_entry (key_of q w) reply in
@@ -225,7 +225,7 @@ asks_once made old new q w d units reply result entered few follows =
       entries = first ∷ [];
       entered = entered;
       searched = λ same. not_asked (first ∷ []) q w d few;
-      first = (reply, [], refl, (λ a same. follows a));
+      first = (reply, [], refl, follows);
     }
 
 -- the calls of a search are those of its round
@@ -242,7 +242,7 @@ round_of_search made old new q w d units inner result h ends =
       entered = subst M begins.2 h.entered;
       follows = λ done same. (
           let e = ends done same in
-          let U : ℕ → Type 0 = λ n. FollowsProbe d begins.0 done.round n in
+          let U : ℕ → Type 0 = λ n. FollowsProbe q w d begins.0 done.round n in
           subst U (sym e.1) (begins.3 done.round e.0));
       searched = λ done same none. subst E begins.2 (h.searched ((ends done same).0 ∙ ap Ok none));
     }

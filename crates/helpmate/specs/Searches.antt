@@ -29,7 +29,7 @@ Expands made old new q winner depth result =
 unfoldable pub BeginsWithProbe : List Entry → Board → Color → ℕ → ℕ → Result RoundAnswer NoMemory → Type 0
 BeginsWithProbe entries q winner depth units result =
     (reply : Probe) × (rest : List Entry) × (entries ≡ probe_entry (key_of q winner) reply ∷ rest)
-    × ((answer : RoundAnswer) → result ≡ Ok answer → FollowsProbe depth reply answer units)
+    × ((answer : RoundAnswer) → result ≡ Ok answer → FollowsProbe q winner depth reply answer units)
 
 -- The calls of a search.
 pub record Searches {S : Type 0} (made : S → List Entry → S → Type 0) (old new : S) (q : Board) (winner : Color) (depth units : ℕ) (result : Result RoundAnswer NoMemory) : Type 0 where

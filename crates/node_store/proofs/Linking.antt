@@ -105,9 +105,6 @@ module _ (heads : List Head) (links : List ℕ) where
     pub front_some : (here.count ≡ 0 → ⊥) → Some here.front ≡ front_of (list_at (lists_of heads links) b)
     front_some some = sym (ap front_of (list_some some))
 
-    pub used : (here.count ≡ 0 → ⊥) → list_at (lists_of heads links) b ≡ [] → ⊥
-    used some none = let is = list_some some in cc
-
     pub take_none : here.count ≡ 0 → lists_of heads links ≡ take_from (lists_of heads links) b
     take_none none =
         let empty = list_none none in

@@ -1,6 +1,6 @@
 //! 64 lists of names, linked by index: each list has its front, and each name the one that follows it.
 
-ghost use Rattle.std.specs.Prelude.{◌≡◌, ◌≢◌, ◌+◌, ◌<◌, ◌≤◌, ℕ, max, [], replicate, OnOk, OnErr, IfSome, IfNone};
+ghost use Rattle.std.specs.Prelude.{◌≡◌, ◌≢◌, ◌+◌, ◌<◌, ◌≤◌, ℕ, max, [], replicate, IsOk, OnOk, OnErr, IfSome, IfNone};
 ghost use Rattle.node_store.specs.NameLists.{list_at, Has, AreBelow, put, front_of, take_from};
 ghost use Rattle.node_store.specs.Chained.{AreChained};
 
@@ -63,13 +63,14 @@ impl Chains {
         let _links = &self.links;
     }
 
-    /// Makes room for more names. On a refusal nothing changes.
+    /// Makes room for more names. Where it was made ready already, it is never refused; on a refusal nothing changes.
     pub fn reserve(&mut self, more: u32) -> Result<(), NoMemory>
         ensures lists { self.new.lists ≡ self.old.lists }
         ensures slots { self.new.slots ≡ self.old.slots }
         ensures ok { OnOk result (more ≤ self.new.spare) }
         ensures spare { OnOk result (self.new.spare ≡ max self.old.spare more) }
         ensures room { self.old.spare ≤ self.new.spare }
+        ensures succeeds { more ≤ self.old.spare → IsOk result }
         ensures err { OnErr result (self.new ≡ self.old) }
     {
         if more <= self.ready {
@@ -108,20 +109,6 @@ impl Chains {
         } else {
             Some(head.front)
         }
-    }
-
-    /// The first list that has a name.
-    pub fn first_used(&self) -> Option<u8>
-        ensures found { IfSome result (λ b. (b < 64) × (list_at self.now.lists b ≢ [])) }
-        ensures before { IfSome result (λ b. (k : ℕ) → k < b → list_at self.now.lists k ≡ []) }
-        ensures none { IfNone result ((k : ℕ) → list_at self.now.lists k ≡ []) }
-    {
-        for bucket in 0..64u8 {
-            if self.heads[bucket as usize].count > 0 {
-                return Some(bucket);
-            }
-        }
-        None
     }
 
     /// Puts a name that stands in no list in front of a list of smaller names.
@@ -171,8 +158,8 @@ impl Chains {
         self.front(bucket)
     }
 
-    /// The first list that has a name, by the front of each in turn.
-    pub fn first_used_by_steps<L: Ledger>(&self, steps: &mut Steps<L>) -> Option<u8>
+    /// The first list that has a name, by the front of each in turn, each of which is one step.
+    pub fn first_used<L: Ledger>(&self, steps: &mut Steps<L>) -> Option<u8>
         ensures found { IfSome result (λ b. (b < 64) × (list_at self.now.lists b ≢ [])) }
         ensures before { IfSome result (λ b. (k : ℕ) → k < b → list_at self.now.lists k ≡ []) }
         ensures none { IfNone result ((k : ℕ) → list_at self.now.lists k ≡ []) }

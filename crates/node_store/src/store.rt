@@ -1,8 +1,8 @@
 //! The positions of an exploration and the names of those that wait.
 
-ghost use Rattle.std.specs.Prelude.{◌≡◌, ◌+◌, ◌-◌, ◌<◌, ◌≤◌, ℕ, max, [], ◌∷◌, ◌++◌, false, true, None, Some, length, replicate, slice_get, IfSome, IfNone, IfOk, OnOk, OnErr};
+ghost use Rattle.std.specs.Prelude.{◌≡◌, ◌+◌, ◌-◌, ◌<◌, ◌≤◌, ℕ, max, [], ◌∷◌, ◌++◌, false, true, None, Some, length, replicate, slice_get, IfSome, IfNone, IfOk, IsOk, OnOk, OnErr};
 ghost use Rattle.cha_board.specs.Board.{Board};
-ghost use Rattle.node_store.specs.NameLists.{list_at, Has, put, first_name, without_first};
+ghost use Rattle.node_store.specs.NameLists.{list_at, Has, put};
 ghost use Rattle.node_store.specs.Nodes.{leaves, origins, mark, IsAt, IsNew, IsReached};
 ghost use Rattle.node_store.specs.Graphs.{IsStore, HasOrigin};
 
@@ -23,7 +23,7 @@ use std::sync::ledger::Ledger;
 #[derive(Drop)]
 pub struct Store {
     nodes: IndexMap<Spot, Place>,
-    waiting: Chains,
+    pub(crate) waiting: Chains,
 }
 
 impl Model for Store {
@@ -127,13 +127,14 @@ impl Store {
         }
     }
 
-    /// Makes room ready for so many more nodes, unless it is. On a refusal nothing changes.
+    /// Makes room ready for so many more nodes, unless it is, and then it is never refused. On a refusal nothing changes.
     pub fn reserve(&mut self, more: u32) -> Result<(), NoMemory>
         ensures nodes { self.new.nodes ≡ self.old.nodes }
         ensures waiting { self.new.waiting ≡ self.old.waiting }
         ensures ok { OnOk result (more ≤ self.new.spare) }
         ensures spare { OnOk result (self.new.spare ≡ max self.old.spare more) }
         ensures room { self.old.spare ≤ self.new.spare }
+        ensures succeeds { more ≤ self.old.spare → IsOk result }
         ensures err { OnErr result (self.new ≡ self.old) }
     {
         // The names count what is ready, so they come last.
@@ -183,6 +184,7 @@ impl Store {
         ensures nodes { OnOk result (self.new.nodes ≡ self.old.nodes ++ record { position = position.now; origin = Some (record { parent = parent; by = by }); leaf = false } ∷ []) }
         ensures waiting { OnOk result (self.new.waiting ≡ put self.old.waiting bucket (length self.old.nodes)) }
         ensures spare { OnOk result (self.new.spare ≡ self.old.spare - 1) }
+        ensures succeeds { 1 ≤ self.old.spare → IsOk result }
         ensures err { OnErr result (self.new ≡ self.old) }
     {
         self.known();
@@ -201,26 +203,11 @@ impl Store {
         ensures nodes { OnOk result (self.new.nodes ≡ self.old.nodes ++ record { position = position.now; origin = Some (record { parent = parent; by = by }); leaf = true } ∷ []) }
         ensures waiting { self.new.waiting ≡ self.old.waiting }
         ensures spare { OnOk result (self.new.spare ≡ self.old.spare - 1) }
+        ensures succeeds { 1 ≤ self.old.spare → IsOk result }
         ensures err { OnErr result (self.new ≡ self.old) }
     {
         self.reserve(1)?;
         Ok(self.insert(position, Origin { parent, by }, true))
-    }
-
-    /// Takes the name that was added last of the first list that has one. `None` where none waits.
-    pub fn pop(&mut self) -> Option<u32>
-        ensures name { result ≡ first_name self.old.waiting }
-        ensures waiting { self.new.waiting ≡ without_first self.old.waiting }
-        ensures nodes { self.new.nodes ≡ self.old.nodes }
-        ensures spare { self.new.spare ≡ self.old.spare }
-        ensures within { IfSome result (λ name. name < length self.new.nodes) }
-        ensures inner { IfSome result (λ name. slice_get (leaves self.new.nodes) name ≡ Some false) }
-        ensures waited { IfSome result (λ name. (b : ℕ) → Has (list_at self.new.waiting b) name → ⊥) }
-    {
-        match self.waiting.first_used() {
-            None => None,
-            Some(bucket) => self.waiting.take(bucket),
-        }
     }
 
     /// Marks a node that does not wait as a leaf.
@@ -246,24 +233,6 @@ impl Store {
         match self.nodes.get_index(name as usize) {
             Some((_, place)) => place.origin,
             None => unreachable!(),
-        }
-    }
-
-    /// What `pop` does, with the steps counted: the front of each list up to the one that has a name, and the name taken.
-    pub fn pop_counted<L: Ledger>(&mut self, steps: &mut Steps<L>) -> Option<u32>
-        ensures name { result ≡ first_name self.old.waiting }
-        ensures waiting { self.new.waiting ≡ without_first self.old.waiting }
-        ensures nodes { self.new.nodes ≡ self.old.nodes }
-        ensures spare { self.new.spare ≡ self.old.spare }
-        ensures within { IfSome result (λ name. name < length self.new.nodes) }
-        ensures inner { IfSome result (λ name. slice_get (leaves self.new.nodes) name ≡ Some false) }
-        ensures waited { IfSome result (λ name. (b : ℕ) → Has (list_at self.new.waiting b) name → ⊥) }
-        ensures cost { IfSome result (λ name. (b : ℕ) → Has (list_at self.old.waiting b) name → steps.new ≤ steps.old + b + 2) }
-        ensures whole_cost { IfNone result (steps.new ≤ steps.old + 64) }
-    {
-        match self.waiting.first_used_by_steps(steps) {
-            None => None,
-            Some(bucket) => self.waiting.unlink(bucket, steps),
         }
     }
 

@@ -18,7 +18,7 @@ use Rattle.shard_table.specs.declared.table.TablePass.{TablePass}
 use Rattle.root_workers.specs.declared.task.Task.{Task}
 use Rattle.root_workers.specs.declared.work.Work.{Work}
 use Rattle.root_workers.specs.declared.work.Worker.{Worker}
-use Rattle.root_workers.specs.declared.answers.RoundsDone.{RoundsDone}
+use Rattle.root_workers.specs.declared.answers.RoundsEnd.{RoundsEnd}
 use Rattle.root_workers.specs.RoundAnswers.{RoundsCalls}
 use Rattle.root_workers.specs.Shares.{IsShare, ShareCalls, AllGrow}
 use Rattle.root_workers.specs.Crews.{IsCrew, CrewMakes, LeavesWork, WorkerDone}
@@ -174,7 +174,7 @@ module _ (table : Table) (task : Task) (moves : List Move) where
       (ap length b ∙ same ∙ ap length is, subst Q (sym b) (subst P is done))
 
 -- the calls of the rounds with one place are those with another
-pub rounds_seen : {S T : Type 0} (made : S → List Entry → S → Type 0) (made_by : ℕ → S → List Entry → S → Type 0) (seen : T → List Entry → T → Type 0) (seen_by : ℕ → T → List Entry → T → Type 0) (count : ℕ) (a b : S) (x y : T) (q : Board) (w : Color) (limits : Bounds) (result : Result RoundsDone NoMemory)
+pub rounds_seen : {S T : Type 0} (made : S → List Entry → S → Type 0) (made_by : ℕ → S → List Entry → S → Type 0) (seen : T → List Entry → T → Type 0) (seen_by : ℕ → T → List Entry → T → Type 0) (count : ℕ) (a b : S) (x y : T) (q : Board) (w : Color) (limits : Bounds) (result : Result RoundsEnd NoMemory)
     → ((xs : List Entry) → made a xs b → seen x xs y) → ((i : ℕ) (xs : List Entry) → made_by i a xs b → seen_by i x xs y)
     → RoundsCalls made made_by count a b q w limits result → RoundsCalls seen seen_by count x y q w limits result
 unfolding AllGrow
@@ -184,6 +184,6 @@ rounds_seen made made_by seen seen_by count a b x y q w limits result lift lift_
   entered = lift _ calls.entered;
   follows = calls.follows;
   stores = calls.stores;
-  searched = λ done d is end none i m at. (let s = calls.searched done d is end none i m at in (s.0, lift_by (i % count) s.0 s.1, s.2));
+  searched = λ d is none i m at. (let s = calls.searched d is none i m at in (s.0, lift_by (i % count) s.0 s.1, s.2));
   grows = λ i less. (let g = calls.grows i less in (g.0, lift_by i g.0 g.1));
 }

@@ -1,5 +1,5 @@
 -- What the rounds answer, and their calls from the first to the last.
-use Rattle.std.proofs.Common.{◌≡◌, ℕ, ◌-◌, ◌%◌, ◌<◌, ◌≤◌, ◌⊎◌, List, [], ◌∷◌, ◌++◌, length, Option, Some, None, Result, Ok, Err, IfOk, inl, inr, refl, sym, ◌∙◌, ap, subst, arith}
+use Rattle.std.proofs.Common.{◌≡◌, ℕ, ◌-◌, ◌%◌, ◌<◌, ◌≤◌, ◌⊎◌, List, [], ◌∷◌, ◌++◌, length, Option, Some, None, Result, Ok, Err, IfOk, inl, inr, refl, sym, ap, subst, arith}
 use Rattle.std.specs.List.{Contains, slice_get}
 use Rattle.std.proofs.Math.Nat.{mod-lt}
 use Rattle.std.proofs.lemmas.Bool.{cases_lt}
@@ -30,11 +30,10 @@ use Rattle.root_workers.specs.declared.task.Task.{Task}
 use Rattle.root_workers.specs.declared.work.Work.{Work}
 use Rattle.root_workers.specs.declared.answers.RoundsEnd.{RoundsEnd}
 use Rattle.root_workers.specs.declared.answers.RoundsEnd.TheVariants.{Mate, NoneWithin}
-use Rattle.root_workers.specs.declared.answers.RoundsDone.{RoundsDone}
 use Rattle.root_workers.specs.Shares.{IsShare, AreSharesSearched, ShareCalls, AllGrow}
 use Rattle.root_workers.specs.RoundAnswers.{IsMateEnd, IsEnd, IsAmple, IsDecidedEnd, FollowsFirst, IsUndecided, HasEndStore, RoundsCalls, claim_of}
 use Rattle.root_workers.specs.Deepens.{plies_of, IsFrom, DeepenCalls, KeepCalls, KeptCalls}
-use Rattle.root_workers.proofs.Going.{the_done, none_depth}
+use Rattle.root_workers.proofs.Going.{the_end, none_depth}
 
 -- lines of fewer moves are lines of at most more
 lines_up : (q : Board) (d e n : ℕ) → d ≤ e → HasLines q d n → HasLines q e n
@@ -53,16 +52,16 @@ ample_mate q w limits (NoneWithin d) e line ample mates short =
     let same = to_limit q limits d ample e.2 e.3 (cases_lt d limits.depth) in
     absurd (e.0 line (omega (arith, same, short)) mates)
 
-pub finds : (q : Board) (w : Color) (limits : Bounds) (result : Result RoundsDone NoMemory) → IfOk result (λ (done : RoundsDone). IsEnd q w limits done.end) → IfOk result (λ (done : RoundsDone). (line : List Move) → IsAmple q limits → IsMatingLine q w line → length line ≤ limits.depth → IsMateEnd done.end)
-finds q w limits (Ok done) e = ample_mate q w limits done.end e
+pub finds : (q : Board) (w : Color) (limits : Bounds) (result : Result RoundsEnd NoMemory) → IfOk result (λ (end : RoundsEnd). IsEnd q w limits end) → IfOk result (λ (end : RoundsEnd). (line : List Move) → IsAmple q limits → IsMatingLine q w line → length line ≤ limits.depth → IsMateEnd end)
+finds q w limits (Ok end) e = ample_mate q w limits end e
 finds q w limits (Err refused) e = tt
 
 ample_none : (q : Board) (w : Color) (limits : Bounds) (end : RoundsEnd) → IsEnd q w limits end → IsAmple q limits → IsUnwinnable q w → end ≡ NoneWithin limits.depth
 ample_none q w limits (Mate found) e ample none = absurd (none found e.0)
 ample_none q w limits (NoneWithin d) e ample none = ap NoneWithin (to_limit q limits d ample e.2 e.3 (cases_lt d limits.depth))
 
-pub finds_none : (q : Board) (w : Color) (limits : Bounds) (result : Result RoundsDone NoMemory) → IfOk result (λ (done : RoundsDone). IsEnd q w limits done.end) → IfOk result (λ (done : RoundsDone). IsAmple q limits → IsUnwinnable q w → done.end ≡ NoneWithin limits.depth)
-finds_none q w limits (Ok done) e = ample_none q w limits done.end e
+pub finds_none : (q : Board) (w : Color) (limits : Bounds) (result : Result RoundsEnd NoMemory) → IfOk result (λ (end : RoundsEnd). IsEnd q w limits end) → IfOk result (λ (end : RoundsEnd). IsAmple q limits → IsUnwinnable q w → end ≡ NoneWithin limits.depth)
+finds_none q w limits (Ok end) e = ample_none q w limits end e
 finds_none q w limits (Err refused) e = tt
 
 some_none : {A : Type 0} (a : A) (o : Option A) → o ≡ Some a → o ≡ None → ⊥
@@ -76,62 +75,61 @@ found_first q w reply rest row d n is fact few = (row, n, few, fact, Contains-co
 -- the rounds that a found fact decides: there is no mate
 pub decided_none : {S : Type 0} (made : S → List Entry → S → Type 0) (made_by : ℕ → S → List Entry → S → Type 0) (count : ℕ) (old new : S) (q : Board) (w : Color) (limits : Bounds) (reply : Probe) (row : Claim) (depth : ℕ)
     → made old (probe_entry (key_of q w) reply ∷ []) new → AllGrow made_by old new count → reply ≡ Found row → decided_by depth row.fact ≡ Some NoneAnswer → depth ≡ limits.depth
-    → RoundsCalls made made_by count old new q w limits (Ok (record { end = NoneWithin depth; units = 0 }))
+    → RoundsCalls made made_by count old new q w limits (Ok (NoneWithin depth))
 decided_none made made_by count old new q w limits reply row depth entered grow is decided same =
-    let one : RoundsDone = record { end = NoneWithin depth; units = 0 } in
+    let one : RoundsEnd = NoneWithin depth in
     let dec : decided_by limits.depth row.fact ≡ Some NoneAnswer = subst (λ (n : ℕ). decided_by n row.fact ≡ Some NoneAnswer) same decided in
     record {
       reply = reply;
       rest = [];
       entered = entered;
-      follows = λ done ends. subst (λ (x : RoundsDone). FollowsFirst limits.depth reply x) (the_done one done (Ok one) refl ends)
-          (subst (λ (p : Probe). FollowsFirst limits.depth p one) (sym is) (λ answer says. (
+      follows = λ end ends. subst (λ (x : RoundsEnd). FollowsFirst limits.depth reply [] x) (the_end one end (Ok one) refl ends)
+          (subst (λ (p : Probe). FollowsFirst limits.depth p [] one) (sym is) (λ answer says. (
             subst (λ (a : RoundAnswer). IsDecidedEnd limits.depth a (NoneWithin depth)) (the_same NoneAnswer answer (decided_by limits.depth row.fact) dec says) (ap NoneWithin same),
             refl,
           )));
-      stores = λ done ends und. absurd (some_none NoneAnswer (decided_by limits.depth row.fact) dec (subst (λ (p : Probe). IsUndecided limits.depth p) is und));
-      searched = λ done d ends end none i m at. (
+      stores = λ end ends und. absurd (some_none NoneAnswer (decided_by limits.depth row.fact) dec (subst (λ (p : Probe). IsUndecided limits.depth p) is und));
+      searched = λ d ends none i m at. (
           let s = says_none depth row.fact decided in
-          let e = ap (λ (x : RoundsDone). x.end) (the_done one done (Ok one) refl ends) in
-          let f : depth ≡ d = none_depth depth d (e ∙ end) in
+          let f : depth ≡ d = none_depth depth d (the_end one (NoneWithin d) (Ok one) refl ends) in
           let few = s.1 in
           absurd (none (found_first q w reply [] row d s.0 is s.2 (omega (arith, few, f)))));
       grows = grow;
     }
 
-follows_none : (depth : ℕ) (reply : Probe) (done : RoundsDone) → IsUndecided depth reply → FollowsFirst depth reply done
-follows_none depth Miss done und = tt
-follows_none depth (Found row) done und = λ answer says. absurd (some_none answer (decided_by depth row.fact) says und)
+follows_none : (depth : ℕ) (reply : Probe) (rest : List Entry) (end : RoundsEnd) → IsUndecided depth reply → FollowsFirst depth reply rest end
+follows_none depth Miss rest end und = tt
+follows_none depth (Found row) rest end und = λ answer says. absurd (some_none answer (decided_by depth row.fact) says und)
 
-ok_holds : (P : RoundsDone → Type 0) (result : Result RoundsDone NoMemory) (done : RoundsDone) → IfOk result P → result ≡ Ok done → P done
-ok_holds P result done holds is = subst (λ (r : Result RoundsDone NoMemory). IfOk r P) is holds
+ok_holds : (P : RoundsEnd → Type 0) (result : Result RoundsEnd NoMemory) (end : RoundsEnd) → IfOk result P → result ≡ Ok end → P end
+ok_holds P result end holds is = subst (λ (r : Result RoundsEnd NoMemory). IfOk r P) is holds
 
-two_least : (q : Board) (w : Color) (limits : Bounds) (d : ℕ) (end : RoundsEnd) → IsEnd q w limits end → end ≡ NoneWithin d → 2 ≤ d
-two_least q w limits d end holds is = (subst (λ (x : RoundsEnd). IsEnd q w limits x) is holds).1
+two_least : (q : Board) (w : Color) (limits : Bounds) (d : ℕ) → IsEnd q w limits (NoneWithin d) → 2 ≤ d
+two_least q w limits d holds = holds.1
 
 one_searched : (entries : List Entry) (q : Board) (w : Color) (d : ℕ) (moves : List Move) (number count i : ℕ) (m : Move) → AreSharesSearched entries q w d moves number count → slice_get moves i ≡ Some m → i % count ≡ number → IsSearched entries (after q m) w d
 unfolding AreSharesSearched
 one_searched entries q w d moves number count i m searched at own = searched i m at own
 
 -- the rounds after a first probe that does not decide
-pub rounds_calls : {S : Type 0} (made : S → List Entry → S → Type 0) (made_by : ℕ → S → List Entry → S → Type 0) (count other from : ℕ) (old mid new : S) (q : Board) (w : Color) (limits : Bounds) (reply : Probe) (result : Result RoundsDone NoMemory)
+pub rounds_calls : {S : Type 0} (made : S → List Entry → S → Type 0) (made_by : ℕ → S → List Entry → S → Type 0) (count other from : ℕ) (old mid new : S) (q : Board) (w : Color) (limits : Bounds) (reply : Probe) (result : Result RoundsEnd NoMemory)
     → ((a b c : S) (xs ys : List Entry) → made a xs b → made b ys c → made a (xs ++ ys) c)
     → ((i : ℕ) (a b c : S) (xs ys : List Entry) → made_by i a xs b → made_by i b ys c → made_by i a (xs ++ ys) c)
     → 0 < count → other ≡ count → made old (probe_entry (key_of q w) reply ∷ []) mid → AllGrow made_by old mid count → IsUndecided limits.depth reply
     → ((d : ℕ) → d ≤ from → 2 ≤ d → (rest : List Entry) → HasFound (probe_entry (key_of q w) reply ∷ rest) q w d)
     → DeepenCalls made_by mid new q w from other result → KeptCalls made mid new q w result
-    → IfOk result (λ (done : RoundsDone). IsEnd q w limits done.end) → IfOk result (λ (done : RoundsDone). IsFrom from done.end) → IfOk result (λ (done : RoundsDone). 0 < done.units)
+    → IfOk result (λ (end : RoundsEnd). IsEnd q w limits end) → IfOk result (λ (end : RoundsEnd). IsFrom from end)
     → RoundsCalls made made_by count old new q w limits result
 unfolding DeepenCalls KeptCalls AllGrow
-rounds_calls made made_by count other from old mid new q w limits reply result both both_by some same entered grow und known deepened kept ends least units =
+rounds_calls made made_by count other from old mid new q w limits reply result both both_by some same entered grow und known deepened kept ends least =
     let first = probe_entry (key_of q w) reply in
     record {
       reply = reply;
       rest = kept.0;
       entered = both old mid new (first ∷ []) kept.0 entered kept.1;
-      follows = λ done is. follows_none limits.depth reply done und;
-      stores = λ done is u. (ok_holds (λ (x : RoundsDone). 0 < x.units) result done units is, kept.2 done is);
-      searched = λ done d is end none i m at. (
+      follows = λ end is. follows_none limits.depth reply kept.0 end und;
+      stores = λ end is u. kept.2 end is;
+      searched = λ d is none i m at. (
           let small : i % count < count = mod-lt i some in
           let g = grow (i % count) small in
           let c = deepened (i % count) (omega (arith, small, same)) in
@@ -139,9 +137,9 @@ rounds_calls made made_by count other from old mid new q w limits reply result b
             | inl less ↦ (
               g.0 ++ c.0,
               both_by (i % count) old mid new g.0 c.0 g.1 c.1,
-              searched_more c.0 (g.0 ++ c.0) (back_within g.0 c.0) (after q m) w (d - 1) (one_searched c.0 q w (d - 1) (legal q) (i % count) other i m (c.2 done d is end less) at (ap (λ (n : ℕ). i % n) same)),
+              searched_more c.0 (g.0 ++ c.0) (back_within g.0 c.0) (after q m) w (d - 1) (one_searched c.0 q w (d - 1) (legal q) (i % count) other i m (c.2 d is less) at (ap (λ (n : ℕ). i % n) same)),
             )
-            | inr few ↦ absurd (none (known d few (two_least q w limits d done.end (ok_holds (λ (x : RoundsDone). IsEnd q w limits x.end) result done ends is) end) kept.0))
+            | inr few ↦ absurd (none (known d few (two_least q w limits d (ok_holds (λ (x : RoundsEnd). IsEnd q w limits x) result (NoneWithin d) ends is)) kept.0))
           ]);
       grows = λ i less. (
           let g = grow i less in
@@ -167,16 +165,16 @@ pub undecided_missed : (depth : ℕ) (reply : Probe) → reply ≡ Miss → IsUn
 undecided_missed depth reply is = subst (λ (p : Probe). IsUndecided depth p) (sym is) tt
 
 -- the calls of the first worker where nothing is kept
-pub kept_nothing : {S : Type 0} (made : S → List Entry → S → Type 0) (made_by : ℕ → S → List Entry → S → Type 0) (old new : S) (q : Board) (w : Color) (from count : ℕ) (inner result : Result RoundsDone NoMemory)
-    → ((a b : S) (xs : List Entry) → made_by 0 a xs b → made a xs b) → DeepenCalls made_by old new q w from count inner → 0 < count → ((done : RoundsDone) → result ≡ Ok done → ⊥) → KeptCalls made old new q w result
+pub kept_nothing : {S : Type 0} (made : S → List Entry → S → Type 0) (made_by : ℕ → S → List Entry → S → Type 0) (old new : S) (q : Board) (w : Color) (from count : ℕ) (inner result : Result RoundsEnd NoMemory)
+    → ((a b : S) (xs : List Entry) → made_by 0 a xs b → made a xs b) → DeepenCalls made_by old new q w from count inner → 0 < count → ((end : RoundsEnd) → result ≡ Ok end → ⊥) → KeptCalls made old new q w result
 unfolding DeepenCalls KeptCalls
 kept_nothing made made_by old new q w from count inner result lower deepened some refused =
     let d = deepened 0 some in
     (d.0, lower old new d.0 d.1, (λ done is. absurd (refused done is)))
 
-pub kept_end : {S : Type 0} (made : S → List Entry → S → Type 0) (made_by : ℕ → S → List Entry → S → Type 0) (old mid new : S) (q : Board) (w : Color) (from count : ℕ) (inner result : Result RoundsDone NoMemory) (end : RoundsEnd)
+pub kept_end : {S : Type 0} (made : S → List Entry → S → Type 0) (made_by : ℕ → S → List Entry → S → Type 0) (old mid new : S) (q : Board) (w : Color) (from count : ℕ) (inner result : Result RoundsEnd NoMemory) (end : RoundsEnd)
     → ((a b c : S) (xs ys : List Entry) → made a xs b → made b ys c → made a (xs ++ ys) c) → ((a b : S) (xs : List Entry) → made_by 0 a xs b → made a xs b)
-    → DeepenCalls made_by old mid q w from count inner → 0 < count → KeepCalls made mid new (claim_of q w end) → ((done : RoundsDone) → result ≡ Ok done → end ≡ done.end) → KeptCalls made old new q w result
+    → DeepenCalls made_by old mid q w from count inner → 0 < count → KeepCalls made mid new (claim_of q w end) → ((e : RoundsEnd) → result ≡ Ok e → end ≡ e) → KeptCalls made old new q w result
 unfolding DeepenCalls KeepCalls KeptCalls HasEndStore
 kept_end made made_by old mid new q w from count inner result end both lower deepened some keep ends =
     let d = deepened 0 some in
@@ -198,15 +196,15 @@ unfolding AreSharesSearched
 shares_front xs ys q w d moves number count searched i m at own = searched_more xs (xs ++ ys) (front_within xs ys) (after q m) w d (searched i m at own)
 
 -- the calls of the rounds and of the one that keeps their answer
-pub deepened_kept : {S : Type 0} (made : S → List Entry → S → Type 0) (made_by : ℕ → S → List Entry → S → Type 0) (count : S → ℕ) (old mid new : S) (q : Board) (w : Color) (from all : ℕ) (inner result : Result RoundsDone NoMemory) (claim : Claim)
+pub deepened_kept : {S : Type 0} (made : S → List Entry → S → Type 0) (made_by : ℕ → S → List Entry → S → Type 0) (count : S → ℕ) (old mid new : S) (q : Board) (w : Color) (from all : ℕ) (inner result : Result RoundsEnd NoMemory) (claim : Claim)
     → ((i : ℕ) (a b c : S) (xs ys : List Entry) → made_by i a xs b → made_by i b ys c → made_by i a (xs ++ ys) c) → ((a b : S) (xs : List Entry) → made a xs b → made_by 0 a xs b)
     → ((i : ℕ) (a b : S) (xs : List Entry) → made_by i a xs b → AllGrow made_by a b (count a))
-    → DeepenCalls made_by old mid q w from all inner → KeepCalls made mid new claim → count mid ≡ all → ((done : RoundsDone) → result ≡ Ok done → inner ≡ Ok done) → DeepenCalls made_by old new q w from all result
+    → DeepenCalls made_by old mid q w from all inner → KeepCalls made mid new claim → count mid ≡ all → ((end : RoundsEnd) → result ≡ Ok end → inner ≡ Ok end) → DeepenCalls made_by old new q w from all result
 unfolding DeepenCalls KeepCalls AllGrow
 deepened_kept made made_by count old mid new q w from all inner result claim both lift grow deepened keep same ends i less =
     let d = deepened i less in
     let g = grow 0 mid new (store_entry claim keep.0 ∷ []) (lift mid new (store_entry claim keep.0 ∷ []) keep.1) i (omega (arith, less, same)) in
-    (d.0 ++ g.0, both i old mid new d.0 g.0 d.1 g.1, (λ done n is end more. shares_front d.0 g.0 q w (n - 1) (legal q) i all (d.2 done n (ends done is) end more)))
+    (d.0 ++ g.0, both i old mid new d.0 g.0 d.1 g.1, (λ n is more. shares_front d.0 g.0 q w (n - 1) (legal q) i all (d.2 n (ends (NoneWithin n) is) more)))
 
 -- one worker has all root moves
 pub one_share : (task : Task) (moves : List Move) (i : ℕ) (a b : Work) → IsShare task moves 0 1 a → i < 1 → b ≡ a → IsShare task moves i 1 b
@@ -225,6 +223,3 @@ pub one_grows : {S T : Type 0} (made : S → List Entry → S → Type 0) (lifte
     → ((i : ℕ) (entries : List Entry) → made a entries b → lifted i x entries y) → ShareCalls made a b task moves 0 1 u → AllGrow lifted x y count
 unfolding ShareCalls AllGrow
 one_grows made lifted a b x y task moves u count lift calls i less = (calls.0, lift i calls.0 calls.1)
-
-pub same_end : (a b : RoundsDone) → (let o : Result RoundsDone NoMemory = Ok a in o) ≡ Ok b → a.end ≡ b.end
-same_end a b is = ap (λ (x : RoundsDone). x.end) (the_done a b (Ok a) refl is)

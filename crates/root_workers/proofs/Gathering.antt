@@ -1,5 +1,5 @@
 -- What the works of a round come to.
-use Rattle.std.proofs.Common.{◌≡◌, ℕ, zero, suc, ◌+◌, ◌-◌, ◌%◌, ◌^◌, ◌<◌, ◌≤◌, ◌⊎◌, List, [], ◌∷◌, length, Option, Some, None, Result, Ok, inl, inr, refl, sym, ◌∙◌, ap, subst, arith}
+use Rattle.std.proofs.Common.{◌≡◌, ℕ, zero, suc, ◌+◌, ◌-◌, ◌%◌, ◌<◌, ◌≤◌, ◌⊎◌, Bool, true, false, List, [], ◌∷◌, length, Option, Some, None, Result, Ok, inl, inr, refl, sym, ◌∙◌, ap, subst, arith}
 use Rattle.std.specs.List.{Contains, slice_get}
 use Rattle.std.proofs.Math.Nat.{mod-lt}
 use Rattle.std.proofs.lemmas.Option.{slice_get-get_or, slice_get_within, same_Some}
@@ -116,9 +116,6 @@ no_mate_behind leaves task moves count some shares whole listed running (m ∷ r
 pub below_count : (i n count : ℕ) → i < n → n ≡ count → i < count
 below_count i n count less same = omega (arith, less, same)
 
-pub few_units : (leaves : ℕ → Work → Type 0) (task : Task) (moves : List Move) (count i : ℕ) (work : Work) → AreShares leaves task moves count → i < count → leaves i work → work.units ≤ 2 ^ 48
-few_units leaves task moves count i work shares inside left = (share_at leaves task moves count i work shares inside left).units
-
 pub whole_end : (leaves : ℕ → Work → Type 0) (n end count : ℕ) → AreWhole leaves n → end ≤ n → end ≡ count → AreWhole leaves count
 whole_end leaves n end count whole over same = whole_of leaves n count whole (omega (arith, over, same))
 
@@ -132,3 +129,34 @@ root_found task moves x mates = (mates.0, mates.1)
 
 pub same_mate_answer : (a b : List Move) → (let o : Result RoundAnswer NoMemory = Ok (Mate b) in o) ≡ Ok (Mate a) → a ≡ b
 same_mate_answer a b is = cc
+
+no_mate_lower : (o : Option RootMate) → IsNoHigher None o → o ≡ None
+no_mate_lower None h = refl
+no_mate_lower (Some x) h = absurd h
+
+only_true : (b : Bool) → (b ≡ false → ⊥) → b ≡ true
+only_true true not = refl
+only_true false not = absurd (not refl)
+
+-- a worker that met no mate and did not spend its allowance cleared all its root moves, or was refused memory
+pub refused_here : (work : Work) → IsNoHigher None work.mate → work.spent ≡ false → (IsWhole work → ⊥) → work.refused ≡ true
+refused_here work lower left not = only_true work.refused (λ e. not (no_mate_lower work.mate lower, left, e))
+
+-- each worker below a number has some of its allowance left
+unfoldable pub HaveLeft : (ℕ → Work → Type 0) → ℕ → Type 0
+HaveLeft leaves n = (i : ℕ) (work : Work) → i < n → leaves i work → work.spent ≡ false
+
+pub left_none : (leaves : ℕ → Work → Type 0) (n : ℕ) → n ≡ 0 → HaveLeft leaves n
+unfolding HaveLeft
+left_none leaves n none i work less left = absurd (omega (arith, none, less))
+
+pub left_more : (leaves : ℕ → Work → Type 0) (n : ℕ) (here : Work) → HaveLeft leaves n → ((work : Work) → leaves n work → work ≡ here) → here.spent ≡ false → HaveLeft leaves (n + 1)
+unfolding HaveLeft
+left_more leaves n here before only spent i work less left = elim (below_or_here i n less) [
+  | inl h ↦ before i work h left
+  | inr e ↦ (let same : work ≡ here = only work (subst (λ (k : ℕ). leaves k work) e left) in subst (λ (w : Work). w.spent ≡ false) (sym same) spent)
+]
+
+pub left_end : (leaves : ℕ → Work → Type 0) (n end count : ℕ) → HaveLeft leaves n → end ≤ n → end ≡ count → (i : ℕ) (work : Work) → i < count → leaves i work → work.spent ≡ false
+unfolding HaveLeft
+left_end leaves n end count before over same i work less left = before i work (omega (arith, over, same, less)) left

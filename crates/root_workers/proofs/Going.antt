@@ -1,5 +1,5 @@
 -- The rounds one after the other, and their calls.
-use Rattle.std.proofs.Common.{◌≡◌, ℕ, ◌+◌, ◌-◌, ◌<◌, ◌≤◌, List, [], ◌∷◌, ◌++◌, Some, Result, Ok, refl, sym, ◌∙◌, ap, subst, arith}
+use Rattle.std.proofs.Common.{◌≡◌, ℕ, ◌+◌, ◌-◌, ◌<◌, ◌≤◌, List, [], ◌∷◌, ◌++◌, Some, Result, Ok, refl, sym, subst, arith}
 use Rattle.cha_list.specs.declared.memory.NoMemory.{NoMemory}
 use Rattle.cha_board.specs.declared.men.Color.{Color}
 use Rattle.cha_board.specs.Board.{Board}
@@ -13,7 +13,7 @@ use Rattle.cha_fact.proofs.Searching.{Within, front_within, back_within, searche
 use Rattle.root_workers.specs.declared.task.Task.{Task}
 use Rattle.root_workers.specs.declared.work.Work.{Work}
 use Rattle.root_workers.specs.declared.answers.RoundsEnd.TheVariants.{Mate, NoneWithin}
-use Rattle.root_workers.specs.declared.answers.RoundsDone.{RoundsDone}
+use Rattle.root_workers.specs.declared.answers.RoundsEnd.{RoundsEnd}
 use Rattle.root_workers.specs.Shares.{IsShare, IsSpent, AreSharesSearched, ShareCalls, AllGrow}
 use Rattle.root_workers.specs.Gathers.{AreShares, AreWhole}
 use Rattle.root_workers.specs.Deepens.{WorkerCalls, CrewCalls, RoundSearches, DeepenCalls, KeepCalls}
@@ -57,37 +57,37 @@ round_more made_by old mid new q w from depth count other task both before here 
     (b.0 ++ h.0, both i old mid new b.0 h.0 b.1 h.1, (λ more. shares_within h.0 (b.0 ++ h.0) q w (depth + 1 - 1) (legal q) i count (back_within b.0 h.0) four))
 
 -- a round ends the rounds
-pub ends_rounds : {S : Type 0} (made_by : ℕ → S → List Entry → S → Type 0) (old mid new : S) (q : Board) (w : Color) (from depth count other : ℕ) (result : Result RoundsDone NoMemory)
+pub ends_rounds : {S : Type 0} (made_by : ℕ → S → List Entry → S → Type 0) (old mid new : S) (q : Board) (w : Color) (from depth count other : ℕ) (result : Result RoundsEnd NoMemory)
     → ((i : ℕ) (a b c : S) (xs ys : List Entry) → made_by i a xs b → made_by i b ys c → made_by i a (xs ++ ys) c)
-    → CrewCalls made_by old mid q w from depth count → AllGrow made_by mid new other → other ≡ count → ((done : RoundsDone) (d : ℕ) → result ≡ Ok done → done.end ≡ NoneWithin d → d ≡ depth) → DeepenCalls made_by old new q w from count result
+    → CrewCalls made_by old mid q w from depth count → AllGrow made_by mid new other → other ≡ count → ((d : ℕ) → result ≡ Ok (NoneWithin d) → d ≡ depth) → DeepenCalls made_by old new q w from count result
 unfolding CrewCalls WorkerCalls AllGrow DeepenCalls
 ends_rounds made_by old mid new q w from depth count other result both before grow same depths i less =
     let b = before i less in
     let h = grow i (omega (arith, less, same)) in (
       b.0 ++ h.0,
       both i old mid new b.0 h.0 b.1 h.1,
-      (λ done d is end more.
-          let e = depths done d is end in
+      (λ d is more.
+          let e = depths d is in
           let P : ℕ → Type 0 = λ n. AreSharesSearched (b.0 ++ h.0) q w (n - 1) (legal q) i count in
           subst P (sym e) (shares_within b.0 (b.0 ++ h.0) q w (depth - 1) (legal q) i count (front_within b.0 h.0) (b.2 (omega (arith, more, e))))),
     )
 
 -- the last round is done
-pub last_round : {S : Type 0} (made_by : ℕ → S → List Entry → S → Type 0) (old new : S) (q : Board) (w : Color) (from depth count : ℕ) (result : Result RoundsDone NoMemory)
-    → CrewCalls made_by old new q w from depth count → ((done : RoundsDone) (d : ℕ) → result ≡ Ok done → done.end ≡ NoneWithin d → d ≡ depth) → DeepenCalls made_by old new q w from count result
+pub last_round : {S : Type 0} (made_by : ℕ → S → List Entry → S → Type 0) (old new : S) (q : Board) (w : Color) (from depth count : ℕ) (result : Result RoundsEnd NoMemory)
+    → CrewCalls made_by old new q w from depth count → ((d : ℕ) → result ≡ Ok (NoneWithin d) → d ≡ depth) → DeepenCalls made_by old new q w from count result
 unfolding CrewCalls WorkerCalls DeepenCalls
 last_round made_by old new q w from depth count result before depths i less =
     let b = before i less in (
       b.0,
       b.1,
-      (λ done d is end more.
-          let e = depths done d is end in
+      (λ d is more.
+          let e = depths d is in
           let P : ℕ → Type 0 = λ n. AreSharesSearched b.0 q w (n - 1) (legal q) i count in
           subst P (sym e) (b.2 (omega (arith, more, e)))),
     )
 
-pub the_done : (a b : RoundsDone) (o : Result RoundsDone NoMemory) → o ≡ Ok a → o ≡ Ok b → a ≡ b
-the_done a b o e f = cc
+pub the_end : (a b : RoundsEnd) (o : Result RoundsEnd NoMemory) → o ≡ Ok a → o ≡ Ok b → a ≡ b
+the_end a b o e f = cc
 
 pub none_depth : (d e : ℕ) → NoneWithin d ≡ NoneWithin e → d ≡ e
 none_depth d e same = cc
@@ -95,15 +95,11 @@ none_depth d e same = cc
 not_mate : (line : List Move) (d : ℕ) (P : Type 0) → Mate line ≡ NoneWithin d → P
 not_mate line d P same = cc
 
-pub depth_is : (depth units : ℕ) (done : RoundsDone) (d : ℕ) → (let o : Result RoundsDone NoMemory = Ok (record { end = NoneWithin depth; units = units }) in o) ≡ Ok done → done.end ≡ NoneWithin d → d ≡ depth
-depth_is depth units done d is end =
-    let e = the_done (record { end = NoneWithin depth; units = units }) done (Ok (record { end = NoneWithin depth; units = units })) refl is in
-    sym (none_depth depth d (ap (λ (x : RoundsDone). x.end) e ∙ end))
+pub depth_is : (depth d : ℕ) → (let o : Result RoundsEnd NoMemory = Ok (NoneWithin depth) in o) ≡ Ok (NoneWithin d) → d ≡ depth
+depth_is depth d is = sym (none_depth depth d (the_end (NoneWithin depth) (NoneWithin d) (Ok (NoneWithin depth)) refl is))
 
-pub mate_is_none : (line : List Move) (units : ℕ) (done : RoundsDone) (d depth : ℕ) → (let o : Result RoundsDone NoMemory = Ok (record { end = Mate line; units = units }) in o) ≡ Ok done → done.end ≡ NoneWithin d → d ≡ depth
-mate_is_none line units done d depth is end =
-    let e = the_done (record { end = Mate line; units = units }) done (Ok (record { end = Mate line; units = units })) refl is in
-    not_mate line d (d ≡ depth) (ap (λ (x : RoundsDone). x.end) e ∙ end)
+pub mate_is_none : (line : List Move) (d depth : ℕ) → (let o : Result RoundsEnd NoMemory = Ok (Mate line) in o) ≡ Ok (NoneWithin d) → d ≡ depth
+mate_is_none line d depth is = not_mate line d (d ≡ depth) (the_end (Mate line) (NoneWithin d) (Ok (Mate line)) refl is)
 
 pub keeps : {S : Type 0} (made : S → List Entry → S → Type 0) (old new : S) (row claim : Claim) (reply : Stored) → made old (store_entry row reply ∷ []) new → row ≡ claim → KeepCalls made old new claim
 unfolding KeepCalls

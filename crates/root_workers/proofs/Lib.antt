@@ -8,4 +8,5 @@ pub mod Knowing
 pub mod Crossing
 mod PassesTaken
 pub mod Partaking
+pub mod Refusing
 pub mod Staffing

@@ -1,5 +1,5 @@
 -- What workers did in a run, as one history at each shard.
-use Rattle.std.proofs.Common.{◌≡◌, ◌∙◌, ℕ, ◌+◌, ◌<◌, List, [], ◌∷◌, ◌++◌, length, slice_index_or, refl, sym, ap, subst, arith}
+use Rattle.std.proofs.Common.{◌≡◌, ◌∙◌, ℕ, ◌<◌, List, [], ◌∷◌, ◌++◌, length, slice_index_or, refl, sym, ap, subst, arith}
 use Rattle.std.proofs.lemmas.Option.{slice_get-get_or}
 use Rattle.turn_cell.specs.Histories.{IsLegalHistory}
 use Rattle.cha_fact.specs.Entries.{Entry}
@@ -11,7 +11,7 @@ use Rattle.shard_table.specs.declared.table.Table.{Table}
 use Rattle.shard_table.specs.declared.table.TablePass.{TablePass}
 use Rattle.root_workers.specs.declared.work.Worker.{Worker}
 use Rattle.root_workers.specs.Crews.{CrewMakes}
-use Rattle.root_workers.specs.Histories.{IsFront, IsOneHistory, EndsAsOne, TookPart, DidAsOne}
+use Rattle.root_workers.specs.Histories.{IsOneHistory, EndsAsOne, TookPart, DidAsOne}
 
 -- a pass that has seen and done nothing
 abbrev idle : ShardPass

@@ -1,5 +1,5 @@
 -- One worker's root moves, searched one after the other.
-use Rattle.std.proofs.Common.{◌≡◌, ℕ, zero, suc, ◌+◌, ◌-◌, ◌*◌, ◌%◌, ◌^◌, ◌<◌, ◌≤◌, Bool, true, false, IsNone, List, [], ◌∷◌, ◌++◌, length, get_or, take, Option, Some, None, Result, Ok, inl, inr, refl, sym, ◌∙◌, ap, subst, arith}
+use Rattle.std.proofs.Common.{◌≡◌, ℕ, zero, suc, ◌+◌, ◌-◌, ◌%◌, ◌<◌, ◌≤◌, Bool, true, false, IsNone, List, [], ◌∷◌, ◌++◌, length, get_or, take, Option, Some, None, Result, Ok, inl, inr, refl, sym, ◌∙◌, ap, subst, arith}
 use Rattle.std.specs.List.{Contains, slice_get}
 use Rattle.std.proofs.Math.Nat.{mod-eq_of_lt}
 use Rattle.std.proofs.lemmas.List.Elements.{Contains-append_left, Contains-push, Contains-push_cases}
@@ -29,13 +29,14 @@ use Rattle.root_workers.specs.Shares.{IsWhole, IsCleared, IsRootMate, IsSpent, I
 use Rattle.root_workers.specs.Gathers.{left_after}
 use Rattle.root_workers.proofs.Numbering.{before_or_here, next_own, none_below}
 
--- a worker has cleared its root moves below a number
-pub record IsBegun (task : Task) (moves : List Move) (number count index : ℕ) (work : Work) : Type 0 where
+-- a worker has cleared its root moves below a number, with so much of its allowance left as the units that it took leave
+pub record IsBegun (task : Task) (moves : List Move) (number count index : ℕ) (left : Option ℕ) (work : Work) : Type 0 where
   pub own : index % count ≡ number
   pub near : index < length moves + count
-  pub units : work.units ≤ index * 2 ^ 32
-  pub allowed : IsAllowed task.allowance work.units
-  pub lines : HasLinesFrom task.position (task.depth - 1) (take index moves) work.units
+  pub units : ℕ
+  pub allowed : IsAllowed task.allowance units
+  pub lines : HasLinesFrom task.position (task.depth - 1) (take index moves) units
+  pub remains : left ≡ left_after task.allowance units
   pub cleared : (i : ℕ) → Contains work.cleared.items i → (i < length moves) × (i % count ≡ number) × IsCleared task moves i
   pub below : (i : ℕ) → Contains work.cleared.items i → i < index
   pub once : AreDistinct work.cleared.items
@@ -82,15 +83,24 @@ more_allowed (Some most) left n u v before is here sum =
     let fewer : n ≤ most = before in
     omega arith
 
+left_both : (allowance left more : Option ℕ) (n u v : ℕ) → left ≡ left_after allowance n → more ≡ left_after left u → v ≡ n + u → more ≡ left_after allowance v
+left_both None left more n u v is next sum = next ∙ ap (λ o. left_after o u) is
+left_both (Some most) left more n u v is next sum = next ∙ ap (λ o. left_after o u) is ∙ ap Some (let e : most - n - u ≡ most - v = omega arith in e)
+
+left_first : (allowance : Option ℕ) → allowance ≡ left_after allowance 0
+left_first None = refl
+left_first (Some most) = ap Some (let e : most ≡ most - 0 = omega arith in e)
+
 -- nothing is done before a worker's first root move
-pub begun_first : (task : Task) (moves : List Move) (number count : ℕ) (work : Work) → number < count → work.cleared.items ≡ [] → work.units ≡ 0 → IsWhole work → IsBegun task moves number count number work
-begun_first task moves number count work few empty none clean =
+pub begun_first : (task : Task) (moves : List Move) (number count : ℕ) (work : Work) → number < count → work.cleared.items ≡ [] → IsWhole work → IsBegun task moves number count number task.allowance work
+begun_first task moves number count work few empty clean =
     let L : List ℕ → ℕ → Type 0 = λ xs i. Contains xs i in record {
       own = mod-eq_of_lt few;
       near = omega (arith, few);
-      units = (let e = none in omega arith);
-      allowed = none_allowed task.allowance work.units none;
-      lines = no_lines task.position (task.depth - 1) work.units (take number moves) none;
+      units = 0;
+      allowed = none_allowed task.allowance 0 refl;
+      lines = no_lines task.position (task.depth - 1) 0 (take number moves) refl;
+      remains = left_first task.allowance;
       cleared = λ i there. absurd (not_in_nothing i (subst (λ xs. L xs i) empty there));
       below = λ i there. absurd (not_in_nothing i (subst (λ xs. L xs i) empty there));
       once = subst (λ xs. AreDistinct xs) (sym empty) (none_apart ℕ);
@@ -99,10 +109,10 @@ begun_first task moves number count work few empty none clean =
     }
 
 -- the lines of one more root move
-pub lines_here : (task : Task) (moves : List Move) (number count index u v : ℕ) (m : Move) (work : Work) → IsBegun task moves number count index work → AreUnits (after task.position m) (task.depth - 1) u → index < length moves → m ≡ get_or moves index m → moves ≡ legal task.position → v ≡ work.units + u
+pub lines_here : (task : Task) (moves : List Move) (number count index u v : ℕ) (m : Move) (left : Option ℕ) (work : Work) (begun : IsBegun task moves number count index left work) → AreUnits (after task.position m) (task.depth - 1) u → index < length moves → m ≡ get_or moves index m → moves ≡ legal task.position → v ≡ begun.units + u
     → HasLinesFrom task.position (task.depth - 1) (take (index + 1) moves) v
-lines_here task moves number count index u v m work begun units inside at listed sum =
-    from_one_more task.position (task.depth - 1) work.units u v moves index m begun.lines units inside at listed sum
+lines_here task moves number count index u v m left work begun units inside at listed sum =
+    from_one_more task.position (task.depth - 1) begun.units u v moves index m begun.lines units inside at listed sum
 
 cleared_here : (task : Task) (moves : List Move) (index : ℕ) (m : Move) → index < length moves → m ≡ get_or moves index m → HasNoMateWithin (after task.position m) task.winner (task.depth - 1) → IsCleared task moves index
 unfolding IsCleared
@@ -111,18 +121,18 @@ cleared_here task moves index m inside at none k is =
     subst (λ (x : Move). HasNoMateWithin (after task.position x) task.winner (task.depth - 1)) e none
 
 -- one more root move is cleared
-pub begun_more : (task : Task) (moves : List Move) (number count index u : ℕ) (m : Move) (left : Option ℕ) (work new : Work) → IsBegun task moves number count index work → 0 < count → left ≡ left_after task.allowance work.units → IsAllowed left u
-    → AreUnits (after task.position m) (task.depth - 1) u → u < 2 ^ 32 → index < length moves → m ≡ get_or moves index m → moves ≡ legal task.position → HasNoMateWithin (after task.position m) task.winner (task.depth - 1)
-    → new.cleared.items ≡ work.cleared.items ++ index ∷ [] → new.units ≡ work.units + u → IsWhole new → IsBegun task moves number count (index + count) new
-begun_more task moves number count index u m left work new begun some is few units small inside at listed none pushed sum clean =
+pub begun_more : (task : Task) (moves : List Move) (number count index u : ℕ) (m : Move) (left more : Option ℕ) (work new : Work) → IsBegun task moves number count index left work → 0 < count → more ≡ left_after left u → IsAllowed left u
+    → AreUnits (after task.position m) (task.depth - 1) u → index < length moves → m ≡ get_or moves index m → moves ≡ legal task.position → HasNoMateWithin (after task.position m) task.winner (task.depth - 1)
+    → new.cleared.items ≡ work.cleared.items ++ index ∷ [] → IsWhole new → IsBegun task moves number count (index + count) more new
+begun_more task moves number count index u m left more work new begun some is few units inside at listed none pushed clean =
     let here : IsCleared task moves index = cleared_here task moves index m inside at none in
-    let before = begun.units in
     record {
       own = next_own index count number begun.own;
       near = omega (arith, inside);
-      units = omega arith;
-      allowed = more_allowed task.allowance left work.units u new.units begun.allowed is few sum;
-      lines = lines_more task.position (task.depth - 1) new.units (index + 1) (index + count) moves (omega (arith, some)) (lines_here task moves number count index u new.units m work begun units inside at listed sum);
+      units = begun.units + u;
+      allowed = more_allowed task.allowance left begun.units u (begun.units + u) begun.allowed begun.remains few refl;
+      lines = lines_more task.position (task.depth - 1) (begun.units + u) (index + 1) (index + count) moves (omega (arith, some)) (lines_here task moves number count index u (begun.units + u) m left work begun units inside at listed refl);
+      remains = left_both task.allowance left more begun.units u (begun.units + u) begun.remains is refl;
       cleared = λ i there. elim (Contains-push_cases work.cleared.items index i (subst (λ xs. Contains xs i) pushed there)) [
         | inl h ↦ begun.cleared i h
         | inr e ↦ subst (λ (k : ℕ). (k < length moves) × (k % count ≡ number) × IsCleared task moves k) e (inside, begun.own, here)
@@ -140,35 +150,29 @@ begun_more task moves number count index u m left work new begun some is few uni
     }
 
 -- a worker's part that ends before its last root move
-pub share_ends : (task : Task) (moves : List Move) (number count index : ℕ) (work new : Work) → IsBegun task moves number count index work → new.cleared.items ≡ work.cleared.items → (IsWhole new → ⊥) → ((mate : RootMate) → new.mate ≡ Some mate → IsRootMate task moves mate) → (new.spent ≡ true → IsSpent task)
-    → count ≤ 16 → length moves ≤ 20480 → new.units ≤ work.units + 2 ^ 32 → IsShare task moves number count new
-share_ends task moves number count index work new begun same ended mate spent few short units =
-    let before = begun.units in
-    let near = begun.near in
+pub share_ends : (task : Task) (moves : List Move) (number count index : ℕ) (left : Option ℕ) (work new : Work) → IsBegun task moves number count index left work → new.cleared.items ≡ work.cleared.items → (IsWhole new → ⊥) → ((mate : RootMate) → new.mate ≡ Some mate → IsRootMate task moves mate) → (new.spent ≡ true → IsSpent task)
+    → IsShare task moves number count new
+share_ends task moves number count index left work new begun same ended mate spent =
     record {
       cleared = λ i there. begun.cleared i (subst (λ (xs : List ℕ). Contains xs i) same there);
       once = subst (λ (xs : List ℕ). AreDistinct xs) (sym same) begun.once;
       whole = λ clean. absurd (ended clean);
       mate = mate;
       spent = spent;
-      units = omega arith;
     }
 
 no_mate : (mate : Option RootMate) (P : RootMate → Type 0) → mate ≡ None → (m : RootMate) → mate ≡ Some m → P m
 no_mate mate P none m some = absurd (none-some m (sym none ∙ some))
 
 -- a worker's part that goes to the end
-pub share_done : (task : Task) (moves : List Move) (number count index : ℕ) (work : Work) → IsBegun task moves number count index work → length moves ≤ index → count ≤ 16 → length moves ≤ 20480 → IsShare task moves number count work
-share_done task moves number count index work begun end few short =
-    let before = begun.units in
-    let near = begun.near in
+pub share_done : (task : Task) (moves : List Move) (number count index : ℕ) (left : Option ℕ) (work : Work) → IsBegun task moves number count index left work → length moves ≤ index → IsShare task moves number count work
+share_done task moves number count index left work begun end =
     record {
       cleared = begun.cleared;
       once = begun.once;
       whole = λ clean i within own. begun.whole i within (omega (arith, within, end)) own;
       mate = no_mate work.mate (λ m. IsRootMate task moves m) begun.clean.0;
       spent = λ is. (let not = begun.clean.1 in cc);
-      units = omega arith;
     }
 
 whole_allowance : (allowance : Option ℕ) (n u : ℕ) → IsAllowed allowance n → left_after allowance n ≡ Some u → allowance ≡ Some (n + u)
@@ -180,11 +184,11 @@ whole_allowance (Some most) n u few is =
     ap Some f
 
 -- the allowance was spent
-pub spent_here : (task : Task) (moves : List Move) (number count index u : ℕ) (m : Move) (left : Option ℕ) (work : Work) → IsBegun task moves number count index work → left ≡ left_after task.allowance work.units → left ≡ Some u → AreUnits (after task.position m) (task.depth - 1) u
+pub spent_here : (task : Task) (moves : List Move) (number count index u : ℕ) (m : Move) (left : Option ℕ) (work : Work) → IsBegun task moves number count index left work → left ≡ Some u → AreUnits (after task.position m) (task.depth - 1) u
     → index < length moves → m ≡ get_or moves index m → moves ≡ legal task.position → IsSpent task
 unfolding IsSpent
-spent_here task moves number count index u m left work begun is all units inside at listed =
-    (work.units + u, whole_allowance task.allowance work.units u begun.allowed (sym is ∙ all), lines_of task.position (task.depth - 1) (work.units + u) (take (index + 1) moves) (lines_here task moves number count index u (work.units + u) m work begun units inside at listed refl))
+spent_here task moves number count index u m left work begun all units inside at listed =
+    (begun.units + u, whole_allowance task.allowance begun.units u begun.allowed (sym begun.remains ∙ all), lines_of task.position (task.depth - 1) (begun.units + u) (take (index + 1) moves) (lines_here task moves number count index u (begun.units + u) m left work begun units inside at listed refl))
 
 -- each root move of a worker below a number was searched
 unfoldable pub SharesTried : {S : Type 0} → (S → List Entry → S → Type 0) → S → S → Task → List Move → ℕ → ℕ → ℕ → Type 0
@@ -236,22 +240,19 @@ not_spent : (b : Bool) (P : Type 0) → b ≡ false → b ≡ true → P
 not_spent b P not is = cc
 
 -- a worker's part that ends with a mate
-pub share_mate : (task : Task) (moves : List Move) (number count index : ℕ) (x : RootMate) (work new : Work) → IsBegun task moves number count index work → new.cleared.items ≡ work.cleared.items → new.mate ≡ Some x → new.spent ≡ work.spent → IsRootMate task moves x
-    → count ≤ 16 → length moves ≤ 20480 → new.units ≤ work.units + 2 ^ 32 → IsShare task moves number count new
-share_mate task moves number count index x work new begun same is spent mates few short units =
-    share_ends task moves number count index work new begun same (λ whole. none-some x (sym whole.0 ∙ is)) (same_mate task moves new.mate x is mates) (not_spent new.spent (IsSpent task) (spent ∙ begun.clean.1)) few short units
+pub share_mate : (task : Task) (moves : List Move) (number count index : ℕ) (x : RootMate) (left : Option ℕ) (work new : Work) → IsBegun task moves number count index left work → new.cleared.items ≡ work.cleared.items → new.mate ≡ Some x → new.spent ≡ work.spent → IsRootMate task moves x → IsShare task moves number count new
+share_mate task moves number count index x left work new begun same is spent mates =
+    share_ends task moves number count index left work new begun same (λ whole. none-some x (sym whole.0 ∙ is)) (same_mate task moves new.mate x is mates) (not_spent new.spent (IsSpent task) (spent ∙ begun.clean.1))
 
 -- a worker's part that ends since its allowance is spent
-pub share_spent : (task : Task) (moves : List Move) (number count index : ℕ) (work new : Work) → IsBegun task moves number count index work → new.cleared.items ≡ work.cleared.items → new.mate ≡ work.mate → new.spent ≡ true → IsSpent task
-    → count ≤ 16 → length moves ≤ 20480 → new.units ≤ work.units + 2 ^ 32 → IsShare task moves number count new
-share_spent task moves number count index work new begun same mate is spent few short units =
-    share_ends task moves number count index work new begun same (λ whole. not_spent new.spent ⊥ whole.1 is) (no_mate new.mate (λ m. IsRootMate task moves m) (mate ∙ begun.clean.0)) (λ e. spent) few short units
+pub share_spent : (task : Task) (moves : List Move) (number count index : ℕ) (left : Option ℕ) (work new : Work) → IsBegun task moves number count index left work → new.cleared.items ≡ work.cleared.items → new.mate ≡ work.mate → new.spent ≡ true → IsSpent task → IsShare task moves number count new
+share_spent task moves number count index left work new begun same mate is spent =
+    share_ends task moves number count index left work new begun same (λ whole. not_spent new.spent ⊥ whole.1 is) (no_mate new.mate (λ m. IsRootMate task moves m) (mate ∙ begun.clean.0)) (λ e. spent)
 
 -- a worker's part that ends for want of memory
-pub share_refused : (task : Task) (moves : List Move) (number count index : ℕ) (work new : Work) → IsBegun task moves number count index work → new.cleared.items ≡ work.cleared.items → new.mate ≡ work.mate → new.spent ≡ work.spent → new.refused ≡ true
-    → count ≤ 16 → length moves ≤ 20480 → new.units ≤ work.units + 2 ^ 32 → IsShare task moves number count new
-share_refused task moves number count index work new begun same mate spent is few short units =
-    share_ends task moves number count index work new begun same (λ whole. not_spent new.refused ⊥ whole.2 is) (no_mate new.mate (λ m. IsRootMate task moves m) (mate ∙ begun.clean.0)) (not_spent new.spent (IsSpent task) (spent ∙ begun.clean.1)) few short units
+pub share_refused : (task : Task) (moves : List Move) (number count index : ℕ) (left : Option ℕ) (work new : Work) → IsBegun task moves number count index left work → new.cleared.items ≡ work.cleared.items → new.mate ≡ work.mate → new.spent ≡ work.spent → new.refused ≡ true → IsShare task moves number count new
+share_refused task moves number count index left work new begun same mate spent is =
+    share_ends task moves number count index left work new begun same (λ whole. not_spent new.refused ⊥ whole.2 is) (no_mate new.mate (λ m. IsRootMate task moves m) (mate ∙ begun.clean.0)) (not_spent new.spent (IsSpent task) (spent ∙ begun.clean.1))
 
 -- a mate behind a root move
 pub root_mate : (task : Task) (moves : List Move) (index : ℕ) (m : Move) (a : RoundAnswer) (line : List Move) → IsAnswer (after task.position m) task.winner (task.depth - 1) 39 a → a ≡ Mate line → index < length moves → m ≡ get_or moves index m → moves ≡ legal task.position → IsRootMate task moves (record { root_move = index; line = line })
@@ -263,14 +264,6 @@ root_mate task moves index m a line holds is inside at listed =
 pub none_behind : (task : Task) (m : Move) (a : RoundAnswer) → IsAnswer (after task.position m) task.winner (task.depth - 1) 39 a → a ≡ NoneWithin → HasNoMateWithin (after task.position m) task.winner (task.depth - 1)
 none_behind task m a holds is = subst (λ (x : RoundAnswer). IsAnswer (after task.position m) task.winner (task.depth - 1) 39 x) is holds
 
-pub left_both : (allowance left more : Option ℕ) (n u v : ℕ) → left ≡ left_after allowance n → more ≡ left_after left u → v ≡ n + u → more ≡ left_after allowance v
-left_both None left more n u v is next sum = next ∙ ap (λ o. left_after o u) is
-left_both (Some most) left more n u v is next sum = next ∙ ap (λ o. left_after o u) is ∙ ap Some (let e : most - n - u ≡ most - v = omega arith in e)
-
 pub none_left : (left more : Option ℕ) (u : ℕ) → more ≡ left_after left u → IsNone more → IsNone left
 none_left None more u is none = subst (λ (o : Option ℕ). IsNone o) is none
 none_left (Some most) more u is none = (let h : IsNone (Some (most - u)) = subst (λ (o : Option ℕ). IsNone o) is none in cc)
-
-pub left_first : (allowance : Option ℕ) (n : ℕ) → n ≡ 0 → allowance ≡ left_after allowance n
-left_first None n none = refl
-left_first (Some most) n none = ap Some (let e : most ≡ most - n = omega arith in e)

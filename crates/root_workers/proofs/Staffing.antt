@@ -1,10 +1,6 @@
 -- Workers that are hired when they are first called on.
-use Rattle.std.proofs.Common.{◌≡◌, ◌∙◌, ℕ, ◌<◌, Bool, true, false, List, [], ◌∷◌, ◌++◌, length, Option, Some, None, refl, sym, ap, subst, arith}
-use Rattle.std.specs.List.{Contains}
-use Rattle.cha_list.specs.Distinct.{AreDistinct}
-use Rattle.cha_list.proofs.Distinct.{none_apart}
+use Rattle.std.proofs.Common.{◌≡◌, ◌∙◌, ℕ, ◌<◌, Bool, true, false, List, [], length, Option, Some, None, refl, sym, ap, subst}
 use Rattle.cha_moves.specs.Step.{Move}
-use Rattle.cha_moves.proofs.Contained.{not_in_nothing}
 use Rattle.cha_fact.specs.Entries.{Entry}
 use Rattle.shard_table.specs.ShardRows.{Rows}
 use Rattle.shard_table.specs.declared.table.Table.{Table}
@@ -13,7 +9,7 @@ use Rattle.root_workers.specs.declared.task.Task.{Task}
 use Rattle.root_workers.specs.declared.work.Work.{Work}
 use Rattle.root_workers.specs.declared.hired.Hired.{Hired}
 use Rattle.root_workers.specs.declared.staff.Staff.{Staff}
-use Rattle.root_workers.specs.Shares.{IsShare, ShareCalls, AllGrow}
+use Rattle.root_workers.specs.Shares.{IsRefused, IsShare, ShareCalls, AllGrow}
 use Rattle.root_workers.specs.Crews.{IsCrew, CrewMakes, LeavesWork}
 use Rattle.root_workers.specs.Making.{crew_makes_none}
 use Rattle.root_workers.specs.Hiring.{IsHired, IsFreshlyHired, HiredMakes, HiredLater, hired_count, staff_count, HiredLeave, StaffLeaves, is_refused, IsStaff, StaffMakes, IsUnhired, StaffEnds}
@@ -21,6 +17,7 @@ use Rattle.root_workers.specs.Hirings.{staff_both}
 use Rattle.root_workers.specs.Histories.{EndsAsOne, DidAsOne}
 use Rattle.root_workers.proofs.Crewing.{shares_done, calls_done_by, grow_done, AreDone}
 use Rattle.root_workers.proofs.Partaking.{did_nothing, did_as_one}
+use Rattle.root_workers.proofs.Refusing.{refused_share, refused_calls}
 
 -- a table and a crew were made
 pub just_hired : (s : Staff) (h : Hired) → s.hired ≡ None → IsHired s.count s.entries h → IsFreshlyHired h → (i : ℕ) → StaffMakes i s [] (record { count = s.count; entries = s.entries; hired = Some h; idle = s.idle })
@@ -71,27 +68,14 @@ pub crew_of : (s : Staff) (h : Hired) → IsStaff s → s.hired ≡ Some h → I
 crew_of s h is at = (is.hired h at).crew
 
 -- where nobody is hired a round leaves nothing
-refused_share : (s : Staff) → IsStaff s → is_refused s ≡ true → (task : Task) (moves : List Move) (i count : ℕ) → IsShare task moves i count s.idle
-refused_share s is refused task moves i count = record {
-  cleared = λ j there. (let C : List ℕ → Type 0 = λ xs. Contains xs j in absurd (not_in_nothing j (subst C is.idle.0 there)));
-  once = (let D : List ℕ → Type 0 = λ xs. AreDistinct xs in subst D (sym is.idle.0) (none_apart ℕ));
-  whole = λ whole. (let e = sym refused ∙ whole.2 in cc);
-  mate = λ mate at. (let e = sym is.idle.1 ∙ at in cc);
-  spent = λ spent. (let e = sym is.idle.2 ∙ spent in cc);
-  units = omega (arith, is.idle.3);
-}
+refused_idle : (s : Staff) → IsStaff s → is_refused s ≡ true → IsRefused s.idle
+refused_idle s is refused = (is.idle.0, is.idle.1, is.idle.2, refused)
 
 pub idle_share : (s : Staff) → IsStaff s → s.hired ≡ None → is_refused s ≡ true → (task : Task) (moves : List Move) (i count : ℕ) (w : Work) → StaffLeaves s i w → IsShare task moves i count w
-idle_share s is none refused task moves i count w left =
-    let P : Work → Type 0 = λ x. IsShare task moves i count x in
-    subst P (sym (leaves_idle s i w none left)) (refused_share s is refused task moves i count)
+idle_share s is none refused task moves i count w left = refused_share s.idle w (refused_idle s is refused) (leaves_idle s i w none left) task moves i count
 
 pub idle_calls : (a b : Staff) (i : ℕ) → StaffMakes i a [] b → b.hired ≡ None → is_refused b ≡ true → (task : Task) (moves : List Move) (count : ℕ) (w : Work) → StaffLeaves b i w → ShareCalls (StaffMakes i) a b task moves i count w
-unfolding ShareCalls
-idle_calls a b i makes none refused task moves count w left =
-    let P : Work → Type 0 = λ x. x.refused ≡ true in
-    let is : w.refused ≡ true = subst P (sym (leaves_idle b i w none left)) refused in
-    ([], makes, (λ whole. (let e = sym is ∙ whole.2 in cc)))
+idle_calls a b i makes none refused task moves count w left = refused_calls (StaffMakes i) a b makes b.idle w refused (leaves_idle b i w none left) task moves i count
 
 pub all_idle : (a b : Staff) (count : ℕ) → ((i : ℕ) → StaffMakes i a [] b) → AllGrow StaffMakes a b count
 unfolding AllGrow

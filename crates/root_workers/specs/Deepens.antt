@@ -12,7 +12,6 @@ use Rattle.cha_fact.specs.Entries.{Entry, store_entry}
 use Rattle.root_workers.specs.declared.task.Task.{Task}
 use Rattle.root_workers.specs.declared.answers.RoundsEnd.{RoundsEnd}
 use Rattle.root_workers.specs.declared.answers.RoundsEnd.TheVariants.{Mate, NoneWithin}
-use Rattle.root_workers.specs.declared.answers.RoundsDone.{RoundsDone}
 use Rattle.root_workers.specs.Shares.{AreSharesSearched}
 use Rattle.root_workers.specs.RoundAnswers.{HasEndStore}
 
@@ -42,15 +41,15 @@ RoundSearches made_by old new task count =
 
 -- the calls of the rounds from a depth on: where there is no mate within d plies, and d is more than that depth, each root move
 -- was searched to one ply less by its worker
-unfoldable pub DeepenCalls : {S : Type 0} → (ℕ → S → List Entry → S → Type 0) → S → S → Board → Color → ℕ → ℕ → Result RoundsDone NoMemory → Type 0
+unfoldable pub DeepenCalls : {S : Type 0} → (ℕ → S → List Entry → S → Type 0) → S → S → Board → Color → ℕ → ℕ → Result RoundsEnd NoMemory → Type 0
 DeepenCalls made_by old new q w from count result =
     (i : ℕ) → i < count → (entries : List Entry) × made_by i old entries new
-    × ((done : RoundsDone) (d : ℕ) → result ≡ Ok done → done.end ≡ NoneWithin d → from < d → AreSharesSearched entries q w (d - 1) (legal q) i count)
+    × ((d : ℕ) → result ≡ Ok (NoneWithin d) → from < d → AreSharesSearched entries q w (d - 1) (legal q) i count)
 
 -- one call, which gives something to keep
 unfoldable pub KeepCalls : {S : Type 0} → (S → List Entry → S → Type 0) → S → S → Claim → Type 0
 KeepCalls made old new row = (reply : Stored) × made old (store_entry row reply ∷ []) new
 
 -- the calls of a first worker that has given an answer to keep, where there is one
-unfoldable pub KeptCalls : {S : Type 0} → (S → List Entry → S → Type 0) → S → S → Board → Color → Result RoundsDone NoMemory → Type 0
-KeptCalls made old new q w result = (entries : List Entry) × made old entries new × ((done : RoundsDone) → result ≡ Ok done → HasEndStore entries q w done.end)
+unfoldable pub KeptCalls : {S : Type 0} → (S → List Entry → S → Type 0) → S → S → Board → Color → Result RoundsEnd NoMemory → Type 0
+KeptCalls made old new q w result = (entries : List Entry) × made old entries new × ((end : RoundsEnd) → result ≡ Ok end → HasEndStore entries q w end)

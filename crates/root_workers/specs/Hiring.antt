@@ -64,7 +64,7 @@ pub record IsStaff (staff : Staff) : Type 0 where
   pub rows : (1 ≤ staff.entries) × (staff.entries ≤ 65536)
   pub hired : (hired : Hired) → staff.hired ≡ Some hired → IsHired staff.count staff.entries hired
   pub refused : is_refused staff ≡ true → staff.hired ≡ None
-  pub idle : (staff.idle.cleared.items ≡ []) × (staff.idle.mate ≡ None) × (staff.idle.spent ≡ false) × (staff.idle.units ≡ 0)
+  pub idle : (staff.idle.cleared.items ≡ []) × (staff.idle.mate ≡ None) × (staff.idle.spent ≡ false)
 
 -- From one state of a staff to a later one worker i made just these entries, and each worker some, unless memory was refused.
 pub record StaffMakes (i : ℕ) (old : Staff) (entries : List Entry) (new : Staff) : Type 0 where

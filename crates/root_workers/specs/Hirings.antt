@@ -1,13 +1,13 @@
 -- No entries, and the entries of two times, made by a staff (this project).
 use Rattle.std.specs.Prelude.{◌≡◌, ℕ, ◌<◌, Bool, true, false, List, [], ◌++◌, length, Option, Some, None}
-use Rattle.std.proofs.Common.{refl, sym, subst, ap, ◌∙◌, arith}
+use Rattle.std.proofs.Common.{refl, sym, subst, ◌∙◌, arith}
 use Rattle.cha_fact.specs.Entries.{Entry}
 use Rattle.root_workers.specs.declared.hired.Hired.{Hired}
 use Rattle.root_workers.specs.declared.staff.Staff.{Staff}
 use Rattle.root_workers.specs.Shares.{AllGrow}
 use Rattle.root_workers.specs.Crews.{CrewMakes}
 use Rattle.root_workers.specs.Making.{crew_makes_none, crew_makes_both, crew_grows}
-use Rattle.root_workers.specs.Hiring.{IsHired, IsFreshlyHired, HiredMakes, HiredLater, hired_count, staff_count, is_refused, IsStaff, StaffMakes}
+use Rattle.root_workers.specs.Hiring.{IsHired, HiredMakes, HiredLater, hired_count, staff_count, is_refused, IsStaff, StaffMakes}
 
 hired_both : (i : ℕ) (a b c : Hired) (xs ys : List Entry) → HiredMakes i a xs b → HiredMakes i b ys c → HiredMakes i a (xs ++ ys) c
 hired_both i a b c xs ys one two = record {

@@ -1,5 +1,5 @@
 -- What the rounds answer, and which calls they make (this project).
-use Rattle.std.specs.Prelude.{◌≡◌, ℕ, ◌-◌, ◌%◌, ◌<◌, ◌≤◌, ⊤, ◌⊎◌, List, ◌∷◌, length, slice_get, Some, None, Result, Ok, Contains}
+use Rattle.std.specs.Prelude.{◌≡◌, ℕ, ◌-◌, ◌%◌, ◌≤◌, ⊤, ◌⊎◌, List, [], ◌∷◌, length, slice_get, Some, None, Result, Ok, Contains}
 use Rattle.cha_list.specs.declared.memory.NoMemory.{NoMemory}
 use Rattle.cha_board.specs.declared.men.Color.{Color}
 use Rattle.cha_board.specs.Board.{Board}
@@ -22,7 +22,6 @@ use Rattle.helpmate.specs.Rounds.{decided_by}
 use Rattle.root_workers.specs.Shares.{AllGrow}
 use Rattle.root_workers.specs.declared.answers.RoundsEnd.{RoundsEnd}
 use Rattle.root_workers.specs.declared.answers.RoundsEnd.TheVariants.{Mate, NoneWithin}
-use Rattle.root_workers.specs.declared.answers.RoundsDone.{RoundsDone}
 
 -- the answer is a mate
 abbrev pub IsMateEnd : RoundsEnd → Type 0
@@ -45,10 +44,10 @@ IsDecidedEnd depth (MateAnswer line) end = end ≡ Mate line
 IsDecidedEnd depth NoneAnswer end = end ≡ NoneWithin depth
 IsDecidedEnd depth Spent end = ⊥
 
--- what was found first is the answer without a unit, where it decides
-abbrev pub FollowsFirst : ℕ → Probe → RoundsDone → Type 0
-FollowsFirst depth Miss done = ⊤
-FollowsFirst depth (Found row) done = (answer : RoundAnswer) → decided_by depth row.fact ≡ Some answer → IsDecidedEnd depth answer done.end × (done.units ≡ 0)
+-- what was found first is the answer without a further call, where it decides
+abbrev pub FollowsFirst : ℕ → Probe → List Entry → RoundsEnd → Type 0
+FollowsFirst depth Miss rest end = ⊤
+FollowsFirst depth (Found row) rest end = (answer : RoundAnswer) → decided_by depth row.fact ≡ Some answer → IsDecidedEnd depth answer end × (rest ≡ [])
 
 -- what was found does not decide
 abbrev pub IsUndecided : ℕ → Probe → Type 0
@@ -69,14 +68,14 @@ unfoldable pub HasEndStore : List Entry → Board → Color → RoundsEnd → Ty
 HasEndStore entries q w end = (reply : Stored) × Contains entries (store_entry (claim_of q w end) reply)
 
 -- The calls of the rounds: the first is a probe of the position by the first worker. Where what it finds decides, that is the
--- answer. Where it does not, positions were expanded and the answer was given to keep. Where there is no mate within d plies, and
+-- answer, and the first worker calls no more. Where it does not, the answer was given to keep. Where there is no mate within d plies, and
 -- no probe of the position found that, the position after each root move i was searched to one ply less by worker i mod count.
-pub record RoundsCalls {S : Type 0} (made : S → List Entry → S → Type 0) (made_by : ℕ → S → List Entry → S → Type 0) (count : ℕ) (old new : S) (q : Board) (w : Color) (limits : Bounds) (result : Result RoundsDone NoMemory) : Type 0 where
+pub record RoundsCalls {S : Type 0} (made : S → List Entry → S → Type 0) (made_by : ℕ → S → List Entry → S → Type 0) (count : ℕ) (old new : S) (q : Board) (w : Color) (limits : Bounds) (result : Result RoundsEnd NoMemory) : Type 0 where
   pub reply : Probe
   pub rest : List Entry
   pub entered : made old (probe_entry (key_of q w) reply ∷ rest) new
-  pub follows : (done : RoundsDone) → result ≡ Ok done → FollowsFirst limits.depth reply done
-  pub stores : (done : RoundsDone) → result ≡ Ok done → IsUndecided limits.depth reply → (0 < done.units) × HasEndStore rest q w done.end
-  pub searched : (done : RoundsDone) (d : ℕ) → result ≡ Ok done → done.end ≡ NoneWithin d → (HasFound (probe_entry (key_of q w) reply ∷ rest) q w d → ⊥)
+  pub follows : (end : RoundsEnd) → result ≡ Ok end → FollowsFirst limits.depth reply rest end
+  pub stores : (end : RoundsEnd) → result ≡ Ok end → IsUndecided limits.depth reply → HasEndStore rest q w end
+  pub searched : (d : ℕ) → result ≡ Ok (NoneWithin d) → (HasFound (probe_entry (key_of q w) reply ∷ rest) q w d → ⊥)
       → (i : ℕ) (m : Move) → slice_get (legal q) i ≡ Some m → (entries : List Entry) × made_by (i % count) old entries new × IsSearched entries (after q m) w (d - 1)
   pub grows : AllGrow made_by old new count

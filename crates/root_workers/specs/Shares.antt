@@ -1,5 +1,5 @@
 -- What a worker's part of a round may come to, and which calls of its place it makes (this project).
-use Rattle.std.specs.Prelude.{◌≡◌, ℕ, ◌-◌, ◌%◌, ◌^◌, ◌<◌, ◌≤◌, true, false, List, length, slice_get, Some, None, Contains}
+use Rattle.std.specs.Prelude.{◌≡◌, ℕ, ◌-◌, ◌%◌, ◌<◌, ◌≤◌, true, false, List, [], length, slice_get, Some, None, Contains}
 use Rattle.cha_list.specs.Distinct.{AreDistinct}
 use Rattle.cha_board.specs.declared.men.Color.{Color}
 use Rattle.cha_board.specs.Board.{Board}
@@ -15,6 +15,10 @@ use Rattle.root_workers.specs.declared.work.Work.{Work}
 -- a worker's part of a round did not end before its last root move
 abbrev pub IsWhole : Work → Type 0
 IsWhole work = (work.mate ≡ None) × (work.spent ≡ false) × (work.refused ≡ false)
+
+-- a worker's part of a round was refused memory before its first root move
+abbrev pub IsRefused : Work → Type 0
+IsRefused work = (work.cleared.items ≡ []) × (work.mate ≡ None) × (work.spent ≡ false) × (work.refused ≡ true)
 
 -- after root move i there is no mate within one ply less
 unfoldable pub IsCleared : Task → List Move → ℕ → Type 0
@@ -37,7 +41,6 @@ pub record IsShare (task : Task) (moves : List Move) (number count : ℕ) (work 
   pub whole : IsWhole work → (i : ℕ) → i < length moves → i % count ≡ number → Contains work.cleared.items i
   pub mate : (mate : RootMate) → work.mate ≡ Some mate → IsRootMate task moves mate
   pub spent : work.spent ≡ true → IsSpent task
-  pub units : work.units ≤ 2 ^ 48
 
 -- the position after each root move of the worker with a number among a count of workers was searched to a depth
 unfoldable pub AreSharesSearched : List Entry → Board → Color → ℕ → List Move → ℕ → ℕ → Type 0

@@ -10,11 +10,3 @@ pub enum RoundsEnd {
     /// No list of at most so many legal moves mates. The number is at least 2.
     NoneWithin(u8),
 }
-
-/// The end of the rounds.
-#[derive(Drop)]
-pub struct RoundsDone {
-    pub end: RoundsEnd,
-    /// How many positions were expanded, in all rounds and by all workers.
-    pub units: u64,
-}

@@ -1,6 +1,6 @@
 //! The rounds, one after the other.
 
-ghost use Rattle.std.specs.Prelude.{◌≡◌, ◌≢◌, ℕ, ◌+◌, ◌*◌, ◌^◌, ◌-◌, ◌<◌, ◌≤◌, ◌⊎◌, [], ◌∷◌, length, List, Some, None, Ok, IsNone, IfOk, Contains};
+ghost use Rattle.std.specs.Prelude.{◌≡◌, ◌≢◌, ℕ, ◌+◌, ◌-◌, ◌<◌, ◌≤◌, ◌⊎◌, [], ◌∷◌, length, List, Some, None, Ok, IsNone, IfOk, OnErr, Contains, true};
 ghost use Rattle.cha_board.specs.Men.{other_color};
 ghost use Rattle.cha_moves.specs.Step.{Move as Step};
 ghost use Rattle.cha_moves.specs.Moves.{legal as legal_moves};
@@ -8,12 +8,13 @@ ghost use Rattle.cha_moves.specs.Ends.{IsMated, IsMatingLine, IsUnwinnable, HasN
 ghost use Rattle.cha_fact.specs.Keys.{key_of};
 ghost use Rattle.cha_fact.specs.Entries.{probe_entry, store_entry};
 ghost use Rattle.helpmate.specs.Rounds.{IsAnswer, decided_by};
+ghost use Rattle.root_workers.specs.declared.work.Work.{Work};
 ghost use Rattle.root_workers.specs.Shares.{IsSpent, AllGrow};
 ghost use Rattle.root_workers.specs.RoundAnswers.{IsMateEnd, IsEnd, IsAmple, RoundsCalls, claim_of, fact_of};
 ghost use Rattle.root_workers.specs.Deepens.{plies_of, IsFrom, CrewCalls, RoundSearches, DeepenCalls, KeepCalls, KeptCalls};
 
-use crate::answers::{RoundsDone, RoundsEnd};
-use crate::gather::{gathered, units_of};
+use crate::answers::RoundsEnd;
+use crate::gather::gathered;
 use crate::task::Task;
 use crate::workers::Crew;
 use cha_board::{Color, Position};
@@ -35,20 +36,13 @@ fn allowance_of(limits: &Limits, depth: u8) -> Option<u32>
     Some(limits.budget())
 }
 
-/// The end of a round: what it answers, and how many positions were expanded, the root among them.
-#[derive(Drop)]
-struct RootDone {
-    round: RoundAnswer,
-    units: u64,
-}
-
 /// One round.
 fn one_round<C: Crew>(
     alloc: Global,
     task: &Task,
     moves: &[Move],
     crew: &mut C,
-) -> Result<RootDone, NoMemory>
+) -> Result<RoundAnswer, NoMemory>
     requires ready { C.ready crew.old }
     requires listed { moves.now ≡ legal_moves task.now.position }
     requires some { 1 ≤ task.now.depth }
@@ -57,18 +51,14 @@ fn one_round<C: Crew>(
     requires running { IsMated task.now.position (other_color task.now.winner) → ⊥ }
     ensures stays_ready { C.ready crew.new }
     ensures count { C.count crew.new ≡ C.count crew.old }
-    ensures holds { IfOk result (λ done. IsAnswer task.now.position task.now.winner task.now.depth 40 done.round) }
-    ensures spent { IfOk result (λ done. done.round ≡ RoundAnswer.Spent → IsSpent task.now) }
-    ensures units { IfOk result (λ done. (0 < done.units) × (done.units ≤ 1 + 16 * 2 ^ 48)) }
-    ensures searched { IfOk result (λ done. done.round ≡ RoundAnswer.NoneWithin → RoundSearches C.made_by crew.old crew.new task.now (C.count crew.old)) }
+    ensures holds { IfOk result (IsAnswer task.now.position task.now.winner task.now.depth 40) }
+    ensures spent { result ≡ Ok RoundAnswer.Spent → IsSpent task.now }
+    ensures searched { result ≡ Ok RoundAnswer.NoneWithin → RoundSearches C.made_by crew.old crew.new task.now (C.count crew.old) }
+    ensures refused { OnErr result ((i : ℕ) × (work : Work) × (i < C.count crew.new) × C.leaves crew.new i work × (work.refused ≡ true)) }
     ensures grow { AllGrow C.made_by crew.old crew.new (C.count crew.old) }
 {
     crew.share_out(alloc, task, moves);
-    let round = gathered(task, moves, crew)?;
-    Ok(RootDone {
-        round,
-        units: 1 + units_of(task, moves, crew),
-    })
+    gathered(task, moves, crew)
 }
 
 /// Gives what the rounds found out to keep.
@@ -94,20 +84,18 @@ fn deepen<C: Crew>(
     limits: &Limits,
     from: u8,
     crew: &mut C,
-) -> Result<RoundsDone, NoMemory>
+) -> Result<RoundsEnd, NoMemory>
     requires ready { C.ready crew.old }
     requires none { HasNoMateWithin position.now winner from }
     requires more { from < limits.now.depth }
     ensures stays_ready { C.ready crew.new }
     ensures count { C.count crew.new ≡ C.count crew.old }
-    ensures holds { IfOk result (λ done. IsEnd position.now winner limits.now done.end) }
-    ensures from { IfOk result (λ done. IsFrom from done.end) }
-    ensures units { IfOk result (λ done. 0 < done.units) }
+    ensures holds { IfOk result (IsEnd position.now winner limits.now) }
+    ensures from { IfOk result (IsFrom from) }
     ensures calls { DeepenCalls C.made_by crew.old crew.new position.now winner from (C.count crew.old) result }
 {
     let moves = legal(alloc, position)?;
     let mut depth = from;
-    let mut units = 0;
     while depth < limits.depth() {
         let task = Task {
             position: *position,
@@ -115,29 +103,15 @@ fn deepen<C: Crew>(
             depth: depth + 1,
             allowance: allowance_of(limits, depth + 1),
         };
-        let done = one_round(alloc, &task, &moves, crew)?;
-        units += done.units;
-        match done.round {
-            RoundAnswer::Mate(line) => {
-                return Ok(RoundsDone {
-                    end: RoundsEnd::Mate(line),
-                    units,
-                });
-            }
-            RoundAnswer::Spent => {
-                return Ok(RoundsDone {
-                    end: RoundsEnd::NoneWithin(depth),
-                    units,
-                });
-            }
+        let round = one_round(alloc, &task, &moves, crew)?;
+        match round {
+            RoundAnswer::Mate(line) => return Ok(RoundsEnd::Mate(line)),
+            RoundAnswer::Spent => return Ok(RoundsEnd::NoneWithin(depth)),
             RoundAnswer::NoneWithin => {}
         }
         depth += 1;
     }
-    Ok(RoundsDone {
-        end: RoundsEnd::NoneWithin(depth),
-        units,
-    })
+    Ok(RoundsEnd::NoneWithin(depth))
 }
 
 /// The rounds from a depth on, whose answer is given to keep.
@@ -148,21 +122,20 @@ fn deepen_and_keep<C: Crew>(
     limits: &Limits,
     from: u8,
     crew: &mut C,
-) -> Result<RoundsDone, NoMemory>
+) -> Result<RoundsEnd, NoMemory>
     requires ready { C.ready crew.old }
     requires none { HasNoMateWithin position.now winner from }
     requires more { from < limits.now.depth }
     ensures stays_ready { C.ready crew.new }
     ensures count { C.count crew.new ≡ C.count crew.old }
-    ensures holds { IfOk result (λ done. IsEnd position.now winner limits.now done.end) }
-    ensures from { IfOk result (λ done. IsFrom from done.end) }
-    ensures units { IfOk result (λ done. 0 < done.units) }
+    ensures holds { IfOk result (IsEnd position.now winner limits.now) }
+    ensures from { IfOk result (IsFrom from) }
     ensures calls { DeepenCalls C.made_by crew.old crew.new position.now winner from (C.count crew.old) result }
     ensures kept { KeptCalls C.made crew.old crew.new position.now winner result }
 {
-    let done = deepen(alloc, position, winner, limits, from, crew)?;
-    keep(position, winner, &done.end, crew);
-    Ok(done)
+    let end = deepen(alloc, position, winner, limits, from, crew)?;
+    keep(position, winner, &end, crew);
+    Ok(end)
 }
 
 /// Up to which depth a fact that does not decide shows that there is no mate.
@@ -194,31 +167,25 @@ pub fn rounds_by<C: Crew>(
     winner: Color,
     limits: &Limits,
     crew: &mut C,
-) -> Result<RoundsDone, NoMemory>
+) -> Result<RoundsEnd, NoMemory>
     requires ready { C.ready crew.old }
     requires running { IsMated position.now (other_color winner) → ⊥ }
     ensures stays_ready { C.ready crew.new }
     ensures count { C.count crew.new ≡ C.count crew.old }
-    ensures holds { IfOk result (λ done. IsEnd position.now winner limits.now done.end) }
+    ensures holds { IfOk result (IsEnd position.now winner limits.now) }
 
     // Whatever the number of workers and the order of their turns.
-    ensures finds_in_two { IfOk result (λ done. (line : List Step) → IsMatingLine position.now winner line → length line ≤ 2 → IsMateEnd done.end) }
-    ensures finds { IfOk result (λ done. (line : List Step) → IsAmple position.now limits.now → IsMatingLine position.now winner line → length line ≤ limits.now.depth → IsMateEnd done.end) }
-    ensures none { IfOk result (λ done. IsAmple position.now limits.now → IsUnwinnable position.now winner → done.end ≡ RoundsEnd.NoneWithin limits.now.depth) }
+    ensures finds_in_two { IfOk result (λ end. (line : List Step) → IsMatingLine position.now winner line → length line ≤ 2 → IsMateEnd end) }
+    ensures finds { IfOk result (λ end. (line : List Step) → IsAmple position.now limits.now → IsMatingLine position.now winner line → length line ≤ limits.now.depth → IsMateEnd end) }
+    ensures none { IfOk result (λ end. IsAmple position.now limits.now → IsUnwinnable position.now winner → end ≡ RoundsEnd.NoneWithin limits.now.depth) }
 
     ensures calls { RoundsCalls C.made C.made_by (C.count crew.old) crew.old crew.new position.now winner limits.now result }
 {
     let depth = limits.depth();
     match crew.probe(&Key::of(position, winner)) {
         Probe::Found(row) => match decided(position, winner, &row, depth) {
-            Some(RoundAnswer::Mate(line)) => Ok(RoundsDone {
-                end: RoundsEnd::Mate(line),
-                units: 0,
-            }),
-            Some(RoundAnswer::NoneWithin) => Ok(RoundsDone {
-                end: RoundsEnd::NoneWithin(depth),
-                units: 0,
-            }),
+            Some(RoundAnswer::Mate(line)) => Ok(RoundsEnd::Mate(line)),
+            Some(RoundAnswer::NoneWithin) => Ok(RoundsEnd::NoneWithin(depth)),
             Some(RoundAnswer::Spent) => unreachable!(),
             None => {
                 let from = known_plies(position, winner, &row);

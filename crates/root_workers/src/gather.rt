@@ -1,6 +1,6 @@
 //! What the works of a round come to.
 
-ghost use Rattle.std.specs.Prelude.{◌≡◌, ℕ, ◌*◌, ◌^◌, ◌<◌, ◌≤◌, ◌⊎◌, ◌∷◌, ◌↔◌, true, length, slice_get, Some, None, Ok, IsTrue, IfOk, Contains};
+ghost use Rattle.std.specs.Prelude.{◌≡◌, ℕ, ◌<◌, ◌≤◌, ◌⊎◌, ◌∷◌, ◌↔◌, true, false, length, slice_get, Some, None, Ok, IsTrue, IfOk, OnErr, Contains};
 ghost use Rattle.cha_board.specs.Men.{other_color};
 ghost use Rattle.cha_moves.specs.Moves.{legal as legal_moves};
 ghost use Rattle.cha_moves.specs.Ends.{IsMated, IsMatingLine};
@@ -33,6 +33,7 @@ fn is_whole(work: &Work) -> bool
 fn are_whole<C: Crew>(crew: &C) -> bool
     requires { C.ready crew.now }
     ensures whole { result ≡ true → AreWhole (C.leaves crew.now) (C.count crew.now) }
+    ensures open { result ≡ false → (i : ℕ) × (work : Work) × (i < C.count crew.now) × C.leaves crew.now i work × (IsWhole work → ⊥) }
     ensures some { 0 < C.count crew.now }
 {
     for number in 0..crew.workers() {
@@ -46,7 +47,8 @@ fn are_whole<C: Crew>(crew: &C) -> bool
 /// Whether some worker spent its allowance.
 fn is_spent<C: Crew>(crew: &C) -> bool
     requires { C.ready crew.now }
-    ensures { result ≡ true → (i : ℕ) × (work : Work) × (i < C.count crew.now) × C.leaves crew.now i work × (work.spent ≡ true) }
+    ensures spent { result ≡ true → (i : ℕ) × (work : Work) × (i < C.count crew.now) × C.leaves crew.now i work × (work.spent ≡ true) }
+    ensures left { result ≡ false → (i : ℕ) (work : Work) → i < C.count crew.now → C.leaves crew.now i work → work.spent ≡ false }
 {
     for number in 0..crew.workers() {
         if crew.work(number).spent {
@@ -54,19 +56,6 @@ fn is_spent<C: Crew>(crew: &C) -> bool
         }
     }
     false
-}
-
-/// How many positions all workers expanded.
-pub fn units_of<C: Crew>(task: &Task, moves: &[Move], crew: &C) -> u64
-    requires ready { C.ready crew.now }
-    requires shares { AreShares (C.leaves crew.now) task.now moves.now (C.count crew.now) }
-    ensures { result ≤ 16 * 2 ^ 48 }
-{
-    let mut units = 0;
-    for number in 0..crew.workers() {
-        units += crew.work(number).units;
-    }
-    units
 }
 
 /// Of two mates the one with the lower root move.
@@ -115,7 +104,8 @@ fn led(task: &Task, moves: &[Move], mate: &RootMate) -> Line
     }
 }
 
-/// What a round comes to. There is no mate only where the root moves that workers cleared are all root moves, each once.
+/// What a round comes to. There is no mate only where the root moves that workers cleared are all root moves, each once. It takes
+/// no memory itself: `NoMemory` is the answer only where a worker was refused memory.
 pub fn gathered<C: Crew>(task: &Task, moves: &[Move], crew: &C) -> Result<RoundAnswer, NoMemory>
     requires ready { C.ready crew.now }
     requires listed { moves.now ≡ legal_moves task.now.position }
@@ -126,6 +116,7 @@ pub fn gathered<C: Crew>(task: &Task, moves: &[Move], crew: &C) -> Result<RoundA
     ensures spent { result ≡ Ok RoundAnswer.Spent → IsSpent task.now }
     ensures whole { result ≡ Ok RoundAnswer.NoneWithin → AreWhole (C.leaves crew.now) (C.count crew.now) }
     ensures lowest { (line : Line) → result ≡ Ok (RoundAnswer.Mate line) → (best : RootMate) × (m : Move) × (slice_get moves.now best.root_move ≡ Some m) × (line ≡ m ∷ best.line) × ((i : ℕ) (work : Work) → i < C.count crew.now → C.leaves crew.now i work → IsNoHigher (Some best) work.mate) }
+    ensures refused { OnErr result ((i : ℕ) × (work : Work) × (i < C.count crew.now) × C.leaves crew.now i work × (work.refused ≡ true)) }
 {
     if let Some(mate) = lowest_mate(task, moves, crew) {
         return Ok(RoundAnswer::Mate(led(task, moves, &mate)));

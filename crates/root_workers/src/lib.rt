@@ -2,7 +2,7 @@
 //!
 //! `answers` has what the rounds answer, `task` what is to do in one round, `work` what a worker leaves of it, `gate` what is
 //! told of each root move, `share` one worker's part of a round, `workers` a crew of them as a whole, `alone` the crew that
-//! needs no thread, `many` the crew of threads at one table, `dismissing` its end and that of the table, `gather` what the works of a round come to,
+//! needs no thread, `nobody` the crew that has nobody who searches, `many` the crew of threads at one table, `dismissing` its end and that of the table, `gather` what the works of a round come to,
 //! `deepening` the rounds one after the other, and `table_rounds` the same for threads at a table.
 #![tactic(auto)]
 
@@ -14,6 +14,7 @@ mod gate;
 mod gather;
 mod hired;
 mod many;
+mod nobody;
 mod on_demand;
 mod share;
 mod staff;
@@ -23,13 +24,14 @@ mod work;
 mod workers;
 
 pub use alone::Alone;
-pub use answers::{RoundsDone, RoundsEnd};
+pub use answers::RoundsEnd;
 pub use cha_limits::Limits;
 pub use deepening::rounds_by;
 pub use dismissing::{close, dismiss};
 pub use gather::gathered;
 pub use hired::Hired;
 pub use many::{Many, crew};
+pub use nobody::Nobody;
 pub use on_demand::OnDemand;
 pub use staff::Staff;
 pub use table_rounds::rounds;

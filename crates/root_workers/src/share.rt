@@ -79,7 +79,6 @@ pub fn share_of<F: Facts>(
         gate.enter(number, index as u32);
         match search_root(alloc, task, moves[index], left, facts) {
             Ok(done) => {
-                work.units += u64::from(done.units);
                 left = left_of(left, done.units);
                 match done.round {
                     RoundAnswer::Mate(line) => {

@@ -7,7 +7,7 @@ ghost use Rattle.cha_moves.specs.Ends.{IsMated, IsMatingLine, IsUnwinnable};
 ghost use Rattle.root_workers.specs.Crews.{IsCrew, AllKnowWell, CrewMakes};
 ghost use Rattle.root_workers.specs.RoundAnswers.{IsMateEnd, IsEnd, IsAmple, RoundsCalls};
 
-use crate::answers::{RoundsDone, RoundsEnd};
+use crate::answers::RoundsEnd;
 use crate::deepening::rounds_by;
 use crate::many::Many;
 use crate::work::Worker;
@@ -32,16 +32,16 @@ pub fn rounds<'x, R: Threads + Wait + Sync>(
     limits: &Limits,
     table: &'x Table,
     crew: &'x mut Vec<Worker>,
-) -> Result<RoundsDone, NoMemory>
+) -> Result<RoundsEnd, NoMemory>
     requires crew { IsCrew table.now crew.old.items }
     requires running { IsMated position.now (other_color winner) → ⊥ }
     ensures crew { IsCrew table.now crew.new.items }
     ensures count { length crew.new.items ≡ length crew.old.items }
     ensures knows { AllKnowWell table.now crew.new.items }
-    ensures holds { IfOk result (λ done. IsEnd position.now winner limits.now done.end) }
-    ensures finds_in_two { IfOk result (λ done. (line : List Step) → IsMatingLine position.now winner line → length line ≤ 2 → IsMateEnd done.end) }
-    ensures finds { IfOk result (λ done. (line : List Step) → IsAmple position.now limits.now → IsMatingLine position.now winner line → length line ≤ limits.now.depth → IsMateEnd done.end) }
-    ensures none { IfOk result (λ done. IsAmple position.now limits.now → IsUnwinnable position.now winner → done.end ≡ RoundsEnd.NoneWithin limits.now.depth) }
+    ensures holds { IfOk result (IsEnd position.now winner limits.now) }
+    ensures finds_in_two { IfOk result (λ end. (line : List Step) → IsMatingLine position.now winner line → length line ≤ 2 → IsMateEnd end) }
+    ensures finds { IfOk result (λ end. (line : List Step) → IsAmple position.now limits.now → IsMatingLine position.now winner line → length line ≤ limits.now.depth → IsMateEnd end) }
+    ensures none { IfOk result (λ end. IsAmple position.now limits.now → IsUnwinnable position.now winner → end ≡ RoundsEnd.NoneWithin limits.now.depth) }
     ensures calls { RoundsCalls (CrewMakes 0) CrewMakes (length crew.old.items) crew.old.items crew.new.items position.now winner limits.now result }
 {
     let mut many = Many::new(rt, table, crew);

@@ -26,8 +26,6 @@ pub struct Work {
     pub spent: bool,
     /// Whether its part of the round ended for want of memory.
     pub refused: bool,
-    /// How many positions it expanded.
-    pub units: u64,
 }
 
 /// A worker of a crew: its number, from 0, the pass with which it takes its turns at the table, and what it left of the last
@@ -54,14 +52,13 @@ impl RootMate {
 impl Work {
     /// Nothing was done yet. It takes no memory.
     pub fn new(alloc: Global) -> Work
-        ensures nothing { (result.cleared.items ≡ []) × (result.mate ≡ None) × (result.spent ≡ false) × (result.refused ≡ false) × (result.units ≡ 0) }
+        ensures nothing { (result.cleared.items ≡ []) × (result.mate ≡ None) × (result.spent ≡ false) × (result.refused ≡ false) }
     {
         Work {
             cleared: Vec::new(alloc),
             mate: None,
             spent: false,
             refused: false,
-            units: 0,
         }
     }
 }

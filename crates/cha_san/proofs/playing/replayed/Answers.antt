@@ -1,16 +1,15 @@
 -- cha_san/proofs/playing/replayed/Answers.antt
-use Rattle.std.proofs.Common.{◌+◌, List, ℕ, inl, inr, refl, sym, ap, subst, ◌∙◌, arith}
+use Rattle.std.proofs.Common.{◌+◌, List, ℕ, inr, refl, sym, ap, subst, ◌∙◌, arith}
 use Rattle.cha_san.specs.Playing.{positions, FollowsBy}
 use Rattle.cha_san.specs.Resolving.{resolved}
 use Rattle.cha_san.proofs.Replayed.{word_played, word_fails, words_played}
 use Rattle.cha_san.proofs.playing.replayed.Goals as goal
 
 pub returns-in-Err : goal.returns-in-Err
-returns-in-Err c = elim c.in-Err.ensures.err [
-  | inl x ↦ inl x
-  | inr x ↦ inr (word_fails (c.loop-word.ply + 1) c.loop-word.position c.word-item.result c.args.words.now c.loop-word.word-index c.loop-word.done c.in-Err.fault (positions c.args.start.now c.args.words.now)
-      c.loop-word-test.true c.word-item.is (ap (resolved c.loop-word.position) (sym c.items.ensures) ∙ x.0) x.1 c.loop-word.invariant.listed)
-]
+returns-in-Err c =
+    let x = c.in-Err.ensures.err in
+    inr (word_fails (c.loop-word.ply + 1) c.loop-word.position c.word-item.result c.args.words.now c.loop-word.word-index c.loop-word.done c.in-Err.fault (positions c.args.start.now c.args.words.now)
+    c.loop-word-test.true c.word-item.is (ap (resolved c.loop-word.position) (sym c.items.ensures) ∙ x.0) x.1 c.loop-word.invariant.listed)
 
 pub loop-word-preserved : goal.loop-word-preserved
 loop-word-preserved c = record {

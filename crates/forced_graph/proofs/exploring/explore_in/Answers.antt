@@ -3,7 +3,7 @@ use Rattle.mob_law.proofs.Exploring.{explored_positions}
 use Rattle.node_store.specs.Nodes.{Node}
 use Rattle.node_store.proofs.Pushing.{map_within}
 use Rattle.forced_graph.specs.Regions.{IsBetween, IsExpanding}
-use Rattle.forced_graph.proofs.Calling.{more_made}
+use Rattle.forced_graph.proofs.Calling.{more_made, one_called, spent_is}
 use Rattle.forced_graph.proofs.Members.{explored_asked}
 use Rattle.cha_list.proofs.WhenTold.{when_some, when_none}
 use Rattle.forced_graph.proofs.exploring.explore_in.Goals as goal
@@ -15,6 +15,7 @@ loop-region-init g c = record {
   task = c.in_ok-region.ensures.task;
   few = (let none = c.in_ok-region.ensures.count in omega arith);
   calls = ([], g.met.F.Facts.none_made c.args.facts.now);
+  asked = ([], g.met.F.Facts.none_made c.args.facts.now, (let none = c.in_ok-region.ensures.count in omega arith));
 }
 
 pub returns-then-region-budget-clause-holds : goal.returns-then-region-budget-clause-holds
@@ -24,7 +25,7 @@ returns-then-region-budget-clause-holds g c =
     (refl, explored_asked s.root c.args.position.now s.winner c.args.winner s.count c.args.budget s.store.nodes e.members e.before e.expanded e.size (c.next.ensures.same.0 ∙ c.loop-region.invariant.task.0) (c.next.ensures.same.1 ∙ c.loop-region.invariant.task.1) c.if-region-budget.true c.requires.some c.requires.unshown)
 
 pub returns-then-region-budget-clause-many : goal.returns-then-region-budget-clause-many
-returns-then-region-budget-clause-many g c = explored_positions c.args.position.now c.args.winner c.args.budget (returns-then-region-budget-clause-holds g c).1
+returns-then-region-budget-clause-many g c = explored_positions c.args.position.now c.args.winner c.args.budget (returns-then-region-budget-clause-holds g c).1.0
 
 pub position-here-requires : goal.position-here-requires
 position-here-requires g c =
@@ -65,4 +66,13 @@ loop-region-preserved g c =
       task = (c.expand.ensures.task.0 ∙ c.next.ensures.same.0 ∙ before.task.0, c.expand.ensures.task.1 ∙ c.next.ensures.same.1 ∙ before.task.1);
       few = omega arith;
       calls = more_made g.F.Facts.made c.args.facts.now c.loop-region.facts c.known_mate.new.facts g.met.F.Facts.both_made before.calls c.known_mate.ensures.calls;
+      asked = one_called g.F.Facts.made c.args.facts.now c.loop-region.facts c.known_mate.new.facts _ _ c.loop-region.region.count t.count c.known_mate.result g.met.F.Facts.both_made before.asked c.known_mate.ensures.asked (omega arith);
     }
+
+pub returns-then-region-budget-clause-asks : goal.returns-then-region-budget-clause-asks
+returns-then-region-budget-clause-asks g c = λ n is. (
+    let a = c.loop-region.invariant.asked in
+    let same = c.next.ensures.same.2 in
+    let full = c.if-region-budget.true in
+    let one : c.args.budget ≡ n = spent_is c.args.budget n is in
+    (a.0, a.1, (let were = a.2 in omega arith)))

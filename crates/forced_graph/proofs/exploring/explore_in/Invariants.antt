@@ -1,6 +1,7 @@
 use Rattle.std.proofs.Common.{◌-◌, ◌≤◌}
 use Rattle.forced_graph.specs.Regions.{IsBetween, IsTaskOf}
 use Rattle.cha_fact.specs.Entries.{MadeSome}
+use Rattle.forced_graph.specs.Asking.{HasCalled}
 use Rattle.forced_graph.proofs.exploring.explore_in.Given as goal
 
 abbrev pub invariant-loop-region : goal.invariant-loop-region
@@ -10,6 +11,7 @@ invariant-loop-region g l = record {
   task : IsTaskOf l.position l.winner l.region;
   few : l.region.count ≤ l.budget;
   calls : MadeSome g.F.Facts.made l.fn.facts l.facts;
+  asked : HasCalled g.F.Facts.made l.fn.facts l.facts l.region.count;
 }
 
 abbrev pub decreases-loop-region : goal.decreases-loop-region

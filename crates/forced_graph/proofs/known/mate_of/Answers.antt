@@ -5,8 +5,8 @@ use Rattle.cha_moves.specs.Ends.{IsMatingLine}
 use Rattle.cha_fact.proofs.Searching.{true_of_asked}
 use Rattle.forced_graph.proofs.known.mate_of.Goals as goal
 
-pub returns-in-Mate : goal.returns-in-Mate
-returns-in-Mate c =
+pub returns-in-Mate-clause-mates : goal.returns-in-Mate-clause-mates
+returns-in-Mate-clause-mates c =
     let row = c.args.row.now in
     let L : List Move → Type 0 = λ l. IsMatingLine c.args.position.now c.args.winner l in
     subst L (sym c.copy.ensures)

@@ -19,6 +19,7 @@ returns-then-not-is_lasting-clause-open c =
 pub returns-in-None-clause-open : goal.returns-in-None-clause-open
 returns-in-None-clause-open c =
     open_unshown c.args.store.now.nodes c.args.name c.args.winner c.position-next.result c.in_ok-static_verdict.field-0 c.position-next.ensures c.in-None.is c.in_ok-static_verdict.ensures.none
+    (λ small. let is = c.small_verdict.ensures.1 small in let not = c.if-small_verdict.false in cc) (λ lone. let is = c.lone_verdict.ensures.1 lone in let not = c.if-lone_verdict.false in cc)
 
 pub returns-in-Some-2-clause-leaf : goal.returns-in-Some-2-clause-leaf
 returns-in-Some-2-clause-leaf c =

@@ -1,4 +1,4 @@
-use Rattle.std.proofs.Common.{◌-◌, refl, arith}
+use Rattle.std.proofs.Common.{◌-◌, inl, inr, refl, arith}
 use Rattle.helpmate.proofs.Counting.{no_units}
 use Rattle.helpmate.proofs.LastPly.{one_unit, none_next}
 use Rattle.helpmate.proofs.last.search_last_ply.Goals as goal
@@ -18,3 +18,15 @@ returns-in-None-clause-units c = let some = c.if-left-eq0.false in one_unit c.ar
 pub returns-in-None-clause-holds : goal.returns-in-None-clause-holds
 returns-in-None-clause-holds c =
     none_next c.args.position.now c.args.winner (λ mated. let is = c.is_mate.ensures.mated.1 mated in let not = c.if-is_mate.false in cc) c.in-None.ensures.none
+
+pub returns-then-is_mate-clause-counted : goal.returns-then-is_mate-clause-counted
+returns-then-is_mate-clause-counted c = inr (inr (inl (c.is_mate.ensures.mated.0 c.if-is_mate.true)))
+
+pub returns-then-left-eq0-clause-counted : goal.returns-then-left-eq0-clause-counted
+returns-then-left-eq0-clause-counted c = inr (inr (inr refl))
+
+pub returns-in-Some-clause-counted : goal.returns-in-Some-clause-counted
+returns-in-Some-clause-counted c = let some = c.if-left-eq0.false in inl (omega (arith, some))
+
+pub returns-in-None-clause-counted : goal.returns-in-None-clause-counted
+returns-in-None-clause-counted c = let some = c.if-left-eq0.false in inl (omega (arith, some))

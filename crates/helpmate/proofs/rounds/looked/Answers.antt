@@ -12,13 +12,13 @@ pub returns-in-None-clause-calls : goal.returns-in-None-clause-calls
 returns-in-None-clause-calls g c =
     let units = c.args.left.now - c.search_shallow.new.left in
     asks_once g.F.Facts.made c.args.facts.now c.ask.new.facts c.args.position.now c.args.winner c.args.depth units c.ask.result (Ok c.search_shallow.result) c.ask.ensures.entered
-    c.requires.few (undecided c.args.depth units c.ask.result c.in-Found.row c.in-Found.is (sym c.decided.ensures.value ∙ c.in-None.is))
+    c.requires.few (undecided c.args.position.now c.args.winner c.args.depth units c.ask.result c.in-Found.row (Ok c.search_shallow.result) c.in-Found.is (sym c.decided.ensures.value ∙ c.in-None.is) c.search_shallow.ensures.counted)
 
 pub returns-in-Miss-clause-calls : goal.returns-in-Miss-clause-calls
 returns-in-Miss-clause-calls g c =
     let units = c.args.left.now - c.search_shallow-in-Miss.new.left in
     asks_once g.F.Facts.made c.args.facts.now c.ask.new.facts c.args.position.now c.args.winner c.args.depth units c.ask.result (Ok c.search_shallow-in-Miss.result) c.ask.ensures.entered
-    c.requires.few (missed c.args.depth units c.ask.result c.in-Miss.is)
+    c.requires.few (missed c.args.position.now c.args.winner c.args.depth units c.ask.result (Ok c.search_shallow-in-Miss.result) c.in-Miss.is c.search_shallow-in-Miss.ensures.counted)
 
 pub returns-in-Some-clause-units : goal.returns-in-Some-clause-units
 returns-in-Some-clause-units g c = no_units c.args.position.now c.args.depth (c.args.left.now - c.args.left.now) (omega arith)

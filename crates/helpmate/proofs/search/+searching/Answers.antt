@@ -1,4 +1,4 @@
-use Rattle.std.proofs.Common.{◌+◌, ◌-◌, [], take, Ok, sym, ◌∙◌, ap, refl, arith}
+use Rattle.std.proofs.Common.{◌+◌, ◌-◌, [], take, Ok, inl, inr, sym, ◌∙◌, ap, refl, arith}
 use Rattle.cha_moves.specs.Moves.{after}
 use Rattle.helpmate.specs.declared.answers.RoundAnswer.TheVariants.{Mate, NoneWithin, Spent}
 use Rattle.helpmate.proofs.Counting.{no_units, from_no_move, one_more_counted, all_counted}
@@ -19,6 +19,21 @@ expand-returns-then-left-eq0-clause-units g t c = no_units c.args.position.now c
 pub expand-returns-then-left-eq0-clause-calls : goal.expand-returns-then-left-eq0-clause-calls
 expand-returns-then-left-eq0-clause-calls g t c =
     ends_otherwise g.F.Facts.made c.args.facts.now c.args.facts.now c.args.position.now c.args.winner c.args.depth 0 [] _ (none_tried g.F.Facts.made c.args.facts.now c.args.position.now c.args.winner 0 (g.met.F.Facts.none_made c.args.facts.now)) (λ e. cc)
+
+pub expand-returns-then-is_mate-clause-counted : goal.expand-returns-then-is_mate-clause-counted
+expand-returns-then-is_mate-clause-counted g t c = inr (inr (inl (c.is_mate.ensures.mated.0 c.if-is_mate.true)))
+
+pub expand-returns-then-left-eq0-clause-counted : goal.expand-returns-then-left-eq0-clause-counted
+expand-returns-then-left-eq0-clause-counted g t c = inr (inr (inr refl))
+
+pub expand-returns-in-Mate-clause-counted : goal.expand-returns-in-Mate-clause-counted
+expand-returns-in-Mate-clause-counted g t c = (let less = c.search.ensures.less in let fewer = c.loop-m.invariant.fewer in inl (omega arith))
+
+pub expand-returns-in-Spent-clause-counted : goal.expand-returns-in-Spent-clause-counted
+expand-returns-in-Spent-clause-counted g t c = inr (inr (inr refl))
+
+pub expand-returns-clause-counted : goal.expand-returns-clause-counted
+expand-returns-clause-counted g t c = (let fewer = c.loop-m.invariant.fewer in inl (omega arith))
 
 pub expand-returns-in_err-moves-clause-calls : goal.expand-returns-in_err-moves-clause-calls
 expand-returns-in_err-moves-clause-calls g t c =
@@ -121,7 +136,7 @@ search_deep-returns-in-None-clause-calls g t c =
     let w = c.args.winner in
     let units = c.args.left.now - c.expand.new.left in
     expanded g.F.Facts.made c.args.facts.now c.ask.new.facts c.expand.new.facts q w c.args.depth units c.ask.result c.expand.result g.met.F.Facts.both_made c.ask.ensures.entered
-    c.expand.ensures.calls (undecided c.args.depth units c.ask.result c.in-Found.row c.in-Found.is (sym c.decided.ensures.value ∙ c.in-None.is))
+    c.expand.ensures.calls (undecided q w c.args.depth units c.ask.result c.in-Found.row c.expand.result c.in-Found.is (sym c.decided.ensures.value ∙ c.in-None.is) c.expand.ensures.counted)
 
 pub search_deep-returns-in-Miss-clause-calls : goal.search_deep-returns-in-Miss-clause-calls
 search_deep-returns-in-Miss-clause-calls g t c =
@@ -129,4 +144,4 @@ search_deep-returns-in-Miss-clause-calls g t c =
     let w = c.args.winner in
     let units = c.args.left.now - c.expand-in-Miss.new.left in
     expanded g.F.Facts.made c.args.facts.now c.ask.new.facts c.expand-in-Miss.new.facts q w c.args.depth units c.ask.result c.expand-in-Miss.result g.met.F.Facts.both_made c.ask.ensures.entered
-    c.expand-in-Miss.ensures.calls (missed c.args.depth units c.ask.result c.in-Miss.is)
+    c.expand-in-Miss.ensures.calls (missed q w c.args.depth units c.ask.result c.expand-in-Miss.result c.in-Miss.is c.expand-in-Miss.ensures.counted)

@@ -1,4 +1,4 @@
-use Rattle.std.proofs.Common.{◌≡◌, ◌+◌, ◌-◌, ◌*◌, ◌^◌, ◌<◌, ◌≤◌}
+use Rattle.std.proofs.Common.{◌≡◌, ◌-◌, ◌≤◌}
 use Rattle.cha_moves.specs.Moves.{legal}
 use Rattle.cha_moves.specs.Ends.{HasNoMateWithin}
 use Rattle.root_workers.specs.Deepens.{CrewCalls}
@@ -12,8 +12,6 @@ invariant-loop-depth g l = record {
   none : HasNoMateWithin l.position l.winner l.depth;
   least : l.from ≤ l.depth;
   most : l.depth ≤ l.limits.depth;
-  some : l.from < l.depth → 0 < l.units;
-  units : l.units ≤ l.depth * (1 + 16 * 2 ^ 48);
   calls : CrewCalls g.C.Crew.made_by l.fn.crew l.crew l.position l.winner l.from l.depth (g.C.Crew.count l.fn.crew);
 }
 

@@ -23,7 +23,7 @@ returns-in-None-clause-calls g c =
     let entered = subst (λ (k : Key). g.C.Facts.made c.args.crew.now (probe_entry k c.probe.result ∷ []) c.probe.new.self) c.of.ensures c.probe.ensures.entered in
     rounds_calls g.C.Facts.made g.C.Crew.made_by (g.C.Crew.count c.args.crew.now) (g.C.Crew.count c.probe.new.self) c.known_plies-from.result c.args.crew.now c.probe.new.self c.deepen_and_keep.new.crew q s c.args.limits.now c.probe.result c.deepen_and_keep.result g.met.C.Facts.both_made g.met.C.Crew.both_made_by (g.met.C.Crew.some_workers c.args.crew.now c.requires.ready)
     (g.met.C.Crew.same_count 0 c.args.crew.now c.probe.new.self _ (g.met.C.Crew.first_made c.args.crew.now c.probe.new.self _ entered)) entered (g.met.C.Crew.all_grow 0 c.args.crew.now c.probe.new.self _ (g.met.C.Crew.first_made c.args.crew.now c.probe.new.self _ entered))
-    (undecided_found c.depth-depth.result c.args.limits.now.depth c.probe.result c.in-Found.row c.in-Found.is (sym c.decided.ensures.value ∙ c.in-None.is) c.depth-depth.ensures.value) (known_found q s c.probe.result c.in-Found.row c.known_plies-from.result c.in-Found.is c.known_plies-from.ensures.value) c.deepen_and_keep.ensures.calls c.deepen_and_keep.ensures.kept c.deepen_and_keep.ensures.holds c.deepen_and_keep.ensures.from c.deepen_and_keep.ensures.units
+    (undecided_found c.depth-depth.result c.args.limits.now.depth c.probe.result c.in-Found.row c.in-Found.is (sym c.decided.ensures.value ∙ c.in-None.is) c.depth-depth.ensures.value) (known_found q s c.probe.result c.in-Found.row c.known_plies-from.result c.in-Found.is c.known_plies-from.ensures.value) c.deepen_and_keep.ensures.calls c.deepen_and_keep.ensures.kept c.deepen_and_keep.ensures.holds c.deepen_and_keep.ensures.from
 
 pub returns-in-Miss-clause-finds : goal.returns-in-Miss-clause-finds
 returns-in-Miss-clause-finds g c = finds c.args.position.now c.args.winner c.args.limits.now c.deepen_and_keep-in-Miss.result c.deepen_and_keep-in-Miss.ensures.holds
@@ -38,4 +38,4 @@ returns-in-Miss-clause-calls g c =
     let entered = subst (λ (k : Key). g.C.Facts.made c.args.crew.now (probe_entry k c.probe.result ∷ []) c.probe.new.self) c.of.ensures c.probe.ensures.entered in
     rounds_calls g.C.Facts.made g.C.Crew.made_by (g.C.Crew.count c.args.crew.now) (g.C.Crew.count c.probe.new.self) 0 c.args.crew.now c.probe.new.self c.deepen_and_keep-in-Miss.new.crew q s c.args.limits.now c.probe.result c.deepen_and_keep-in-Miss.result g.met.C.Facts.both_made g.met.C.Crew.both_made_by (g.met.C.Crew.some_workers c.args.crew.now c.requires.ready)
     (g.met.C.Crew.same_count 0 c.args.crew.now c.probe.new.self _ (g.met.C.Crew.first_made c.args.crew.now c.probe.new.self _ entered)) entered (g.met.C.Crew.all_grow 0 c.args.crew.now c.probe.new.self _ (g.met.C.Crew.first_made c.args.crew.now c.probe.new.self _ entered))
-    (undecided_missed c.args.limits.now.depth c.probe.result c.in-Miss.is) (known_missed q s c.probe.result) c.deepen_and_keep-in-Miss.ensures.calls c.deepen_and_keep-in-Miss.ensures.kept c.deepen_and_keep-in-Miss.ensures.holds c.deepen_and_keep-in-Miss.ensures.from c.deepen_and_keep-in-Miss.ensures.units
+    (undecided_missed c.args.limits.now.depth c.probe.result c.in-Miss.is) (known_missed q s c.probe.result) c.deepen_and_keep-in-Miss.ensures.calls c.deepen_and_keep-in-Miss.ensures.kept c.deepen_and_keep-in-Miss.ensures.holds c.deepen_and_keep-in-Miss.ensures.from

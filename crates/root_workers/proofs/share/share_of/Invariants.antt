@@ -1,5 +1,4 @@
-use Rattle.std.proofs.Common.{length, ◌-◌, ◌≡◌, ◌≤◌, IsNone}
-use Rattle.root_workers.specs.Gathers.{left_after}
+use Rattle.std.proofs.Common.{length, ◌-◌, ◌≤◌, IsNone}
 use Rattle.root_workers.proofs.Sharing.{IsBegun, SharesTried}
 use Rattle.root_workers.proofs.share.share_of.Given as goal
 
@@ -7,8 +6,7 @@ abbrev pub invariant-loop-index : goal.invariant-loop-index
 invariant-loop-index g l = record {
   ready : g.F.Facts.ready l.facts;
   short : length l.moves ≤ 20480;
-  begun : IsBegun l.task l.moves l.number l.count l.index l.work;
-  left : l.left ≡ left_after l.task.allowance l.work.units;
+  begun : IsBegun l.task l.moves l.number l.count l.index l.left l.work;
   bounded : IsNone l.left → l.task.depth ≤ 3;
   tried : SharesTried g.F.Facts.made l.fn.facts l.facts l.task l.moves l.number l.count l.index;
 }

@@ -1,0 +1,4 @@
+use Rattle.node_store.proofs.store.Store.pop.Given as goal
+
+abbrev pub ghosts-pop_from : goal.ghosts-pop_from
+ghosts-pop_from a = record { name = a.blank.name; parts = a.blank.parts }

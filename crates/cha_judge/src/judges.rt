@@ -1,10 +1,9 @@
 //! Who judges.
 
-ghost use Rattle.std.specs.Prelude.{◌≡◌, IfOk};
+ghost use Rattle.std.specs.Prelude.{◌≡◌, IfOk, IfErr};
 ghost use Rattle.cha_outcome.specs.Outcomes.{Answers, CanBeAsked, IsPrintableOutcome};
 
-use cha_list::NoMemory;
-use cha_outcome::{Item, Outcome};
+use cha_outcome::{Item, Outcome, Question};
 use std::alloc::Global;
 
 /// Who answers one question about each item, with workers of its own.
@@ -20,15 +19,20 @@ pub trait Judge {
     /// From one state to a later one it did nothing but judge: its workers are those that it had, with what they did since.
     ghost worked: { Self → Self → Type 0 };
 
-    /// What is found about an item, which the outcome holds. The only error is want of memory.
-    fn judge(&mut self, alloc: Global, item: Item) -> Result<Outcome, NoMemory>
+    /// What is asked about each item.
+    fn question(&self) -> Question
+        ensures { result ≡ question self.now };
+
+    /// What is found about an item, which the outcome holds. Where memory was refused, the item comes back.
+    fn judge(&mut self, alloc: Global, item: Item) -> Result<Outcome, Item>
         requires ready { ready self.old }
         requires asked { CanBeAsked (question self.old) item }
         ensures stays_ready { ready self.new }
         ensures worked { worked self.old self.new }
         ensures same_question { question self.new ≡ question self.old }
         ensures answers { IfOk result (Answers (question self.old) item) }
-        ensures printable { IfOk result IsPrintableOutcome };
+        ensures printable { IfOk result IsPrintableOutcome }
+        ensures back { IfErr result (λ back. back ≡ item) };
 
     /// Where nothing is judged, no work is done.
     ghost none_worked: { (s : Self) → worked s s };

@@ -2,8 +2,7 @@
 
 use crate::judges::Judge;
 use cha_board::Color;
-use cha_list::NoMemory;
-use cha_outcome::{Item, Outcome};
+use cha_outcome::{Item, Outcome, Question};
 use helpmate_list::{Spread, least_mates_by};
 use std::alloc::Global;
 
@@ -34,24 +33,34 @@ impl<P: Spread> Judge for MatesJudge<P> {
 
     ghost question = { λ s. Mates s.side s.depth };
 
-    fn judge(&mut self, alloc: Global, item: Item) -> Result<Outcome, NoMemory> {
+    fn question(&self) -> Question {
+        Question::Mates {
+            side: self.side,
+            depth: self.depth,
+        }
+    }
+
+    fn judge(&mut self, alloc: Global, item: Item) -> Result<Outcome, Item> {
         match item {
             Item::Position { line, position } => {
                 let depth = self.depth;
-                let shortest = least_mates_by(
+                let found = least_mates_by(
                     &self.spread,
                     alloc,
                     &position,
                     self.side,
                     depth,
                     self.workers,
-                )?;
-                Ok(Outcome::ListedMates {
-                    line,
-                    position,
-                    depth,
-                    shortest,
-                })
+                );
+                match found {
+                    Ok(shortest) => Ok(Outcome::ListedMates {
+                        line,
+                        position,
+                        depth,
+                        shortest,
+                    }),
+                    Err(_) => Err(Item::Position { line, position }),
+                }
             }
             Item::RefusedLine { line, fault } => Ok(Outcome::RefusedLine { line, fault }),
             Item::UnreadableGame { span, why } => Ok(Outcome::UnreadableGame { span, why }),

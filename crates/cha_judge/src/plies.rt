@@ -1,8 +1,7 @@
 //! The moves of games.
 
 use crate::judges::Judge;
-use cha_list::NoMemory;
-use cha_outcome::{Item, Outcome};
+use cha_outcome::{Item, Outcome, Question};
 use std::alloc::Global;
 
 /// Who tells the moves of games. Nothing is judged.
@@ -23,7 +22,11 @@ impl Judge for PliesJudge {
 
     ghost question = { λ _. Plies };
 
-    fn judge(&mut self, _alloc: Global, item: Item) -> Result<Outcome, NoMemory> {
+    fn question(&self) -> Question {
+        Question::Plies
+    }
+
+    fn judge(&mut self, _alloc: Global, item: Item) -> Result<Outcome, Item> {
         match item {
             Item::Replayed(game) => Ok(Outcome::Replayed(game)),
             Item::Position { .. } => unreachable!(),

@@ -1,11 +1,12 @@
 //! Whether the sides can still mate.
 
-ghost use Rattle.std.specs.Prelude.{◌<◌, ◌≤◌, length, IfOk};
+ghost use Rattle.std.specs.Prelude.{◌≡◌, ◌<◌, ◌≤◌, length, IfOk, IfErr};
 ghost use Rattle.cha_outcome.specs.declared.questions.FlaggedDraws.{FlaggedDraws as DrawRule};
 ghost use Rattle.cha_outcome.specs.declared.questions.Question.TheVariants.{Verdicts};
 ghost use Rattle.cha_fact.specs.Entries.{MadeSome};
 ghost use Rattle.cha_outcome.specs.declared.items.Item.TheVariants.{Position as OfPosition, Played};
-ghost use Rattle.cha_outcome.specs.Outcomes.{Answers, HasPositions, IsPrintableOutcome};
+ghost use Rattle.cha_outcome.specs.Outcomes.{Answers, HasPositions, HasSoundVerdicts, IsPrintableOutcome};
+ghost use Rattle.cha_outcome.specs.declared.outcomes.Outcome.TheVariants.{JudgedGame};
 
 use crate::judges::Judge;
 use cha_board::{Color, Position};
@@ -14,8 +15,10 @@ use cha_limits::Limits;
 use cha_list::NoMemory;
 use cha_moves::state;
 use cha_outcome::{
-    FlaggedDraws, Item, Outcome, PlayedGame, claim_of, first_examined, judgment_of, status_of,
+    FlaggedDraws, Item, Judgment, Outcome, PlayedGame, PositionStatus, Question, claim_of,
+    first_examined, judgment_of, status_of,
 };
+use cha_verdict::{Decision, Scan};
 use root_workers::Crew;
 use std::alloc::Global;
 
@@ -48,7 +51,11 @@ impl<'a, C: Crew> Judge for VerdictsJudge<'a, C> {
 
     ghost question = { λ s. Verdicts s.limits s.draws };
 
-    fn judge(&mut self, alloc: Global, item: Item) -> Result<Outcome, NoMemory> {
+    fn question(&self) -> Question {
+        Question::Verdicts(self.limits, self.draws)
+    }
+
+    fn judge(&mut self, alloc: Global, item: Item) -> Result<Outcome, Item> {
         match item {
             Item::Position { line, position } => {
                 judge_position(alloc, line, position, &self.limits, self.crew)
@@ -68,14 +75,17 @@ fn judge_position<C: Crew>(
     position: Position,
     limits: &Limits,
     crew: &mut C,
-) -> Result<Outcome, NoMemory>
+) -> Result<Outcome, Item>
     requires ready { C.ready crew.old }
     ensures stays_ready { C.ready crew.new }
     ensures calls { MadeSome C.made crew.old crew.new }
     ensures answers { IfOk result (λ outcome. (draws : DrawRule) → Answers (Verdicts limits.now draws) (OfPosition line position) outcome) }
     ensures printable { IfOk result IsPrintableOutcome }
+    ensures back { IfErr result (λ back. back ≡ OfPosition line position) }
 {
-    let decision = decide_by(alloc, &position, Color::White, limits, crew)?;
+    let Ok(decision) = decide_by(alloc, &position, Color::White, limits, crew) else {
+        return Err(Item::Position { line, position });
+    };
     let standing = state(&position);
     let status = status_of(standing, &decision.white, &decision.black);
     Ok(Outcome::JudgedPosition {
@@ -86,22 +96,31 @@ fn judge_position<C: Crew>(
     })
 }
 
+/// What is decided about a game.
+#[derive(Drop)]
+struct DecidedGame {
+    decision: Decision,
+    scan: Option<Scan>,
+    status: PositionStatus,
+    judgment: Judgment,
+}
+
 /// Decides the final position of a game, the recorded winner first, and from where on the game was dead, if it was.
-fn judge_game<C: Crew>(
+fn decide_game<C: Crew>(
     alloc: Global,
-    game: PlayedGame,
+    game: &PlayedGame,
     limits: &Limits,
     draws: FlaggedDraws,
     crew: &mut C,
-) -> Result<Outcome, NoMemory>
-    requires positions { HasPositions game }
+) -> Result<DecidedGame, NoMemory>
+    requires positions { HasPositions game.now }
     requires ready { C.ready crew.old }
     ensures stays_ready { C.ready crew.new }
     ensures calls { MadeSome C.made crew.old crew.new }
-    ensures answers { IfOk result (Answers (Verdicts limits.now draws) (Played game)) }
-    ensures printable { IfOk result IsPrintableOutcome }
+    ensures sound { IfOk result (λ found. HasSoundVerdicts limits.now draws (JudgedGame game.now found.decision found.scan found.status found.judgment)) }
+    ensures printable { IfOk result (λ found. IsPrintableOutcome (JudgedGame game.now found.decision found.scan found.status found.judgment)) }
 {
-    let claim = claim_of(draws, &game);
+    let claim = claim_of(draws, game);
     let first = first_examined(claim);
     let decision = decide_by(alloc, &game.last, first, limits, crew)?;
     let scan = scan_by(
@@ -114,12 +133,39 @@ fn judge_game<C: Crew>(
     )?;
     let standing = state(&game.last);
     let status = status_of(standing, &decision.white, &decision.black);
-    let judgment = judgment_of(&game, claim, standing, &decision, &scan);
-    Ok(Outcome::JudgedGame {
-        game,
+    let judgment = judgment_of(game, claim, standing, &decision, &scan);
+    Ok(DecidedGame {
         decision,
         scan,
         status,
         judgment,
+    })
+}
+
+/// Judges a game.
+fn judge_game<C: Crew>(
+    alloc: Global,
+    game: PlayedGame,
+    limits: &Limits,
+    draws: FlaggedDraws,
+    crew: &mut C,
+) -> Result<Outcome, Item>
+    requires positions { HasPositions game }
+    requires ready { C.ready crew.old }
+    ensures stays_ready { C.ready crew.new }
+    ensures calls { MadeSome C.made crew.old crew.new }
+    ensures answers { IfOk result (Answers (Verdicts limits.now draws) (Played game)) }
+    ensures printable { IfOk result IsPrintableOutcome }
+    ensures back { IfErr result (λ back. back ≡ Played game) }
+{
+    let Ok(found) = decide_game(alloc, &game, limits, draws, crew) else {
+        return Err(Item::Played(game));
+    };
+    Ok(Outcome::JudgedGame {
+        game,
+        decision: found.decision,
+        scan: found.scan,
+        status: found.status,
+        judgment: found.judgment,
     })
 }

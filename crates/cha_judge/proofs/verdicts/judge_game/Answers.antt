@@ -1,22 +1,7 @@
 use Rattle.std.proofs.Common.{refl}
-use Rattle.cha_outcome.specs.Outcomes.{item_of, HasSoundVerdicts}
-use Rattle.cha_decide.proofs.Backwards.{made_both}
+use Rattle.cha_outcome.specs.Outcomes.{item_of}
 use Rattle.cha_judge.proofs.verdicts.judge_game.Goals as goal
 
 pub returns-clause-answers : goal.returns-clause-answers
-unfolding item_of HasSoundVerdicts
-returns-clause-answers g c = (
-  refl,
-  (
-    rw (c.first_examined-first.ensures, c.claim_of-claim.ensures) at c.in_ok-decision.ensures.sound,
-    rw (c.first_examined-first.ensures, c.claim_of-claim.ensures, c.items.ensures) at c.in_ok-scan.ensures.scan,
-    rw c.state-standing.ensures.value at c.status_of-status.ensures,
-    c.judgment_of-judgment.ensures c.args.draws c.claim_of-claim.ensures,
-  ),
-)
-
-pub returns-clause-calls : goal.returns-clause-calls
-returns-clause-calls g c = made_both g.C.Facts.made g.met.C.Facts.both_made c.args.crew.now c.decide_by.new.crew c.scan_by.new.crew (c.decide_by.ensures.calls.entries, c.decide_by.ensures.calls.entered) c.scan_by.ensures.calls
-
-pub returns-in_err-scan-clause-calls : goal.returns-in_err-scan-clause-calls
-returns-in_err-scan-clause-calls g c = made_both g.C.Facts.made g.met.C.Facts.both_made c.args.crew.now c.decide_by.new.crew c.scan_by.new.crew (c.decide_by.ensures.calls.entries, c.decide_by.ensures.calls.entered) c.scan_by.ensures.calls
+unfolding item_of
+returns-clause-answers g c = (refl, c.in-Ok.ensures.sound)

@@ -1,0 +1,113 @@
+-- What sound verdicts say in chess alone.
+use Rattle.std.proofs.Common.{◌≡◌, ℕ, zero, suc, ◌+◌, ◌-◌, ◌<◌, true, false, List, [], ◌∷◌, ◌++◌, length, Contains, Option, Some, None, slice_get, refl, sym, ap, subst, ◌∙◌, arith}
+use Rattle.std.proofs.lemmas.Bool.{and_parts}
+use Rattle.std.proofs.lemmas.Option.{same_Some, slice_get_read}
+use Rattle.cha_board.specs.declared.men.Color.{Color}
+use Rattle.cha_board.specs.declared.men.Color.TheVariants.{White, Black}
+use Rattle.cha_board.specs.Men.{other_color}
+use Rattle.cha_board.specs.Board.{Board}
+use Rattle.cha_limits.specs.Bounds.{Bounds}
+use Rattle.cha_moves.specs.Step.{Move}
+use Rattle.cha_moves.specs.Moves.{after, legal}
+use Rattle.cha_moves.specs.Ends.{IsUnwinnable}
+use Rattle.cha_moves.specs.Dead.{IsDead, ArePlayed}
+use Rattle.cha_moves.specs.Lines.{LeadTo}
+use Rattle.mob_law.specs.Explored.{IsExplored}
+use Rattle.cha_cert.proofs.Bounded.{valid_is_unwinnable}
+use Rattle.cha_verdict.specs.declared.verdicts.Verdict.{Verdict}
+use Rattle.cha_verdict.specs.declared.verdicts.Verdict.TheVariants.{Winnable, Unwinnable, Undecided, Skipped}
+use Rattle.cha_verdict.specs.declared.decisions.Decision.{Decision}
+use Rattle.cha_verdict.specs.declared.scans.Scan.{Scan}
+use Rattle.cha_verdict.specs.declared.scans.EarlierCerts.{EarlierCerts}
+use Rattle.cha_verdict.specs.Verdicts.{is_winnable, is_unwinnable, is_skipped, are_dead}
+use Rattle.cha_verdict.specs.Sound.{IsTrueOf, IsSound, verdict_on}
+use Rattle.cha_verdict.specs.Scans.{IsEarlier, HasScan}
+use Rattle.cha_verdict.proofs.Scanned.{shows}
+use Rattle.cha_outcome.specs.declared.outcomes.Outcome.{Outcome}
+use Rattle.cha_outcome.specs.declared.outcomes.Outcome.TheVariants.{JudgedPosition, JudgedGame, ListedMates, RefusedLine, UnreadableGame, Replayed}
+use Rattle.cha_outcome.specs.declared.questions.FlaggedDraws.{FlaggedDraws}
+use Rattle.cha_outcome.specs.Outcomes.{HasSoundVerdicts}
+use Rattle.cha_outcome.specs.Rulings.{first_of}
+use Rattle.true_blocks.specs.Means.{AreTried, Says, Means, MeansDead, IsMeant}
+use Rattle.true_blocks.specs.Played.{IsPlayedThrough}
+
+-- one more move at the end of a line
+one_more : (q p r : Board) (ms : List Move) (m : Move) → LeadTo q ms p → Contains (legal p) m → after p m ≡ r → LeadTo q (ms ++ m ∷ []) r
+unfolding LeadTo
+one_more q p r [] m is fits leads =
+    let there : Contains (legal q) m = subst (λ (b : Board). Contains (legal b) m) (sym is) fits in
+    (there, ap (λ (b : Board). after b m) is ∙ leads)
+one_more q p r (k ∷ ms) m line fits leads = (line.0, one_more (after q k) p r ms m line.1 fits leads)
+
+-- the line to each place of an exploration
+reached : (q : Board) (w : Color) (n : ℕ) (e : IsExplored q w n) (bound i : ℕ) → i < bound → (r : Board) → slice_get e.members i ≡ Some r → (ms : List Move) × LeadTo q ms r
+unfolding LeadTo
+reached q w n e zero i small r at = absurd (omega (arith, small))
+reached q w n e (suc bound) zero small r at = ([], same_Some q r (sym e.first ∙ at))
+reached q w n e (suc bound) (suc i) small r at =
+    let come = e.later i r at in
+    let before = come.earlier in
+    let line = reached q w n e bound come.number (omega (arith, small, before)) come.origin come.is_origin in
+    (line.0 ++ come.by ∷ [], one_more q come.origin r line.0 come.by line.1 come.is_legal come.leads)
+
+tried : (q : Board) (w : Color) (n : ℕ) → IsExplored q w n → AreTried q w n
+tried q w n e = record {
+  members = e.members;
+  size = e.size;
+  distinct = e.distinct;
+  reached = λ r there. (let at = slice_get_read e.members (length e.members) there.0 r refl there.1 (sym there.2) in reached q w n e (suc there.0) there.0 (omega arith) r at);
+  mateless = e.mateless;
+}
+
+says : (q : Board) (w : Color) (limits : Bounds) (v : Verdict) → IsTrueOf q w limits v → Says q w limits v
+says q w limits (Winnable moves) h = h
+says q w limits (Unwinnable cert) h = valid_is_unwinnable q w cert h
+says q w limits (Undecided units depth) h = (h.spent, tried q w units h.explored, h.none)
+says q w limits Skipped h = tt
+
+-- a side is skipped only where the other can mate
+skips : (first : Color) (d : Decision) → is_skipped (verdict_on d first) ≡ false → is_skipped (verdict_on d (other_color first)) ≡ is_winnable (verdict_on d first)
+    → (w : Color) → is_skipped (verdict_on d w) ≡ true → is_winnable (verdict_on d (other_color w)) ≡ true
+skips White d examined other White is = cc
+skips White d examined other Black is = sym other ∙ is
+skips Black d examined other White is = sym other ∙ is
+skips Black d examined other Black is = cc
+
+pub means : (q : Board) (first : Color) (limits : Bounds) (d : Decision) → IsSound q first limits d → Means q limits d
+means q first limits d sound = record {
+  says = λ w. says q w limits (verdict_on d w) (sound.true_of w);
+  skips = skips first d sound.examined sound.other;
+}
+
+-- verdicts that show a position dead
+side_dead : (q : Board) (w : Color) (limits : Bounds) (v : Verdict) → is_unwinnable v ≡ true → IsTrueOf q w limits v → IsUnwinnable q w
+side_dead q w limits (Winnable moves) is h = cc
+side_dead q w limits (Unwinnable cert) is h = valid_is_unwinnable q w cert h
+side_dead q w limits (Undecided units depth) is h = cc
+side_dead q w limits Skipped is h = cc
+
+both_dead : (q : Board) (first : Color) (limits : Bounds) (d : Decision) → IsSound q first limits d → are_dead d.white d.black ≡ true → IsDead q
+both_dead q first limits d sound dead White = side_dead q White limits d.white (and_parts (is_unwinnable d.white) (is_unwinnable d.black) dead).0 (sound.true_of White)
+both_dead q first limits d sound dead Black = side_dead q Black limits d.black (and_parts (is_unwinnable d.white) (is_unwinnable d.black) dead).1 (sound.true_of Black)
+
+-- the ply of a scan is one of the positions
+ply_inside : (qs : List Board) (ply : ℕ) (earlier : Option EarlierCerts) → IsEarlier qs ply earlier → ply < length qs
+ply_inside qs ply None last = omega (arith, last)
+ply_inside qs ply (Some certs) h = let inside = h.0 in omega (arith, inside)
+
+dead_from : (qs : List Board) (last : Board) (first : Color) (limits : Bounds) (d : Decision) (scan : Option Scan) → ArePlayed qs → slice_get qs (length qs - 1) ≡ Some last → IsSound last first limits d → HasScan qs first limits d scan → MeansDead qs d scan
+dead_from qs last first limits d None played there sound h = h
+dead_from qs last first limits d (Some scan) played there sound h =
+    let end : (q : Board) → slice_get qs (length qs - 1) ≡ Some q → IsDead q = λ q e. subst IsDead (same_Some last q (sym there ∙ e)) (both_dead last first limits d sound h.0) in
+    (ply_inside qs scan.ply scan.earlier h.1.earlier, shows qs first limits scan played end h.1)
+
+-- what a sound outcome says, where its game was played to its final position
+pub meant : (limits : Bounds) (draws : FlaggedDraws) (o : Outcome) → IsPlayedThrough o → HasSoundVerdicts limits draws o → IsMeant limits draws o
+unfolding HasSoundVerdicts IsMeant IsPlayedThrough
+meant limits draws (JudgedPosition number q d status) played h = (means q White limits d h.0, h.1)
+meant limits draws (JudgedGame game d scan status judgment) played h =
+    (means game.last (first_of draws game) limits d h.0, dead_from game.positions game.last (first_of draws game) limits d scan played.0 played.1 h.0 h.1, h.2, h.3)
+meant limits draws (ListedMates number q depth found) played h = h
+meant limits draws (RefusedLine number fault) played h = tt
+meant limits draws (UnreadableGame span why) played h = tt
+meant limits draws (Replayed game) played h = h

@@ -1,0 +1,4 @@
+pub mod Means
+pub mod Plain
+pub mod Played
+pub mod Shown

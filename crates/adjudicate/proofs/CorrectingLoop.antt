@@ -12,6 +12,7 @@ use Rattle.pgn_games.specs.declared.played.PlacedGame.{PlacedGame}
 use Rattle.pgn_games.specs.Games.{placed_games, is_closed}
 use Rattle.pgn_games.specs.Settling.{settled_games}
 use Rattle.pgn_games.proofs.InOrder.{placed_games_order}
+use Rattle.pgn_games.proofs.Settled.{settled_grow}
 use Rattle.pgn_results.specs.Correcting.{end_of}
 use Rattle.pgn_results.proofs.GameByGame.{end_more, stands_behind}
 use Rattle.cha_limits.specs.Bounds.{Bounds}
@@ -102,6 +103,12 @@ ended_late text told piece shown old new f f' n notes notes' e added later same 
   later = later;
   notes_later = notes_later;
 }
+
+-- where the source has not ended, the games that were given are settled, and more bytes change nothing of that
+pub still_whole : (was now : Bool) (taken taken' more : List ℕ) (given : ℕ) (left : Option (List ℕ)) → taken' ≡ taken ++ more → (was ≡ false → given ≤ settled_games taken) → (was ≡ true → now ≡ true) → (now ≡ true → IsAtEnd left)
+    → (given ≤ settled_games taken') ⊎ IsAtEnd left
+still_whole true now taken taken' more given left e due still end = inr (end (still refl))
+still_whole false now taken taken' more given left e due still end = inl (let h = due refl in omega (arith, h, ap settled_games e, settled_grow taken more))
 
 -- nothing was judged
 pub at_first : (q : Question) (changed : Bool) (old : Option (List ℕ)) (s : Totals) → s ≡ totals_of [] → IsAt q changed old old [] 0 0 s
@@ -197,11 +204,20 @@ of q changed = record { judging = on_kept_games q; changed = changed }
 -- How a run ends, where so many games were judged and written.
 module _ (q : Question) (changed : Bool) (asked : IsAskedOf GameItems q) (old now : Option (List ℕ)) (g : ℕ) (taken : List ℕ) (given written : ℕ) (s : Totals) (at : IsAt q changed old now taken given written s)
     (left left' : Option (List ℕ)) (f f' : ℕ) (consumed : Consumes left left' taken) (source_later : f ≤ f') (notes : Noted) where
-  first_of : HasFirst (on_kept_games q) taken at.os
-  first_of = (drop given (kept_items taken), sym (take-append-drop given (kept_items taken)) ∙ ap (λ x. x ++ drop given (kept_items taken)) at.judged.first, at.judged.sound)
+  -- so many games may be written: they are settled, or nothing is left
+  abbrev pub MayHave : ℕ → Type 0
+  MayHave count = (count ≤ settled_games taken) ⊎ IsAtEnd left'
 
-  whole : (least : List ℕ → ℕ) (g' : ℕ) → least taken ≤ given → WritesWhole (of q changed) least (outside left f old g) (outside left' f' now g') notes notes
-  whole least g' due = (taken, consumed, (at.os, first_of, omega (arith, due, at.judged.number), (corrected_front changed taken at.os, at.text, refl)), refl)
+  first_of : (next : Option (List ℕ)) (g' : ℕ) → MayHave given → HasFirst (on_kept_games q) (outside left' f' next g') taken at.os
+  first_of next g' may = (
+    drop given (kept_items taken),
+    sym (take-append-drop given (kept_items taken)) ∙ ap (λ x. x ++ drop given (kept_items taken)) at.judged.first,
+    at.judged.sound,
+    subst MayHave (sym at.judged.number) may,
+  )
+
+  whole : (least : List ℕ → ℕ) (g' : ℕ) → least taken ≤ given → MayHave given → WritesWhole (of q changed) least (outside left f old g) (outside left' f' now g') notes notes
+  whole least g' due may = (taken, consumed, (at.os, first_of now g' may, omega (arith, due, at.judged.number), (corrected_front changed taken at.os, at.text, refl)), refl)
 
   short : (x : Status) (next : Option (List ℕ)) (g' : ℕ) (notes' : Noted) → EndedCorrecting (of q changed) x (outside left f old g) (outside left' f' next g') notes notes' → (x ≡ ReadFault → Rose f f')
       → (x ≡ WriteFault → Rose g g' ⊎ Rose notes.faults notes'.faults) → x ≢ TooLong → length taken ≤ 268435456 → g ≤ g' → notes.faults ≤ notes'.faults
@@ -223,14 +239,14 @@ module _ (q : Question) (changed : Bool) (asked : IsAskedOf GameItems q) (old no
 
   -- the text could not be read to its end
   pub not_read : (end : ReadEnd) (status : Status) (g' : ℕ) → status ≡ status_of_end end → g ≤ g' → (end ≡ ends.ReadFault → Rose f f') → (end ≡ ends.ReadFault → settled_games taken ≤ given) → ((end ≡ ends.TooLong) ↔ (268435456 < length taken))
-      → length taken ≤ 268435456 + 4096 → IsCorrecting (of q changed) status (outside left f old g) (outside left' f' now g') notes notes
-  not_read end status g' is later cause settled long few =
+      → length taken ≤ 268435456 + 4096 → MayHave given → IsCorrecting (of q changed) status (outside left f old g) (outside left' f' now g') notes notes
+  not_read end status g' is later cause settled long few may =
       subst (λ x. IsCorrecting (of q changed) x (outside left f old g) (outside left' f' now g') notes notes) (sym is) (by_end end refl)
     where
       by_end : (e : ReadEnd) → end ≡ e → IsCorrecting (of q changed) (status_of_end e) (outside left f old g) (outside left' f' now g') notes notes
-      by_end ends.ReadFault e = short ReadFault now g' notes (whole settled_games g' (settled e)) (λ _. cause e) (λ h. cc) (λ h. cc) (not_more _ 268435456 (λ more. let t = sym e ∙ long.1 more in cc)) later (omega arith)
+      by_end ends.ReadFault e = short ReadFault now g' notes (whole settled_games g' (settled e) may) (λ _. cause e) (λ h. cc) (λ h. cc) (not_more _ 268435456 (λ more. let t = sym e ∙ long.1 more in cc)) later (omega arith)
       by_end ends.TooLong e = record {
-        ended = whole (λ _. 0) g' (omega arith);
+        ended = whole (λ _. 0) g' (omega arith) may;
         read_fault = λ h. cc;
         write_fault = λ h. cc;
         too_long = λ _. (taken, consumed, (long.0 e, few));
@@ -240,20 +256,24 @@ module _ (q : Question) (changed : Bool) (asked : IsAskedOf GameItems q) (old no
         sink_later = later;
         notes_later = omega arith;
       }
-      by_end ends.NoMemory e = short NoMemory now g' notes (whole (λ _. 0) g' (omega arith)) (λ h. cc) (λ h. cc) (λ h. cc) (not_more _ 268435456 (λ more. let t = sym e ∙ long.1 more in cc)) later (omega arith)
+      by_end ends.NoMemory e = short NoMemory now g' notes (whole (λ _. 0) g' (omega arith) may) (λ h. cc) (λ h. cc) (λ h. cc) (not_more _ 268435456 (λ more. let t = sym e ∙ long.1 more in cc)) later (omega arith)
 
   -- memory was refused
-  pub no_memory : (g' : ℕ) → g ≤ g' → length taken ≤ 268435456 → IsCorrecting (of q changed) NoMemory (outside left f old g) (outside left' f' now g') notes notes
-  no_memory g' later few = short NoMemory now g' notes (whole (λ _. 0) g' (omega arith)) (λ h. cc) (λ h. cc) (λ h. cc) few later (omega arith)
+  pub no_memory : (g' : ℕ) → g ≤ g' → length taken ≤ 268435456 → MayHave given → IsCorrecting (of q changed) NoMemory (outside left f old g) (outside left' f' now g') notes notes
+  no_memory g' later few may = short NoMemory now g' notes (whole (λ _. 0) g' (omega arith) may) (λ h. cc) (λ h. cc) (λ h. cc) few later (omega arith)
 
   -- what is written of the next game was cut
   pub cut_game : (next : Option (List ℕ)) (g' : ℕ) (o : Outcome) (game : PlacedGame) (text : List ℕ) (n : ℕ) → g ≤ g' → Rose g g' → length taken ≤ 268435456 → slice_get (placed_games taken) given ≡ Some game → Answers q (kept_item game) o
-      → text ≡ game_piece changed taken written game.span (new_result o) → Appends now next (take n text) → IsCorrecting (of q changed) WriteFault (outside left f old g) (outside left' f' next g') notes notes
-  cut_game next g' o game text n later rose few found answers text_is added =
+      → text ≡ game_piece changed taken written game.span (new_result o) → Appends now next (take n text) → MayHave (given + 1) → IsCorrecting (of q changed) WriteFault (outside left f old g) (outside left' f' next g') notes notes
+  cut_game next g' o game text n later rose few found answers text_is added may =
       let front = corrected_front changed taken at.os in
       let j = judged_more q taken given (given + 1) written game.span.end s at.os o game at.judged found answers refl refl in
-      let more : HasFirst (on_kept_games q) taken (at.os ++ o ∷ []) =
-      (drop (given + 1) (kept_items taken), sym (take-append-drop (given + 1) (kept_items taken)) ∙ ap (λ x. x ++ drop (given + 1) (kept_items taken)) j.first, j.sound) in
+      let more : HasFirst (on_kept_games q) (outside left' f' next g') taken (at.os ++ o ∷ []) = (
+        drop (given + 1) (kept_items taken),
+        sym (take-append-drop (given + 1) (kept_items taken)) ∙ ap (λ x. x ++ drop (given + 1) (kept_items taken)) j.first,
+        j.sound,
+        subst MayHave (sym j.number) may,
+      ) in
       let out : Grew old next (λ x. IsFront x (corrected_front changed taken (at.os ++ o ∷ []))) = (
         front ++ take n text,
         Appends-trans old now next front (take n text) at.text added,
@@ -310,4 +330,4 @@ module _ (q : Question) (changed : Bool) (asked : IsAskedOf GameItems q) (old no
       raised (inr rose) = inr rose
 
       refused : next ≡ now → notes'.taken ≡ notes.taken → run NoMemory
-      refused same quiet = short NoMemory next g' notes' (taken, consumed, (at.os, first_of, omega arith, (front, subst (λ x. Appends old x front) (sym same) at.text, refl)), quiet) (λ h. cc) (λ h. cc) (λ h. cc) few later w.notes_later
+      refused same quiet = short NoMemory next g' notes' (taken, consumed, (at.os, first_of next g' (inr end), omega arith, (front, subst (λ x. Appends old x front) (sym same) at.text, refl)), quiet) (λ h. cc) (λ h. cc) (λ h. cc) few later w.notes_later

@@ -1,53 +1,33 @@
 -- The items of games and of lines.
-use Rattle.std.proofs.Common.{◌≡◌, ◌≢◌, ℕ, zero, suc, ◌+◌, ◌<◌, ◌≤◌, ◌==◌, Bool, true, false, ◌&&◌, if◌then◌else◌, List, [], ◌∷◌, length, map, take, Option, Some, None, Result, Ok, Err, IfOk, IfSome, slice_get, sym, ap, ◌∙◌, arith, length-append}
+use Rattle.std.proofs.Common.{◌≡◌, ℕ, zero, suc, ◌+◌, ◌<◌, ◌≤◌, ◌==◌, Bool, true, false, ◌&&◌, if◌then◌else◌, List, [], ◌∷◌, length, map, take, Some, slice_get, sym, ap, ◌∙◌, arith, length-append}
 use Rattle.std.proofs.lemmas.List.{take-map}
 use Rattle.text_lines.specs.declared.lines.TextLine.{TextLine}
 use Rattle.text_lines.specs.Lines.{lines, onto_first, begins_with_line_feed, counts, line_if, numbered, text_lines}
-use Rattle.cha_outcome.specs.declared.items.Item.{Item}
-use Rattle.cha_outcome.specs.declared.questions.FlaggedDraws.{FlaggedDraws}
 use Rattle.cha_outcome.specs.declared.questions.Question.{Question}
 use Rattle.cha_outcome.specs.declared.questions.Question.TheVariants.{Verdicts, Mates, Plies}
 use Rattle.cha_outcome.specs.Items.{line_item}
-use Rattle.cha_outcome.specs.Outcomes.{CanBeAsked}
-use Rattle.cha_limits.specs.Bounds.{Bounds}
-use Rattle.cha_outside.specs.declared.gathering.ReadEnd.{ReadEnd}
+use Rattle.pgn_games.specs.declared.played.PlacedGame.{PlacedGame}
+use Rattle.side_by_side.specs.Cuts.{IsAskedAbout}
+use Rattle.side_by_side.specs.declared.cuts.Cut.TheVariants.{Game, Replay, Line}
 use Rattle.adjudicate.specs.Readers.{GameItems, LineItems, ReplayItems, IsAskedOf}
 
--- games are asked for verdicts alone
-asked_of_games : (item : Item) → ((limits : Bounds) (draws : FlaggedDraws) → CanBeAsked (Verdicts limits draws) item) → (question : Question) → IsAskedOf GameItems question → CanBeAsked question item
-asked_of_games item h (Verdicts limits draws) asked = h limits draws
-asked_of_games item h (Mates side depth) asked = absurd asked
-asked_of_games item h Plies asked = absurd asked
-
-pub games_asked : (r : Result (Option Item) ReadEnd) → IfOk r (λ found. IfSome found (λ item. (limits : Bounds) (draws : FlaggedDraws) → CanBeAsked (Verdicts limits draws) item))
-    → IfOk r (λ found. IfSome found (λ item. (question : Question) → IsAskedOf GameItems question → CanBeAsked question item))
-games_asked (Ok (Some item)) h = asked_of_games item h
-games_asked (Ok None) h = tt
-games_asked (Err end) h = tt
+-- games are asked about for verdicts alone
+pub games_about : (question : Question) (placed : PlacedGame) → IsAskedOf GameItems question → IsAskedAbout question (Game placed)
+games_about (Verdicts limits draws) placed asked = tt
+games_about (Mates side depth) placed asked = absurd asked
+games_about Plies placed asked = absurd asked
 
 -- lines for anything but moves
-asked_of_lines : (item : Item) → ((question : Question) → question ≢ Plies → CanBeAsked question item) → (question : Question) → IsAskedOf LineItems question → CanBeAsked question item
-asked_of_lines item h (Verdicts limits draws) asked = h (Verdicts limits draws) (λ e. cc)
-asked_of_lines item h (Mates side depth) asked = h (Mates side depth) (λ e. cc)
-asked_of_lines item h Plies asked = absurd asked
-
-pub lines_asked : (r : Result (Option Item) ReadEnd) → IfOk r (λ found. IfSome found (λ item. (question : Question) → question ≢ Plies → CanBeAsked question item))
-    → IfOk r (λ found. IfSome found (λ item. (question : Question) → IsAskedOf LineItems question → CanBeAsked question item))
-lines_asked (Ok (Some item)) h = asked_of_lines item h
-lines_asked (Ok None) h = tt
-lines_asked (Err end) h = tt
+pub lines_about : (question : Question) (line : TextLine) → IsAskedOf LineItems question → IsAskedAbout question (Line line)
+lines_about (Verdicts limits draws) line asked = tt
+lines_about (Mates side depth) line asked = tt
+lines_about Plies line asked = absurd asked
 
 -- and games whose moves are told for these alone
-asked_of_replays : (item : Item) → CanBeAsked Plies item → (question : Question) → IsAskedOf ReplayItems question → CanBeAsked question item
-asked_of_replays item h (Verdicts limits draws) asked = absurd asked
-asked_of_replays item h (Mates side depth) asked = absurd asked
-asked_of_replays item h Plies asked = h
-
-pub replays_asked : (r : Result (Option Item) ReadEnd) → IfOk r (λ found. IfSome found (CanBeAsked Plies))
-    → IfOk r (λ found. IfSome found (λ item. (question : Question) → IsAskedOf ReplayItems question → CanBeAsked question item))
-replays_asked (Ok (Some item)) h = asked_of_replays item h
-replays_asked (Ok None) h = tt
-replays_asked (Err end) h = tt
+pub replays_about : (question : Question) (placed : PlacedGame) → IsAskedOf ReplayItems question → IsAskedAbout question (Replay placed)
+replays_about (Verdicts limits draws) placed asked = absurd asked
+replays_about (Mates side depth) placed asked = absurd asked
+replays_about Plies placed asked = tt
 
 -- a text has at most as many lines as bytes
 onto_first_few : (b : ℕ) (ls : List (List ℕ)) → length (onto_first b ls) ≤ length ls + 1

@@ -1,5 +1,6 @@
 pub mod Items
 pub mod Progress
+pub mod Settling
 pub mod RunEndings
 pub mod OrderRuns
 pub mod OpeningLives
@@ -11,3 +12,4 @@ pub mod GivenGames
 pub mod ReportLoop
 pub mod LegalLines
 pub mod CorrectingLoop
+pub mod Batching

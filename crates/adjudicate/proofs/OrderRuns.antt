@@ -18,7 +18,7 @@ use Rattle.adjudicate.proofs.RunEndings.{not_begun_by}
 -- where memory is refused before anything is read
 pub nothing_corrected : (c : Correction) (left a : Option (List ℕ)) (f g : ℕ) (notes : Noted) → IsCorrecting c NoMemory (outside left f a g) (outside left f a g) notes notes
 nothing_corrected c left a f g notes = record {
-  ended = ([], Consumes-nil left, ([], (c.judging.items [], refl, tt), omega arith, ([], Appends-nil a, sym (front_of_none c.changed []))), refl);
+  ended = ([], Consumes-nil left, ([], (c.judging.items [], refl, tt, inl (omega arith)), omega arith, ([], Appends-nil a, sym (front_of_none c.changed []))), refl);
   read_fault = λ e. cc;
   write_fault = λ e. cc;
   too_long = λ e. cc;

@@ -76,8 +76,9 @@ one_more j all here later item o old now next s text w here_is answers text_is a
 
 -- the block of the next item is written in part
 pub cut_block : (j : Job) (bytes : List ℕ) (here later : List Item) (item : Item) (o : Outcome) (old now next : Option (List ℕ)) (s : Totals) (text : List ℕ) (n : ℕ) → WroteUpTo j (j.items bytes) here old now s → here ≡ item ∷ later
-    → Answers j.question item o → text ≡ block j.style (s.items + 1) o → text ≢ [] → Appends now next (take n text) → Grew old next (HasCutBlock j bytes)
-cut_block j bytes here later item o old now next s text n w here_is answers text_is some added =
+    → Answers j.question item o → text ≡ block j.style (s.items + 1) o → text ≢ [] → Appends now next (take n text)
+    → (Allows : ℕ → Type 0) → Allows (s.items + 1) → Grew old next (HasCutBlock j Allows bytes)
+cut_block j bytes here later item o old now next s text n w here_is answers text_is some added Allows allowed =
     let os = w.2.0 in
     let number : s.items ≡ length os = ap (λ t. t.items) w.2.4 in
     let shown : text ≡ block j.style (length os + 1) o = text_is ∙ ap (λ k. block j.style (k + 1) o) number in (
@@ -93,16 +94,17 @@ cut_block j bytes here later item o old now next s text n w here_is answers text
         answers.1,
         refl,
         (drop n text, sym shown ∙ sym (take-append-drop n text)),
-        λ none. some (shown ∙ none),
+        (λ none. some (shown ∙ none)),
+        subst (λ k. Allows (k + 1)) number allowed,
       ),
     )
 
 -- nothing of the next item is written
-pub whole_blocks : (j : Job) (bytes : List ℕ) (here : List Item) (old now : Option (List ℕ)) (s : Totals) (least : ℕ) → WroteUpTo j (j.items bytes) here old now s → least ≤ s.items → Grew old now (HasBlocks j least bytes)
-whole_blocks j bytes here old now s least w due =
+pub whole_blocks : (j : Job) (bytes : List ℕ) (here : List Item) (old now : Option (List ℕ)) (s : Totals) (Allows : ℕ → Type 0) → WroteUpTo j (j.items bytes) here old now s → Allows s.items → Grew old now (HasBlocks j Allows bytes)
+whole_blocks j bytes here old now s Allows w allowed =
     let os = w.2.0 in
     let number : s.items ≡ length os = ap (λ t. t.items) w.2.4 in
-    (blocks j.style 1 os, w.2.3, (os, here, w.1 ∙ ap (λ x. x ++ here) (sym w.2.1), w.2.2, refl, omega (arith, number, due)))
+    (blocks j.style 1 os, w.2.3, (os, here, w.1 ∙ ap (λ x. x ++ here) (sym w.2.1), w.2.2, refl, subst Allows number allowed))
 
 -- no item is left: the outcomes of all items make the report
 all_outcomes : (j : Job) (bytes : List ℕ) (old now : Option (List ℕ)) (s : Totals) → (w : WroteUpTo j (j.items bytes) [] old now s) → HasReport j bytes (blocks j.style 1 w.2.0 ++ summary j.style j.subject (j.closed bytes) s)

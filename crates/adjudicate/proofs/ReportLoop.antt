@@ -1,5 +1,5 @@
 -- The one loop over items: what was judged and written so far, and how a run ends.
-use Rattle.std.proofs.Common.{◌≡◌, ◌≢◌, ◌↔◌, ◌⊎◌, inl, inr, ℕ, zero, suc, ◌+◌, ◌^◌, ◌<◌, ◌≤◌, Bool, List, [], ◌∷◌, ◌++◌, length, take, drop, Option, Some, slice_get, refl, sym, ap, ◌∙◌, arith, subst, take-append-drop, append_assoc}
+use Rattle.std.proofs.Common.{◌≡◌, ◌≢◌, ◌↔◌, ◌⊎◌, inl, inr, ℕ, zero, suc, ◌+◌, ◌^◌, ◌<◌, ◌≤◌, Bool, true, false, List, [], ◌∷◌, ◌++◌, length, take, drop, Option, Some, slice_get, refl, sym, ap, ◌∙◌, arith, subst, take-append-drop, append_assoc}
 use Rattle.std.specs.Io.KnownBytes.{Appends, Consumes, IsAtEnd}
 use Rattle.std.proofs.lemmas.List.{length-map, drop_all}
 use Rattle.std.proofs.Math.Seq.{take-append_seam}
@@ -25,6 +25,7 @@ use Rattle.adjudicate.specs.Report.{Demand, demand_by, HasBlocks}
 use Rattle.adjudicate.specs.Runs.{Grew, outside, IsRunOf}
 use Rattle.adjudicate.specs.Readers.{ItemKind, items_by, settled_by, closed_by, IsAskedOf, job_on}
 use Rattle.adjudicate.proofs.RunEndings.{short_run, long_run}
+use Rattle.adjudicate.proofs.Settling.{settled_more}
 use Rattle.adjudicate.proofs.Progress.{WroteUpTo, nothing_written, one_more, cut_block, whole_blocks, finished, cut_summary, room}
 
 -- So many items of the bytes taken were judged, and what is printed of them was written; these are the totals.
@@ -80,6 +81,9 @@ same_item k k' x n item e h = subst (λ b. slice_get (items_by b x) n ≡ Some i
 pub same_settled : (k k' : ItemKind) (x : List ℕ) (n : ℕ) → k' ≡ k → settled_by k' x ≤ n → settled_by k x ≤ n
 same_settled k k' x n e h = subst (λ b. settled_by b x ≤ n) e h
 
+pub same_before : (k k' : ItemKind) (x : List ℕ) (n : ℕ) → k' ≡ k → n < settled_by k' x → n < settled_by k x
+same_before k k' x n e h = subst (λ b. n < settled_by b x) e h
+
 pub same_count : (k k' : ItemKind) (x : List ℕ) (n : ℕ) → k' ≡ k → length (items_by k' x) ≤ n → length (items_by k x) ≤ n
 same_count k k' x n e h = subst (λ b. length (items_by b x) ≤ n) e h
 
@@ -95,6 +99,21 @@ same_answers question question' item o same h = subst (λ q. Answers q item o) s
 pub not_more : (n most : ℕ) → (most < n → ⊥) → n ≤ most
 not_more n most h = omega arith
 
+-- Where the source has not ended, the items that were given are settled, and more bytes change nothing of that.
+pub still_whole : (k : ItemKind) (was now : Bool) (taken taken' : List ℕ) (given : ℕ) (a b : Option (List ℕ)) → Gathers a b taken taken' → (was ≡ false → given ≤ settled_by k taken) → (was ≡ true → now ≡ true) → (now ≡ true → IsAtEnd b)
+    → (given ≤ settled_by k taken') ⊎ IsAtEnd b
+still_whole k true now taken taken' given a b more due still end = inr (end (still refl))
+still_whole k false now taken taken' given a b more due still end = inl (let h = due refl in omega (arith, h, ap (settled_by k) more.2, settled_more k taken more.0))
+
+-- The next item too is settled then.
+pub given_whole : (ended : Bool) (given settled : ℕ) (left : Option (List ℕ)) → (ended ≡ false → given < settled) → (ended ≡ true → IsAtEnd left) → (given ≤ settled) ⊎ IsAtEnd left
+given_whole true given settled left known end = inr (end refl)
+given_whole false given settled left known end = inl (let h = known refl in omega (arith, h))
+
+pub next_whole : (ended : Bool) (given settled : ℕ) (left : Option (List ℕ)) → (ended ≡ false → given < settled) → (ended ≡ true → IsAtEnd left) → (given + 1 ≤ settled) ⊎ IsAtEnd left
+next_whole true given settled left known end = inr (end refl)
+next_whole false given settled left known end = inl (let h = known refl in omega (arith, h))
+
 -- what was taken in all
 pub all_taken : (a b c : Option (List ℕ)) (taken taken' : List ℕ) → Consumes a b taken → Gathers b c taken taken' → Consumes a c taken'
 all_taken a b c taken taken' consumed more = subst (Consumes a c) (sym more.2) (Consumes-trans a b c taken more.0 consumed more.1)
@@ -109,37 +128,42 @@ of_job k question form = demand_by (Some (job_on k question form))
 -- How a run ends, where so many items were judged: what was taken is no more than an input may have, but where it was too long.
 module _ (k : ItemKind) (question : Question) (form : Form) (old now : Option (List ℕ)) (g g' : ℕ) (taken : List ℕ) (given : ℕ) (s : Totals) (at : IsAt (job_on k question form) old now taken given s)
     (left left' : Option (List ℕ)) (f f' : ℕ) (consumed : Consumes left left' taken) (source_later : f ≤ f') where
+  -- so many items may have a block: they are settled, or nothing is left
+  abbrev pub MayHave : ℕ → Type 0
+  MayHave count = (count ≤ settled_by k taken) ⊎ IsAtEnd left'
+
   -- so far whole blocks were written
-  whole : (least : ℕ) → least ≤ given → Grew old now (HasBlocks (job_on k question form) least taken)
-  whole least due = whole_blocks (job_on k question form) taken (drop given (items_by k taken)) old now s least at.written (omega (arith, at.number, due))
+  whole : (least : ℕ) → least ≤ given → MayHave given → Grew old now (HasBlocks (job_on k question form) (λ count. (least ≤ count) × MayHave count) taken)
+  whole least due may =
+      whole_blocks (job_on k question form) taken (drop given (items_by k taken)) old now s (λ count. (least ≤ count) × MayHave count) at.written (omega (arith, at.number, due), subst MayHave (sym at.number) may)
 
   none_left : length (items_by k taken) ≤ given → WroteUpTo (job_on k question form) (items_by k taken) [] old now s
   none_left few = subst (λ x. WroteUpTo (job_on k question form) (items_by k taken) x old now s) (drop_all given (items_by k taken) few) at.written
 
   -- it could not be read to its end
   pub not_read : (end : ReadEnd) (status : Status) → status ≡ status_of_end end → g ≤ g' → (end ≡ ends.ReadFault → Rose f f') → (end ≡ ends.ReadFault → settled_by k taken ≤ given) → ((end ≡ ends.TooLong) ↔ (268435456 < length taken)) → length taken ≤ 268435456 + 4096
-      → IsRunOf (of_job k question form) status (outside left f old g) (outside left' f' now g')
-  not_read end status is later cause settled long few =
+      → MayHave given → IsRunOf (of_job k question form) status (outside left f old g) (outside left' f' now g')
+  not_read end status is later cause settled long few may =
       subst (λ x. IsRunOf (of_job k question form) x (outside left f old g) (outside left' f' now g')) (sym is) (by_end end refl)
     where
       by_end : (e : ReadEnd) → end ≡ e → IsRunOf (of_job k question form) (status_of_end e) (outside left f old g) (outside left' f' now g')
-      by_end ends.ReadFault e = short_run (of_job k question form) (outside left f old g) (outside left' f' now g') refl source_later later ReadFault (taken, consumed, whole (settled_by k taken) (settled e)) (λ _. cause e) (λ h. cc) (λ h. cc) (taken, consumed, not_more _ 268435456 (λ more. let t = sym e ∙ long.1 more in cc))
+      by_end ends.ReadFault e = short_run (of_job k question form) (outside left f old g) (outside left' f' now g') refl source_later later ReadFault (taken, consumed, whole (settled_by k taken) (settled e) may) (λ _. cause e) (λ h. cc) (λ h. cc) (taken, consumed, not_more _ 268435456 (λ more. let t = sym e ∙ long.1 more in cc))
       by_end ends.TooLong e =
-          long_run (of_job k question form) (outside left f old g) (outside left' f' now g') refl source_later later (taken, consumed, whole 0 (omega arith)) (taken, consumed, (long.0 e, few))
+          long_run (of_job k question form) (outside left f old g) (outside left' f' now g') refl source_later later (taken, consumed, whole 0 (omega arith) may) (taken, consumed, (long.0 e, few))
           (λ bytes told small. let had = gathered_front left left' taken bytes consumed told in let more = long.0 e in omega (arith, had, more, small))
-      by_end ends.NoMemory e = short_run (of_job k question form) (outside left f old g) (outside left' f' now g') refl source_later later NoMemory (taken, consumed, whole 0 (omega arith)) (λ h. cc) (λ h. cc) (λ h. cc) (taken, consumed, not_more _ 268435456 (λ more. let t = sym e ∙ long.1 more in cc))
+      by_end ends.NoMemory e = short_run (of_job k question form) (outside left f old g) (outside left' f' now g') refl source_later later NoMemory (taken, consumed, whole 0 (omega arith) may) (λ h. cc) (λ h. cc) (λ h. cc) (taken, consumed, not_more _ 268435456 (λ more. let t = sym e ∙ long.1 more in cc))
 
   -- memory was refused
-  pub no_memory : g ≤ g' → length taken ≤ 268435456 → IsRunOf (of_job k question form) NoMemory (outside left f old g) (outside left' f' now g')
-  no_memory later few =
-      short_run (of_job k question form) (outside left f old g) (outside left' f' now g') refl source_later later NoMemory (taken, consumed, whole 0 (omega arith)) (λ h. cc) (λ h. cc) (λ h. cc) (taken, consumed, few)
+  pub no_memory : g ≤ g' → length taken ≤ 268435456 → MayHave given → IsRunOf (of_job k question form) NoMemory (outside left f old g) (outside left' f' now g')
+  no_memory later few may =
+      short_run (of_job k question form) (outside left f old g) (outside left' f' now g') refl source_later later NoMemory (taken, consumed, whole 0 (omega arith) may) (λ h. cc) (λ h. cc) (λ h. cc) (taken, consumed, few)
 
   -- the block of the next item was cut
   pub cut_item : (next : Option (List ℕ)) (item : Item) (o : Outcome) (text : List ℕ) (n : ℕ) → g ≤ g' → Rose g g' → length taken ≤ 268435456
       → slice_get (items_by k taken) given ≡ Some item → Answers question item o → text ≡ block form.style (s.items + 1) o → text ≢ [] → Appends now next (take n text)
-      → IsRunOf (of_job k question form) WriteFault (outside left f old g) (outside left' f' next g')
-  cut_item next item o text n later rose few found answers text_is some added =
-      let cut = cut_block (job_on k question form) taken (drop given (items_by k taken)) (drop (given + 1) (items_by k taken)) item o old now next s text n at.written (next_is (items_by k taken) given item found) answers text_is some added in
+      → MayHave (given + 1) → IsRunOf (of_job k question form) WriteFault (outside left f old g) (outside left' f' next g')
+  cut_item next item o text n later rose few found answers text_is some added may =
+      let cut = cut_block (job_on k question form) taken (drop given (items_by k taken)) (drop (given + 1) (items_by k taken)) item o old now next s text n at.written (next_is (items_by k taken) given item found) answers text_is some added MayHave (subst (λ n. MayHave (n + 1)) (sym at.number) may) in
       short_run (of_job k question form) (outside left f old g) (outside left' f' next g') refl source_later later WriteFault
       (taken, consumed, (cut.0, cut.1, inl cut.2))
       (λ h. cc) (λ _. rose) (λ h. cc) (taken, consumed, few)
@@ -166,7 +190,7 @@ module _ (k : ItemKind) (question : Question) (form : Form) (old now : Option (L
             subst (λ x. IsRunOf (of_job k question form) x (outside left f old g) (outside left' f' next g')) (sym is) run)
         | inr (inr is) ↦ (
             let run : IsRunOf (of_job k question form) NoMemory (outside left f old g) (outside left' f' next g') =
-            short_run (of_job k question form) (outside left f old g) (outside left' f' next g') refl source_later later NoMemory (taken, consumed, subst (λ w. Grew old w (HasBlocks (job_on k question form) 0 taken)) (sym (refused is)) (whole 0 (omega arith)))
+            short_run (of_job k question form) (outside left f old g) (outside left' f' next g') refl source_later later NoMemory (taken, consumed, subst (λ w. Grew old w (HasBlocks (job_on k question form) (λ count. (0 ≤ count) × MayHave count) taken)) (sym (refused is)) (whole 0 (omega arith) (inr end)))
             (λ h. cc) (λ h. cc) (λ h. cc) (taken, consumed, few) in
             subst (λ x. IsRunOf (of_job k question form) x (outside left f old g) (outside left' f' next g')) (sym is) run)
       ]

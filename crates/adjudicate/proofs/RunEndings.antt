@@ -1,6 +1,6 @@
 -- How runs end.
 use Rattle.std.proofs.Common.{◌≡◌, ◌≢◌, ℕ, ◌+◌, ◌<◌, ◌≤◌, Bool, true, false, List, [], ◌∷◌, ◌++◌, length, Option, Some, None, Result, Err, refl, sym, ap, ◌∙◌, subst, arith, append-nil, inl, inr}
-use Rattle.std.specs.Io.KnownBytes.{Consumes, IsAtEnd}
+use Rattle.std.specs.Io.KnownBytes.{Appends, Consumes, IsAtEnd}
 use Rattle.cha_outside.specs.Faults.{Rose}
 use Rattle.cha_outside.specs.Gathering.{Took}
 use Rattle.cha_outside.specs.declared.gathering.ReadEnd.{ReadEnd}
@@ -13,6 +13,7 @@ use Rattle.cha_cert.proofs.Bounded.{valid_is_unwinnable}
 use Rattle.cert_text.proofs.EitherVersion.{any_is_spelled}
 use Rattle.cha_words.specs.declared.orders.Order.{Order}
 use Rattle.cha_words.specs.declared.orders.Order.TheVariants.{CheckCert}
+use Rattle.pgn_games.specs.Settling.{settled_games}
 use Rattle.random_games.specs.Made.{made}
 use Rattle.cha_outcome.specs.declared.outcomes.Outcome.{Outcome}
 use Rattle.cha_outcome.specs.declared.questions.Question.{Question}
@@ -24,7 +25,7 @@ use Rattle.adjudicate.specs.Statuses.{status_of_end}
 use Rattle.adjudicate.specs.CertFindings.{IsTextOf, IsUnwinnableAtFirst}
 use Rattle.adjudicate.specs.Jobs.{Job, game_items, on_games, on_made}
 use Rattle.adjudicate.specs.Report.{Demand, demand, demand_by, HasBlocks, HasReport, HasCutBlock}
-use Rattle.adjudicate.specs.Runs.{Outside, outside, Ended, BeginsWhole, Takes, HasReadAll, IsRunOf}
+use Rattle.adjudicate.specs.Runs.{Outside, outside, Ended, AreWhole, BeginsWhole, Takes, HasReadAll, IsRunOf}
 use Rattle.adjudicate.specs.Steps.{IsWritten, made_status}
 
 -- the first position is valid
@@ -103,10 +104,10 @@ quiet_run d s left a a' f g g' no_fault short cause later ended = record {
 }
 
 -- bytes were taken, and nothing was written
-nothing_yet : (j : Option Job) (bytes : List ℕ) (least : ℕ) → least ≡ 0 → (demand_by j).blocks least bytes []
+nothing_yet : (j : Option Job) (bytes : List ℕ) (Allows : ℕ → Type 0) → Allows 0 → (demand_by j).blocks Allows bytes []
 unfolding blocks
-nothing_yet None bytes least none = refl
-nothing_yet (Some j) bytes least none = ([], j.items bytes, refl, tt, refl, omega (arith, none))
+nothing_yet None bytes Allows none = refl
+nothing_yet (Some j) bytes Allows none = ([], j.items bytes, refl, tt, refl, none)
 
 -- what is read is taken of its source
 takes : (reads : Bool) (left left' a a' : Option (List ℕ)) (f f' g g' : ℕ) (bytes : List ℕ) → reads ≡ true → Consumes left left' bytes → Takes reads (outside left f a g) (outside left' f' a' g') bytes
@@ -118,7 +119,7 @@ has_read true left a f g end = end
 has_read false left a f g end = tt
 
 -- a source that could not be read to its end at once
-module _ {X : Type 0} (j : Option Job) (reads : (demand_by j).reads ≡ true) (none_due : (bytes : List ℕ) → (demand_by j).due bytes ≡ 0) (r : Result X ReadEnd) (left left' a : Option (List ℕ)) (f f' g : ℕ)
+module _ {X : Type 0} (j : Option Job) (reads : (demand_by j).reads ≡ true) (none_settled : (bytes : List ℕ) → (demand_by j).settled bytes ≡ 0) (r : Result X ReadEnd) (left left' a : Option (List ℕ)) (f f' g : ℕ)
     (later : f ≤ f')
     (read_fault : r ≡ Err ends.ReadFault → Took left left' (λ taken. length taken ≤ 268435456))
     (too_long : r ≡ Err ends.TooLong → Took left left' (λ taken. (268435456 < length taken) × (length taken ≤ 268435456 + 4096)))
@@ -126,11 +127,11 @@ module _ {X : Type 0} (j : Option Job) (reads : (demand_by j).reads ≡ true) (n
     (cause : r ≡ Err ends.ReadFault → Rose f f')
     (within : (bytes : List ℕ) → left ≡ Some bytes → length bytes ≤ 268435456 → r ≢ Err ends.TooLong) where
   begun : (P : List ℕ → Type 0) (least : List ℕ → ℕ) → ((bytes : List ℕ) → least bytes ≡ 0) → Took left left' P → BeginsWhole (demand_by j) least (outside left f a g) (outside left' f' a g)
-  begun P least none took = (took.0, takes (demand_by j).reads left left' a a f f' g g took.0 reads took.1, ([], Appends-nil a, nothing_yet j took.0 (least took.0) (none took.0)))
+  begun P least none took = (took.0, takes (demand_by j).reads left left' a a f f' g g took.0 reads took.1, ([], Appends-nil a, nothing_yet j took.0 _ (omega (arith, none took.0), inl (omega arith))))
 
   unread_by : (end : ReadEnd) → r ≡ Err end → IsRunOf (demand_by j) (status_of_end end) (outside left f a g) (outside left' f' a g)
   unread_by ends.ReadFault e =
-      short_run (demand_by j) (outside left f a g) (outside left' f' a g) reads later (omega arith) ReadFault (begun _ (demand_by j).due none_due (read_fault e)) (λ _. cause e) (λ h. cc) (λ h. cc) (read_fault e)
+      short_run (demand_by j) (outside left f a g) (outside left' f' a g) reads later (omega arith) ReadFault (begun _ (demand_by j).settled none_settled (read_fault e)) (λ _. cause e) (λ h. cc) (λ h. cc) (read_fault e)
   unread_by ends.TooLong e =
       long_run (demand_by j) (outside left f a g) (outside left' f' a g) reads later (omega arith) (begun _ (λ _. 0) (λ _. refl) (too_long e)) (too_long e) (λ bytes told small. within bytes told small e)
   unread_by ends.NoMemory e =
@@ -140,7 +141,10 @@ module _ {X : Type 0} (j : Option Job) (reads : (demand_by j).reads ≡ true) (n
   unread end s e is = subst (λ status. IsRunOf (demand_by j) status (outside left f a g) (outside left' f' a g)) (sym is) (unread_by end e)
 
 -- a whole input was read, and then the answer on it was written or not
-module _ (d : Demand) (reads : d.reads ≡ true) (bytes : List ℕ) (left left' a a' : Option (List ℕ)) (f f' g g' : ℕ) (consumed : Consumes left left' bytes) (end : IsAtEnd left') where
+module _ (j : Option Job) (reads : (demand_by j).reads ≡ true) (bytes : List ℕ) (left left' a a' : Option (List ℕ)) (f f' g g' : ℕ) (consumed : Consumes left left' bytes) (end : IsAtEnd left') where
+  abbrev d : Demand
+  d = demand_by j
+
   taken : Takes d.reads (outside left f a g) (outside left' f' a' g') bytes
   taken = takes d.reads left left' a a' f f' g g' bytes reads consumed
 
@@ -151,7 +155,8 @@ module _ (d : Demand) (reads : d.reads ≡ true) (bytes : List ℕ) (left left' 
   ended_by_writing Done w = (bytes, taken, all_read, (w.done refl).0, (w.done refl).1)
   ended_by_writing NotAccepted w = (bytes, taken, all_read, (w.not_accepted refl).0, (w.not_accepted refl).1)
   ended_by_writing WriteFault w = let cut = (w.cut refl).1 in (bytes, taken, (cut.0, cut.1, inr (all_read, cut.2)))
-  ended_by_writing NoMemory w = (bytes, taken, w.no_memory refl)
+  ended_by_writing NoMemory w =
+      (bytes, taken, ([], subst (λ x. Appends a x []) (sym (w.no_memory refl)) (Appends-nil a), nothing_yet j bytes _ (omega arith, inl (omega arith))))
   ended_by_writing Usage w = absurd (w.no_other.0 refl)
   ended_by_writing ReadFault w = absurd (w.no_other.1 refl)
   ended_by_writing TooLong w = absurd (w.no_other.2 refl)
@@ -168,7 +173,7 @@ rose_in f f' f'' le rose = omega arith
 -- where memory is refused before anything is read
 pub not_begun_by : (j : Option Job) (left a : Option (List ℕ)) (f g : ℕ) → IsRunOf (demand_by j) NoMemory (outside left f a g) (outside left f a g)
 not_begun_by j left a f g =
-    quiet_run (demand_by j) NoMemory left a a f g g (λ e. cc) (λ e. cc) (λ e. cc) (omega arith) ([], nothing_taken (demand_by j).reads, ([], Appends-nil a, nothing_yet j [] 0 refl))
+    quiet_run (demand_by j) NoMemory left a a f g g (λ e. cc) (λ e. cc) (λ e. cc) (omega arith) ([], nothing_taken (demand_by j).reads, ([], Appends-nil a, nothing_yet j [] _ (omega arith, inl (omega arith))))
   where
     nothing_taken : (reads : Bool) → Takes reads (outside left f a g) (outside left f a g) []
     nothing_taken true = Consumes-nil left
@@ -193,11 +198,16 @@ module _ (question : Question) (seed count : ℕ) (left a a' : Option (List ℕ)
   reported : (bytes out : List ℕ) → bytes ≡ made seed count → HasReport (on_games question SummaryAlone) bytes out → HasReport (on_made question seed count) [] out
   reported bytes out all report = (report.0, report.1 ∙ ap game_items all, report.2, report.3)
 
-  nothing_out : (bytes out : List ℕ) (least : ℕ) → HasBlocks (on_games question SummaryAlone) least bytes out → HasBlocks (on_made question seed count) 0 [] out
-  unfolding blocks
-  nothing_out bytes out least h = ([], game_items (made seed count), refl, tt, h.4 ∙ no_blocks 1 h.0, omega arith)
+  -- any number of games that are made may have a block
+  abbrev Allowed : ℕ → Type 0
+  Allowed many = (0 ≤ many) × AreWhole false (outside left f a' g') 0 many
 
-  no_cut : (bytes out : List ℕ) → HasCutBlock (on_games question SummaryAlone) bytes out → ⊥
+  nothing_out : (bytes out : List ℕ) (least : ℕ) → HasBlocks (on_games question SummaryAlone) (λ many. (least ≤ many) × AreWhole true (outside (Some rest) f' a' g') (settled_games bytes) many) bytes out
+      → HasBlocks (on_made question seed count) Allowed [] out
+  unfolding blocks
+  nothing_out bytes out least h = ([], game_items (made seed count), refl, tt, h.4 ∙ no_blocks 1 h.0, (omega arith, inr tt))
+
+  no_cut : (bytes out : List ℕ) → HasCutBlock (on_games question SummaryAlone) (AreWhole true (outside (Some rest) f' a' g') (settled_games bytes)) bytes out → ⊥
   unfolding block
   no_cut bytes out h = h.9 refl
 

@@ -19,7 +19,7 @@ use Rattle.adjudicate.specs.declared.endings.Status.{Status}
 use Rattle.adjudicate.specs.declared.endings.Status.TheVariants.{Done, Usage, ReadFault, WriteFault, TooLong, NoMemory, NotAccepted}
 use Rattle.adjudicate.specs.Jobs.{Job, on_kept_games, draws_by, last}
 use Rattle.adjudicate.specs.Report.{IsFront}
-use Rattle.adjudicate.specs.Runs.{Outside, Grew}
+use Rattle.adjudicate.specs.Runs.{Outside, Grew, AreWhole}
 use Rattle.cha_outcome.specs.declared.questions.Question.TheVariants as questions
 
 -- How games are written with other results: the job that judges them, whose report is the summary, and whether those that change are
@@ -60,9 +60,10 @@ corrected_front false bytes os = written_games 0 bytes (placed_games bytes) (map
 abbrev pub HasAll : Job → List ℕ → List Outcome → Type 0
 HasAll j bytes os = (map item_of os ≡ j.items bytes) × AllSound j.question os
 
--- these are sound outcomes of the first items
-abbrev pub HasFirst : Job → List ℕ → List Outcome → Type 0
-HasFirst j bytes os = (later : List Item) × (j.items bytes ≡ map item_of os ++ later) × AllSound j.question os
+-- these are sound outcomes of the first items, none of which was cut off
+abbrev pub HasFirst : Job → Outside → List ℕ → List Outcome → Type 0
+HasFirst j now bytes os =
+    (later : List Item) × (j.items bytes ≡ map item_of os ++ later) × AllSound j.question os × AreWhole j.reads now (j.settled bytes) (length os)
 
 -- the games of a text stay the same, but for their results, where those of these outcomes are written
 unfoldable pub HasSameGames : List ℕ → List Outcome → Type 0
@@ -87,7 +88,7 @@ Corrects c before now notes notes' =
 abbrev pub IsCutOff : Correction → Outside → Outside → Noted → Noted → Type 0
 IsCutOff c before now notes notes' =
     (bytes : List ℕ) × Consumes before.left now.left bytes × ((os : List Outcome) × (
-    (HasFirst c.judging bytes os × Grew before.written now.written (λ out. IsFront out (corrected_front c.changed bytes os)) × (notes'.taken ≡ notes.taken))
+    (HasFirst c.judging now bytes os × Grew before.written now.written (λ out. IsFront out (corrected_front c.changed bytes os)) × (notes'.taken ≡ notes.taken))
     ⊎ (IsAtEnd now.left × HasAll c.judging bytes os × Grew before.written now.written (λ out. IsFront out (corrected_text c.changed bytes os)) × Grew notes.taken notes'.taken (λ out. IsFront out (last c.judging bytes os)))
     ))
 
@@ -95,7 +96,7 @@ IsCutOff c before now notes notes' =
 abbrev pub WritesWhole : Correction → (List ℕ → ℕ) → Outside → Outside → Noted → Noted → Type 0
 WritesWhole c least before now notes notes' =
     (bytes : List ℕ) × Consumes before.left now.left bytes
-    × ((os : List Outcome) × HasFirst c.judging bytes os × (least bytes ≤ length os) × Grew before.written now.written (λ out. out ≡ corrected_front c.changed bytes os))
+    × ((os : List Outcome) × HasFirst c.judging now bytes os × (least bytes ≤ length os) × Grew before.written now.written (λ out. out ≡ corrected_front c.changed bytes os))
     × (notes'.taken ≡ notes.taken)
 
 -- what was read, written and noted by the status of the run; where the source failed, no game that is settled is left out

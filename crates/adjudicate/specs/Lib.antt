@@ -9,3 +9,4 @@ pub mod Statuses
 -- what only the crate's own functions say of each other
 pub mod Readers
 pub mod Steps
+pub mod Batches

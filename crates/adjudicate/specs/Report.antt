@@ -1,5 +1,5 @@
 -- What is written for an input (this project).
-use Rattle.std.specs.Prelude.{◌≡◌, ◌≢◌, ℕ, ◌+◌, ◌≤◌, Bool, true, List, [], ◌∷◌, ◌++◌, length, map, Option, Some, None, ⊤}
+use Rattle.std.specs.Prelude.{◌≡◌, ◌≢◌, ℕ, ◌+◌, Bool, true, List, [], ◌∷◌, ◌++◌, length, map, Option, Some, None, ⊤}
 use Rattle.cert_text.specs.Versions.{any_cert_of}
 use Rattle.cha_words.specs.declared.orders.Order.{Order}
 use Rattle.cha_outcome.specs.declared.items.Item.{Item}
@@ -13,31 +13,33 @@ use Rattle.adjudicate.specs.Jobs.{Job, job, last}
 abbrev pub HasReport : Job → List ℕ → List ℕ → Type 0
 HasReport j bytes out = (os : List Outcome) × (map item_of os ≡ j.items bytes) × AllSound j.question os × (out ≡ blocks j.style 1 os ++ last j bytes os)
 
--- the output is the blocks of sound outcomes of the first items, so many at least
-abbrev pub HasBlocks : Job → ℕ → List ℕ → List ℕ → Type 0
-HasBlocks j least bytes out =
-    (os : List Outcome) × (later : List Item) × (j.items bytes ≡ map item_of os ++ later) × AllSound j.question os × (out ≡ blocks j.style 1 os) × (least ≤ length os)
+-- the output is the blocks of sound outcomes of the first items, of so many as are allowed
+abbrev pub HasBlocks : Job → (ℕ → Type 0) → List ℕ → List ℕ → Type 0
+HasBlocks j Allows bytes out =
+    (os : List Outcome) × (later : List Item) × (j.items bytes ≡ map item_of os ++ later) × AllSound j.question os × (out ≡ blocks j.style 1 os) × Allows (length os)
 
 -- a list is the front of another
 abbrev pub IsFront : List ℕ → List ℕ → Type 0
 IsFront front whole = (rest : List ℕ) × (whole ≡ front ++ rest)
 
--- the output is the blocks of sound outcomes of the first items, and a front of the block of the next one, which is not empty
-abbrev pub HasCutBlock : Job → List ℕ → List ℕ → Type 0
-HasCutBlock j bytes out =
+-- the output is the blocks of sound outcomes of the first items, and a front of the block of the next one, which is not empty and counts
+-- as a block
+abbrev pub HasCutBlock : Job → (ℕ → Type 0) → List ℕ → List ℕ → Type 0
+HasCutBlock j Allows bytes out =
     (os : List Outcome) × (o : Outcome) × (later : List Item) × (part : List ℕ)
     × (j.items bytes ≡ map item_of os ++ item_of o ∷ later) × AllSound j.question os × IsSoundOutcome j.question o
     × (out ≡ blocks j.style 1 os ++ part) × IsFront part (block j.style (length os + 1) o) × (block j.style (length os + 1) o ≢ [])
+    × Allows (length os + 1)
 
--- What an order asks of a run, by its input: whether it reads, what its input has to be, the whole output, an output that is cut before
--- the end of the input, an output of so many whole blocks at least, and how many of these are due where the input breaks off.
+-- What an order asks of a run, by its input: whether it reads, what its input has to be, the whole output, an output that is cut in a
+-- block, an output of whole blocks alone, both of so many blocks as are allowed, and how many items are settled.
 pub record Demand : Type 1 where
   pub reads : Bool
   pub accepted : List ℕ → Type 0
   pub report : List ℕ → List ℕ → Type 0
-  pub cut : List ℕ → List ℕ → Type 0
-  pub blocks : ℕ → List ℕ → List ℕ → Type 0
-  pub due : List ℕ → ℕ
+  pub cut : (ℕ → Type 0) → List ℕ → List ℕ → Type 0
+  pub blocks : (ℕ → Type 0) → List ℕ → List ℕ → Type 0
+  pub settled : List ℕ → ℕ
 
 -- of a certificate the answer of its check, of which nothing is written by halves; and of a job its report
 abbrev pub demand_by : Option Job → Demand
@@ -45,11 +47,11 @@ demand_by None = record {
   reads = true;
   accepted = IsReadAs IsValidAtFirst;
   report = λ bytes out. IsAnswerTo (any_cert_of bytes) out;
-  cut = λ bytes out. ⊥;
-  blocks = λ least bytes out. out ≡ [];
-  due = λ bytes. 0;
+  cut = λ Allows bytes out. ⊥;
+  blocks = λ Allows bytes out. out ≡ [];
+  settled = λ bytes. 0;
 }
-demand_by (Some j) = record { reads = j.reads; accepted = λ bytes. ⊤; report = HasReport j; cut = HasCutBlock j; blocks = HasBlocks j; due = j.settled }
+demand_by (Some j) = record { reads = j.reads; accepted = λ bytes. ⊤; report = HasReport j; cut = HasCutBlock j; blocks = HasBlocks j; settled = j.settled }
 
 abbrev pub demand : Order → Demand
 demand order = demand_by (job order)

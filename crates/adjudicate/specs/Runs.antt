@@ -45,24 +45,32 @@ abbrev pub Refuses : Demand → Outside → Outside → Type 0
 Refuses d before now =
     (bytes : List ℕ) × Takes d.reads before now bytes × HasReadAll d.reads now × (d.accepted bytes → ⊥) × Grew before.written now.written (d.report bytes)
 
+-- Of the first items so many may have a block: unless nothing is left to read, only those that are settled, so that no game that was cut
+-- off and no half line is judged.
+abbrev pub AreWhole : Bool → Outside → ℕ → ℕ → Type 0
+AreWhole reads now settled count = (count ≤ settled) ⊎ HasReadAll reads now
+
 -- some bytes were taken, and their report was begun: it was cut in a block, or somewhere once all was read
 abbrev pub Begins : Demand → Outside → Outside → Type 0
 Begins d before now =
     (bytes : List ℕ) × Takes d.reads before now bytes
-    × Grew before.written now.written (λ out. d.cut bytes out ⊎ (HasReadAll d.reads now × ((whole : List ℕ) × d.report bytes whole × IsFront out whole)))
+    × Grew before.written now.written (λ out. d.cut (AreWhole d.reads now (d.settled bytes)) bytes out ⊎ (HasReadAll d.reads now × ((whole : List ℕ) × d.report bytes whole × IsFront out whole)))
 
--- some bytes were taken, and whole blocks alone were written: so many as are due, or any
+-- some bytes were taken, and whole blocks alone were written, so many at least
 abbrev pub BeginsWhole : Demand → (List ℕ → ℕ) → Outside → Outside → Type 0
-BeginsWhole d least before now = (bytes : List ℕ) × Takes d.reads before now bytes × Grew before.written now.written (d.blocks (least bytes) bytes)
+BeginsWhole d least before now =
+    (bytes : List ℕ) × Takes d.reads before now bytes
+    × Grew before.written now.written (d.blocks (λ count. (least bytes ≤ count) × AreWhole d.reads now (d.settled bytes) count) bytes)
 
 -- What was read and written for an order, by the status of the run: its whole report on Done and NotAccepted, a front of it where
--- the sink failed, and whole blocks of it where anything else failed. Where the source failed, no game that is settled is left out.
+-- the sink failed, and whole blocks of it where anything else failed. No game that was cut off has a block, and where the source failed,
+-- no game that is settled is left out.
 -- Words that order something never end in Usage.
 abbrev pub Ended : Demand → Status → Outside → Outside → Type 0
 Ended d Done before now = Reports d before now
 Ended d NotAccepted before now = Refuses d before now
 Ended d WriteFault before now = Begins d before now
-Ended d ReadFault before now = BeginsWhole d d.due before now
+Ended d ReadFault before now = BeginsWhole d d.settled before now
 Ended d TooLong before now = BeginsWhole d (λ _. 0) before now
 Ended d NoMemory before now = BeginsWhole d (λ _. 0) before now
 Ended d Usage before now = ⊥

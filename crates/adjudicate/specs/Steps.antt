@@ -30,7 +30,7 @@ pub record IsWritten (d : Demand) (bytes : List ℕ) (status : Status) (old : Op
   pub done : status ≡ Done → d.accepted bytes × Grew old new (d.report bytes)
   pub not_accepted : status ≡ NotAccepted → (d.accepted bytes → ⊥) × Grew old new (d.report bytes)
   pub cut : status ≡ WriteFault → Rose faults faults' × Grew old new (λ out. (whole : List ℕ) × d.report bytes whole × IsFront out whole)
-  pub no_memory : status ≡ NoMemory → Grew old new (d.blocks 0 bytes)
+  pub no_memory : status ≡ NoMemory → new ≡ old
   pub no_other : (status ≢ Usage) × (status ≢ ReadFault) × (status ≢ TooLong)
   pub later : faults ≤ faults'
 

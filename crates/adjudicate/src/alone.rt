@@ -35,6 +35,7 @@ use cha_words::{Order, games_are_some, mates_are_bounded, parse};
 use helpmate_list::InTurn;
 use root_workers::Alone;
 use shard_table::Shard;
+use side_by_side::OneByOne;
 use std::alloc::Global;
 
 /// Does what the words order, as `run` does, without a runtime: it starts no thread, waits for none and takes no lock. So it
@@ -102,5 +103,5 @@ fn by_itself<S: Source, K: Sink, N: Sink>(
         return Status::NoMemory;
     };
     let mut alone = Alone::new(alloc, &mut shard);
-    carry_out(alloc, order, &mut alone, source, sink, notes)
+    carry_out(alloc, order, &OneByOne, &mut alone, source, sink, notes)
 }

@@ -27,6 +27,7 @@ use flag_report::{BlockForm, Notation, Style, Subject};
 use helpmate_list::Spread;
 use json_report::Extras;
 use root_workers::Crew;
+use side_by_side::{Hands, OneByOne};
 use std::alloc::Global;
 
 /// What becomes of drawn games whose flag fell.
@@ -62,14 +63,16 @@ fn style_of(printing: Printing) -> Style
 }
 
 /// Reads a source to its end, and writes the report that an order asks for, with a crew of workers that searches.
-pub fn carry_out<C: Crew, S: Source, K: Sink, N: Sink>(
+pub fn carry_out<H: Hands, C: Crew, S: Source, K: Sink, N: Sink>(
     alloc: Global,
     order: &Order,
+    hands: &H,
     crew: &mut C,
     source: &mut S,
     sink: &mut K,
     notes: &mut N,
 ) -> Status
+    requires hands { H.ready hands.now }
     requires ready { C.ready crew.old }
     requires searches { IsSome (limits_in order.now) }
     requires some { (spend : Bounds) (seed count : ℕ) → order.now ≡ GenGames spend seed count → (1 ≤ count) × (count ≤ 1000) }
@@ -88,7 +91,7 @@ pub fn carry_out<C: Crew, S: Source, K: Sink, N: Sink>(
                 draws: draws_of(*flagged_draws),
                 crew,
             };
-            report_games(alloc, style_of(*printing), &mut judge, source, sink)
+            report_games(alloc, style_of(*printing), hands, &mut judge, source, sink)
         }
         Order::CorrectGames {
             limits,
@@ -112,7 +115,7 @@ pub fn carry_out<C: Crew, S: Source, K: Sink, N: Sink>(
                 style: style_of(*printing),
                 subject: Subject::Positions,
             };
-            report_lines(alloc, form, &mut judge, source, sink)
+            report_lines(alloc, form, hands, &mut judge, source, sink)
         }
         Order::GenGames {
             limits,
@@ -124,7 +127,7 @@ pub fn carry_out<C: Crew, S: Source, K: Sink, N: Sink>(
                 draws: FlaggedDraws::Stand,
                 crew,
             };
-            report_made(alloc, *seed, *count, &mut judge, sink)
+            report_made(alloc, *seed, *count, hands, &mut judge, sink)
         }
         Order::CheckCert => unreachable!(),
         Order::ListMates { .. } => unreachable!(),
@@ -166,10 +169,17 @@ pub fn carry_out_plain<P: Spread + Drop, C: Checker, S: Source, K: Sink>(
                 style: style_of(*printing),
                 subject: Subject::Mates,
             };
-            report_lines(alloc, form, &mut judge, source, sink)
+            report_lines(alloc, form, &OneByOne, &mut judge, source, sink)
         }
         Order::ReplayGames { printing } => {
-            report_replays(alloc, style_of(*printing), &mut PliesJudge, source, sink)
+            report_replays(
+                alloc,
+                style_of(*printing),
+                &OneByOne,
+                &mut PliesJudge,
+                source,
+                sink,
+            )
         }
         Order::AdjudicateGames { .. } => unreachable!(),
         Order::CorrectGames { .. } => unreachable!(),

@@ -7,6 +7,7 @@ ghost use Rattle.adjudicate.specs.Report.{demand_by};
 ghost use Rattle.adjudicate.specs.Runs.{IsRunOf, outside};
 ghost use Rattle.adjudicate.specs.Steps.{made_status};
 
+use crate::batches::Batches;
 use crate::endings::Status;
 use crate::readers::ItemReader;
 use crate::reports::{Form, write_report};
@@ -15,17 +16,20 @@ use cha_outside::{Bytes, Sink, Source};
 use flag_report::{Style, Subject};
 use pgn_games::Reader;
 use random_games::games_text;
+use side_by_side::Hands;
 use std::alloc::Global;
 use text_lines::LineReader;
 
 /// Writes the report on the games of a source, each as soon as it has come.
-pub fn report_games<J: Judge, S: Source, K: Sink>(
+pub fn report_games<H: Hands, J: Judge, S: Source, K: Sink>(
     alloc: Global,
     style: Style,
+    hands: &H,
     judge: &mut J,
     source: &mut S,
     sink: &mut K,
 ) -> Status
+    requires hands { H.ready hands.now }
     requires ready { J.ready judge.old }
     requires asked { IsAskedOf GameItems (J.question judge.old) }
     ensures stays_ready { J.ready judge.new }
@@ -39,17 +43,20 @@ pub fn report_games<J: Judge, S: Source, K: Sink>(
         style,
         subject: Subject::Games,
     };
-    write_report(alloc, form, ItemReader::Games(reader), judge, source, sink)
+    let items = Batches::new(alloc, hands, ItemReader::Games(reader), judge.question());
+    write_report(alloc, form, items, judge, source, sink)
 }
 
 /// Writes the report on the lines of a source that are not blank, each as soon as it has come.
-pub fn report_lines<J: Judge, S: Source, K: Sink>(
+pub fn report_lines<H: Hands, J: Judge, S: Source, K: Sink>(
     alloc: Global,
     form: Form,
+    hands: &H,
     judge: &mut J,
     source: &mut S,
     sink: &mut K,
 ) -> Status
+    requires hands { H.ready hands.now }
     requires ready { J.ready judge.old }
     requires asked { IsAskedOf LineItems (J.question judge.old) }
     ensures stays_ready { J.ready judge.new }
@@ -57,17 +64,20 @@ pub fn report_lines<J: Judge, S: Source, K: Sink>(
     ensures run { IsRunOf (demand_by (Some (on_lines (J.question judge.old) form.style form.subject))) result (outside (S.left source.old) (S.faults source.old) (K.written sink.old) (K.faults sink.old)) (outside (S.left source.new) (S.faults source.new) (K.written sink.new) (K.faults sink.new)) }
 {
     let reader = LineReader::new(alloc);
-    write_report(alloc, form, ItemReader::Lines(reader), judge, source, sink)
+    let items = Batches::new(alloc, hands, ItemReader::Lines(reader), judge.question());
+    write_report(alloc, form, items, judge, source, sink)
 }
 
 /// Writes the moves of the games of a source, of each as soon as it has come.
-pub fn report_replays<J: Judge, S: Source, K: Sink>(
+pub fn report_replays<H: Hands, J: Judge, S: Source, K: Sink>(
     alloc: Global,
     style: Style,
+    hands: &H,
     judge: &mut J,
     source: &mut S,
     sink: &mut K,
 ) -> Status
+    requires hands { H.ready hands.now }
     requires ready { J.ready judge.old }
     requires asked { IsAskedOf ReplayItems (J.question judge.old) }
     ensures stays_ready { J.ready judge.new }
@@ -81,25 +91,21 @@ pub fn report_replays<J: Judge, S: Source, K: Sink>(
         style,
         subject: Subject::Plies,
     };
-    write_report(
-        alloc,
-        form,
-        ItemReader::Replays(reader),
-        judge,
-        source,
-        sink,
-    )
+    let items = Batches::new(alloc, hands, ItemReader::Replays(reader), judge.question());
+    write_report(alloc, form, items, judge, source, sink)
 }
 
 /// Makes so many games of a seed, and writes the summary of the report on them alone. Nothing is read.
-pub fn report_made<J: Judge, K: Sink>(
+pub fn report_made<H: Hands, J: Judge, K: Sink>(
     alloc: Global,
     seed: u64,
     count: u32,
+    hands: &H,
     judge: &mut J,
     sink: &mut K,
 ) -> Status
     requires count { (1 ≤ count) × (count ≤ 1000) }
+    requires hands { H.ready hands.now }
     requires ready { J.ready judge.old }
     requires asked { IsAskedOf GameItems (J.question judge.old) }
     ensures stays_ready { J.ready judge.new }
@@ -110,7 +116,7 @@ pub fn report_made<J: Judge, K: Sink>(
         return Status::NoMemory;
     };
     let mut made = Bytes::new(text.into_vec());
-    of_made(report_games(alloc, Style::SummaryAlone, judge, &mut made, sink))
+    of_made(report_games(alloc, Style::SummaryAlone, hands, judge, &mut made, sink))
 }
 
 /// How a run over games that were made ended, by how the run over their text did. A text in memory never fails, and one that is too

@@ -1,12 +1,13 @@
 //! The one call that reads an input, judges its items and writes the report.
 //!
 //! `endings` has how a run ends, `readers` the items of an input, one at a time,
-//! `writing` how what is printed goes out, `reports` the one loop over items, `jobs` where the items of each job come from,
+//! `batches` those that are worked on together, `writing` how what is printed goes out, `reports` the one loop over items, `jobs` where the items of each job come from,
 //! `correcting` the games with the right results, `checking` the check of a certificate, `commands` what each order does, `top` the call `run`, and `alone` the same call without a
 //! runtime.
 #![tactic(auto)]
 
 mod alone;
+mod batches;
 mod checking;
 mod commands;
 mod correcting;

@@ -1,24 +1,20 @@
 //! The items of an input, one at a time.
 
-ghost use Rattle.std.specs.Prelude.{◌≡◌, ◌≢◌, ◌≤◌, ◌<◌, ◌+◌, ◌^◌, ◌↔◌, true, false, length, take, slice_get, IfOk, IfSome};
+ghost use Rattle.std.specs.Prelude.{◌≡◌, ◌≢◌, ◌≤◌, ◌<◌, ◌+◌, ◌^◌, ◌↔◌, true, false, length, take, slice_get, IfOk, IfSome, IfNone};
 ghost use Rattle.std.specs.Io.KnownBytes.{IsAtEnd};
 ghost use Rattle.cha_outside.specs.Faults.{Rose};
 ghost use Rattle.cha_outside.specs.Gathering.{Gathers};
-ghost use Rattle.cha_limits.specs.Bounds.{Bounds};
-ghost use Rattle.cha_outcome.specs.declared.questions.FlaggedDraws.{FlaggedDraws as DrawRule};
-ghost use Rattle.cha_outcome.specs.declared.questions.Question.{Question};
-ghost use Rattle.cha_outcome.specs.declared.questions.Question.TheVariants.{Verdicts, Plies as OfPlies};
 ghost use Rattle.pgn_games.specs.Settling.{settled_games};
 ghost use Rattle.text_lines.specs.Lines.{settled_lines};
-ghost use Rattle.cha_outcome.specs.Outcomes.{CanBeAsked};
+ghost use Rattle.adjudicate.specs.Batches.{IsCutAt};
 ghost use Rattle.adjudicate.specs.Jobs.{game_items, position_items, replay_items};
-ghost use Rattle.adjudicate.specs.Readers.{taken_by, given_by, has_ended, kind_of, items_by, settled_by, closed_by, CanGoOn, IsAskedOf};
+ghost use Rattle.adjudicate.specs.Readers.{GameItems, LineItems, ReplayItems, taken_by, given_by, has_ended, kind_of, items_by, settled_by, closed_by, CanGoOn};
 ghost use Rattle.adjudicate.specs.Runs.{most_bytes};
 
-use cha_outcome::{Item, item_of_game, item_of_line, item_of_replay};
+use cha_list::NoMemory;
 use cha_outside::{ReadEnd, Source};
 use pgn_games::Reader;
-use std::alloc::Global;
+use side_by_side::Cut;
 use text_lines::LineReader;
 
 /// Who gives the items of an input.
@@ -33,18 +29,16 @@ pub enum ItemReader {
 }
 
 impl ItemReader {
-    /// The next item, or None where all were given. After an error no call may follow.
-    pub fn next<S: Source>(
-        &mut self,
-        alloc: Global,
-        source: &mut S,
-    ) -> Result<Option<Item>, ReadEnd>
+    /// What the next item was cut from its text as, or None where all were given. After an error no call may follow.
+    pub fn next<S: Source>(&mut self, source: &mut S) -> Result<Option<Cut>, ReadEnd>
         requires { CanGoOn self.old }
         ensures kind { kind_of self.new ≡ kind_of self.old }
         ensures bytes { Gathers (S.left source.old) (S.left source.new) (taken_by self.old) (taken_by self.new) }
-        ensures item { IfOk result (λ found. IfSome found (λ item. slice_get (items_by (kind_of self.old) (taken_by self.new)) (given_by self.old) ≡ Some item)) }
-        ensures asked { IfOk result (λ found. IfSome found (λ item. (question : Question) → IsAskedOf (kind_of self.old) question → CanBeAsked question item)) }
-        ensures given { IfOk result (λ found. IfSome found (λ item. (given_by self.new ≡ given_by self.old + 1) × (given_by self.old < 2 ^ 62))) }
+        ensures cut { IfOk result (λ found. IfSome found (IsCutAt (kind_of self.old) (taken_by self.new) (given_by self.old))) }
+        ensures given { IfOk result (λ found. IfSome found (λ cut. (given_by self.new ≡ given_by self.old + 1) × (given_by self.old < 2 ^ 62))) }
+        ensures still_ended { has_ended self.old ≡ true → has_ended self.new ≡ true }
+        ensures before_end { has_ended self.new ≡ false → IfOk result (λ found. IfSome found (λ cut. given_by self.old < settled_by (kind_of self.old) (taken_by self.new))) }
+        ensures stays { IfOk result (λ found. IfNone found (given_by self.new ≡ given_by self.old)) }
         ensures none { result ≡ Ok None → (has_ended self.new ≡ true) × (length (items_by (kind_of self.old) (taken_by self.new)) ≤ given_by self.old) }
         ensures first { take (given_by self.old) (items_by (kind_of self.old) (taken_by self.new)) ≡ take (given_by self.old) (items_by (kind_of self.old) (taken_by self.old)) }
         ensures end { (has_ended self.old ≡ true → IsAtEnd (S.left source.old)) → has_ended self.new ≡ true → IsAtEnd (S.left source.new) }
@@ -56,9 +50,27 @@ impl ItemReader {
         ensures later { S.faults source.old ≤ S.faults source.new }
     {
         match self {
-            ItemReader::Games(reader) => next_game(alloc, reader, source),
+            ItemReader::Games(reader) => next_game(reader, source),
             ItemReader::Lines(reader) => next_line(reader, source),
-            ItemReader::Replays(reader) => next_replay(alloc, reader, source),
+            ItemReader::Replays(reader) => next_replay(reader, source),
+        }
+    }
+
+    /// The next item that is whole in what was taken, or None where there is none. Nothing is read. After an error no call may follow.
+    pub fn ready(&mut self) -> Result<Option<Cut>, NoMemory>
+        requires { CanGoOn self.old }
+        ensures kind { kind_of self.new ≡ kind_of self.old }
+        ensures same { (taken_by self.new ≡ taken_by self.old) × (has_ended self.new ≡ has_ended self.old) }
+        ensures cut { IfOk result (λ found. IfSome found (IsCutAt (kind_of self.old) (taken_by self.old) (given_by self.old))) }
+        ensures given { IfOk result (λ found. IfSome found (λ cut. (given_by self.new ≡ given_by self.old + 1) × (given_by self.old < 2 ^ 62))) }
+        ensures settled { IfOk result (λ found. IfSome found (λ cut. given_by self.old < settled_by (kind_of self.old) (taken_by self.old))) }
+        ensures none { IfOk result (λ found. IfNone found (given_by self.new ≡ given_by self.old)) }
+        ensures goes_on { IfOk result (λ _. CanGoOn self.new) }
+    {
+        match self {
+            ItemReader::Games(reader) => ready_game(reader),
+            ItemReader::Lines(reader) => ready_line(reader),
+            ItemReader::Replays(reader) => ready_replay(reader),
         }
     }
 
@@ -74,17 +86,15 @@ impl ItemReader {
     }
 }
 
-/// The item of the next game, or None where all were given.
-fn next_game<S: Source>(
-    alloc: Global,
-    reader: &mut Reader,
-    source: &mut S,
-) -> Result<Option<Item>, ReadEnd>
+/// The next game, or None where all were given.
+fn next_game<S: Source>(reader: &mut Reader, source: &mut S) -> Result<Option<Cut>, ReadEnd>
     requires { reader.old.failed ≡ false }
     ensures bytes { Gathers (S.left source.old) (S.left source.new) reader.old.taken reader.new.taken }
-    ensures item { IfOk result (λ found. IfSome found (λ item. slice_get (game_items reader.new.taken) reader.old.given ≡ Some item)) }
-    ensures asked { IfOk result (λ found. IfSome found (λ item. (limits : Bounds) (draws : DrawRule) → CanBeAsked (Verdicts limits draws) item)) }
-    ensures given { IfOk result (λ found. IfSome found (λ item. (reader.new.given ≡ reader.old.given + 1) × (reader.old.given < 2 ^ 62))) }
+    ensures cut { IfOk result (λ found. IfSome found (IsCutAt GameItems reader.new.taken reader.old.given)) }
+    ensures given { IfOk result (λ found. IfSome found (λ cut. (reader.new.given ≡ reader.old.given + 1) × (reader.old.given < 2 ^ 62))) }
+    ensures still_ended { reader.old.ended ≡ true → reader.new.ended ≡ true }
+    ensures before_end { reader.new.ended ≡ false → IfOk result (λ found. IfSome found (λ cut. reader.old.given < settled_games reader.new.taken)) }
+    ensures stays { IfOk result (λ found. IfNone found (reader.new.given ≡ reader.old.given)) }
     ensures none { result ≡ Ok None → (reader.new.ended ≡ true) × (length (game_items reader.new.taken) ≤ reader.old.given) }
     ensures first { take reader.old.given (game_items reader.new.taken) ≡ take reader.old.given (game_items reader.old.taken) }
     ensures end { (reader.old.ended ≡ true → IsAtEnd (S.left source.old)) → reader.new.ended ≡ true → IsAtEnd (S.left source.new) }
@@ -96,26 +106,38 @@ fn next_game<S: Source>(
     ensures later { S.faults source.old ≤ S.faults source.new }
 {
     match reader.next(source) {
-        Ok(Some(game)) => match item_of_game(alloc, &game) {
-            Ok(item) => Ok(Some(item)),
-            Err(_) => Err(ReadEnd::NoMemory),
-        },
+        Ok(Some(game)) => Ok(Some(Cut::Game(game))),
         Ok(None) => Ok(None),
         Err(end) => Err(end),
     }
 }
 
-/// The item of the next game whose moves are told, or None where all were given.
-fn next_replay<S: Source>(
-    alloc: Global,
-    reader: &mut Reader,
-    source: &mut S,
-) -> Result<Option<Item>, ReadEnd>
+/// The next game that is whole in what was taken, or None.
+fn ready_game(reader: &mut Reader) -> Result<Option<Cut>, NoMemory>
+    requires { (reader.old.failed ≡ false) × (length reader.old.taken ≤ most_bytes) }
+    ensures same { (reader.new.taken ≡ reader.old.taken) × (reader.new.ended ≡ reader.old.ended) }
+    ensures cut { IfOk result (λ found. IfSome found (IsCutAt GameItems reader.old.taken reader.old.given)) }
+    ensures given { IfOk result (λ found. IfSome found (λ cut. (reader.new.given ≡ reader.old.given + 1) × (reader.old.given < 2 ^ 62))) }
+    ensures settled { IfOk result (λ found. IfSome found (λ cut. reader.old.given < settled_games reader.old.taken)) }
+    ensures none { IfOk result (λ found. IfNone found (reader.new.given ≡ reader.old.given)) }
+    ensures goes_on { IfOk result (λ _. (reader.new.failed ≡ false) × (length reader.new.taken ≤ most_bytes)) }
+{
+    match reader.ready() {
+        Ok(Some(game)) => Ok(Some(Cut::Game(game))),
+        Ok(None) => Ok(None),
+        Err(refused) => Err(refused),
+    }
+}
+
+/// The next game whose moves are told, or None where all were given.
+fn next_replay<S: Source>(reader: &mut Reader, source: &mut S) -> Result<Option<Cut>, ReadEnd>
     requires { reader.old.failed ≡ false }
     ensures bytes { Gathers (S.left source.old) (S.left source.new) reader.old.taken reader.new.taken }
-    ensures item { IfOk result (λ found. IfSome found (λ item. slice_get (replay_items reader.new.taken) reader.old.given ≡ Some item)) }
-    ensures asked { IfOk result (λ found. IfSome found (λ item. CanBeAsked OfPlies item)) }
-    ensures given { IfOk result (λ found. IfSome found (λ item. (reader.new.given ≡ reader.old.given + 1) × (reader.old.given < 2 ^ 62))) }
+    ensures cut { IfOk result (λ found. IfSome found (IsCutAt ReplayItems reader.new.taken reader.old.given)) }
+    ensures given { IfOk result (λ found. IfSome found (λ cut. (reader.new.given ≡ reader.old.given + 1) × (reader.old.given < 2 ^ 62))) }
+    ensures still_ended { reader.old.ended ≡ true → reader.new.ended ≡ true }
+    ensures before_end { reader.new.ended ≡ false → IfOk result (λ found. IfSome found (λ cut. reader.old.given < settled_games reader.new.taken)) }
+    ensures stays { IfOk result (λ found. IfNone found (reader.new.given ≡ reader.old.given)) }
     ensures none { result ≡ Ok None → (reader.new.ended ≡ true) × (length (replay_items reader.new.taken) ≤ reader.old.given) }
     ensures first { take reader.old.given (replay_items reader.new.taken) ≡ take reader.old.given (replay_items reader.old.taken) }
     ensures end { (reader.old.ended ≡ true → IsAtEnd (S.left source.old)) → reader.new.ended ≡ true → IsAtEnd (S.left source.new) }
@@ -127,22 +149,38 @@ fn next_replay<S: Source>(
     ensures later { S.faults source.old ≤ S.faults source.new }
 {
     match reader.next(source) {
-        Ok(Some(game)) => match item_of_replay(alloc, &game) {
-            Ok(item) => Ok(Some(item)),
-            Err(_) => Err(ReadEnd::NoMemory),
-        },
+        Ok(Some(game)) => Ok(Some(Cut::Replay(game))),
         Ok(None) => Ok(None),
         Err(end) => Err(end),
     }
 }
 
-/// The item of the next line that is not blank, or None where all were given.
-fn next_line<S: Source>(reader: &mut LineReader, source: &mut S) -> Result<Option<Item>, ReadEnd>
+/// The next game whose moves are told that is whole in what was taken, or None.
+fn ready_replay(reader: &mut Reader) -> Result<Option<Cut>, NoMemory>
+    requires { (reader.old.failed ≡ false) × (length reader.old.taken ≤ most_bytes) }
+    ensures same { (reader.new.taken ≡ reader.old.taken) × (reader.new.ended ≡ reader.old.ended) }
+    ensures cut { IfOk result (λ found. IfSome found (IsCutAt ReplayItems reader.old.taken reader.old.given)) }
+    ensures given { IfOk result (λ found. IfSome found (λ cut. (reader.new.given ≡ reader.old.given + 1) × (reader.old.given < 2 ^ 62))) }
+    ensures settled { IfOk result (λ found. IfSome found (λ cut. reader.old.given < settled_games reader.old.taken)) }
+    ensures none { IfOk result (λ found. IfNone found (reader.new.given ≡ reader.old.given)) }
+    ensures goes_on { IfOk result (λ _. (reader.new.failed ≡ false) × (length reader.new.taken ≤ most_bytes)) }
+{
+    match reader.ready() {
+        Ok(Some(game)) => Ok(Some(Cut::Replay(game))),
+        Ok(None) => Ok(None),
+        Err(refused) => Err(refused),
+    }
+}
+
+/// The next line that is not blank, or None where all were given.
+fn next_line<S: Source>(reader: &mut LineReader, source: &mut S) -> Result<Option<Cut>, ReadEnd>
     requires { reader.old.failed ≡ false }
     ensures bytes { Gathers (S.left source.old) (S.left source.new) reader.old.taken reader.new.taken }
-    ensures item { IfOk result (λ found. IfSome found (λ item. slice_get (position_items reader.new.taken) reader.old.given ≡ Some item)) }
-    ensures asked { IfOk result (λ found. IfSome found (λ item. (question : Question) → question ≢ OfPlies → CanBeAsked question item)) }
-    ensures given { IfOk result (λ found. IfSome found (λ item. (reader.new.given ≡ reader.old.given + 1) × (reader.old.given < 2 ^ 62))) }
+    ensures cut { IfOk result (λ found. IfSome found (IsCutAt LineItems reader.new.taken reader.old.given)) }
+    ensures given { IfOk result (λ found. IfSome found (λ cut. (reader.new.given ≡ reader.old.given + 1) × (reader.old.given < 2 ^ 62))) }
+    ensures still_ended { reader.old.ended ≡ true → reader.new.ended ≡ true }
+    ensures before_end { reader.new.ended ≡ false → IfOk result (λ found. IfSome found (λ cut. reader.old.given < settled_lines reader.new.taken)) }
+    ensures stays { IfOk result (λ found. IfNone found (reader.new.given ≡ reader.old.given)) }
     ensures none { result ≡ Ok None → (reader.new.ended ≡ true) × (length (position_items reader.new.taken) ≤ reader.old.given) }
     ensures first { take reader.old.given (position_items reader.new.taken) ≡ take reader.old.given (position_items reader.old.taken) }
     ensures end { (reader.old.ended ≡ true → IsAtEnd (S.left source.old)) → reader.new.ended ≡ true → IsAtEnd (S.left source.new) }
@@ -154,8 +192,25 @@ fn next_line<S: Source>(reader: &mut LineReader, source: &mut S) -> Result<Optio
     ensures later { S.faults source.old ≤ S.faults source.new }
 {
     match reader.next(source) {
-        Ok(Some(line)) => Ok(Some(item_of_line(line.number, line.text.items()))),
+        Ok(Some(line)) => Ok(Some(Cut::Line(line))),
         Ok(None) => Ok(None),
         Err(end) => Err(end),
+    }
+}
+
+/// The next line that is not blank that is whole in what was taken, or None.
+fn ready_line(reader: &mut LineReader) -> Result<Option<Cut>, NoMemory>
+    requires { (reader.old.failed ≡ false) × (length reader.old.taken ≤ most_bytes) }
+    ensures same { (reader.new.taken ≡ reader.old.taken) × (reader.new.ended ≡ reader.old.ended) }
+    ensures cut { IfOk result (λ found. IfSome found (IsCutAt LineItems reader.old.taken reader.old.given)) }
+    ensures given { IfOk result (λ found. IfSome found (λ cut. (reader.new.given ≡ reader.old.given + 1) × (reader.old.given < 2 ^ 62))) }
+    ensures settled { IfOk result (λ found. IfSome found (λ cut. reader.old.given < settled_lines reader.old.taken)) }
+    ensures none { IfOk result (λ found. IfNone found (reader.new.given ≡ reader.old.given)) }
+    ensures goes_on { IfOk result (λ _. (reader.new.failed ≡ false) × (length reader.new.taken ≤ most_bytes)) }
+{
+    match reader.ready() {
+        Ok(Some(line)) => Ok(Some(Cut::Line(line))),
+        Ok(None) => Ok(None),
+        Err(refused) => Err(refused),
     }
 }

@@ -1,6 +1,6 @@
 //! The one loop over the items of an input.
 
-ghost use Rattle.std.specs.Prelude.{◌≡◌, ◌≢◌, ◌≤◌, ◌+◌, ◌⊎◌, ℕ, List, [], Option, Some, true, take, IfOk, OnErr};
+ghost use Rattle.std.specs.Prelude.{◌≡◌, ◌≢◌, ◌≤◌, ◌+◌, ◌⊎◌, ℕ, List, [], Option, Some, true, false, length, take, IfOk, OnErr};
 ghost use Rattle.std.specs.Io.KnownBytes.{Appends, Consumes, IsAtEnd};
 ghost use Rattle.cha_outside.specs.Faults.{Rose};
 ghost use Rattle.cha_outside.specs.Writing.{Takes, WriteCause};
@@ -8,18 +8,19 @@ ghost use Rattle.cha_outcome.specs.Outcomes.{IsPrintableOutcome};
 ghost use Rattle.cha_outcome.specs.Totals.{counted, HasRoom};
 ghost use Rattle.report_words.specs.LegalLines.{HasLegalLines};
 ghost use Rattle.flag_report.specs.Styles.{block, summary as summary_of};
-ghost use Rattle.adjudicate.specs.Readers.{taken_by, given_by, has_ended, kind_of, CanGoOn, IsAskedOf, job_on};
+ghost use Rattle.adjudicate.specs.Readers.{job_on};
 ghost use Rattle.adjudicate.specs.Report.{demand_by};
-ghost use Rattle.adjudicate.specs.Runs.{IsRunOf, outside};
+ghost use Rattle.adjudicate.specs.Runs.{most_bytes, IsRunOf, outside};
 
+use crate::batches::Batches;
 use crate::endings::Status;
-use crate::readers::ItemReader;
 use crate::writing::put;
 use cha_judge::Judge;
 use cha_list::{NoMemory, Text};
 use cha_outcome::{Outcome, Totals};
 use cha_outside::{Sink, Source, Wrote};
 use flag_report::{Style, Subject, put as put_outcome, put_summary};
+use side_by_side::{Hands, finish};
 use std::alloc::Global;
 
 /// The form of a report.
@@ -31,36 +32,37 @@ pub struct Form {
     pub subject: Subject,
 }
 
-/// Judges each item of a reader, and writes what is printed of its outcome, and at the end the summary. The source may have given
-/// bytes to the reader before.
-pub fn write_report<J: Judge, S: Source, K: Sink>(
+/// Judges each item, and writes what is printed of its outcome, and at the end the summary. No item was given yet; the source may have
+/// given bytes before.
+pub fn write_report<H: Hands, J: Judge, S: Source, K: Sink>(
     alloc: Global,
     form: Form,
-    reader: ItemReader,
+    batches: Batches<H>,
     judge: &mut J,
     source: &mut S,
     sink: &mut K,
 ) -> Status
     requires ready { J.ready judge.old }
-    requires asked { IsAskedOf (kind_of reader) (J.question judge.old) }
-    requires goes_on { CanGoOn reader }
-    requires first { given_by reader ≡ 0 }
-    requires ended { has_ended reader ≡ true → IsAtEnd (S.left source.old) }
+    requires asked { batches.question ≡ J.question judge.old }
+    requires goes_on { batches.failed ≡ false }
+    requires first { batches.given ≡ 0 }
+    requires few { length batches.taken ≤ most_bytes }
+    requires ended { batches.ended ≡ true → IsAtEnd (S.left source.old) }
     ensures stays_ready { J.ready judge.new }
     ensures worked { J.worked judge.old judge.new }
-    ensures run { (left : Option (List ℕ)) (faults : ℕ) → Consumes left (S.left source.old) (taken_by reader) → faults ≤ S.faults source.old → IsRunOf (demand_by (Some (job_on (kind_of reader) (J.question judge.old) form))) result (outside left faults (K.written sink.old) (K.faults sink.old)) (outside (S.left source.new) (S.faults source.new) (K.written sink.new) (K.faults sink.new)) }
+    ensures run { (left : Option (List ℕ)) (faults : ℕ) → Consumes left (S.left source.old) batches.entry.taken → faults ≤ S.faults source.old → IsRunOf (demand_by (Some (job_on batches.entry.kind (J.question judge.old) form))) result (outside left faults (K.written sink.old) (K.faults sink.old)) (outside (S.left source.new) (S.faults source.new) (K.written sink.new) (K.faults sink.new)) }
 {
-    let mut items = reader;
+    let mut items = batches;
     let mut totals = Totals::new();
     loop {
         let found = match items.next(alloc, source) {
             Ok(found) => found,
             Err(end) => return Status::from(end),
         };
-        let Some(item) = found else {
+        let Some(progress) = found else {
             return end_report(alloc, form, items.is_closed(), &totals, sink);
         };
-        let Ok(outcome) = judge.judge(alloc, item) else {
+        let Ok(outcome) = finish(alloc, judge, progress) else {
             return Status::NoMemory;
         };
         let Ok(wrote) = write_outcome(alloc, form.style, &mut totals, outcome, sink) else {

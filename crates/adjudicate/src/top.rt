@@ -35,6 +35,7 @@ use cha_verdict::sound_is_complete;
 use cha_words::{Order, games_are_some, mates_are_bounded, parse};
 use helpmate_list::InThreads;
 use root_workers::OnDemand;
+use side_by_side::Threaded;
 use std::alloc::Global;
 use std::sync::Wait;
 use std::thread::Threads;
@@ -119,7 +120,8 @@ fn by_threads<R: Threads + Wait + Sync, S: Source, K: Sink, N: Sink>(
     ensures run { IsRun order.now result (outside (S.left source.old) (S.faults source.old) (K.written sink.old) (K.faults sink.old)) (outside (S.left source.new) (S.faults source.new) (K.written sink.new) (K.faults sink.new)) (noted (N.written notes.old) (N.faults notes.old)) (noted (N.written notes.new) (N.faults notes.new)) }
 {
     let mut crew = OnDemand::new(rt, alloc, limits.workers(), limits.entries());
-    let status = carry_out(alloc, order, &mut crew, source, sink, notes);
+    let hands = Threaded::new(rt, limits.workers());
+    let status = carry_out(alloc, order, &hands, &mut crew, source, sink, notes);
     let _shards = crew.close();
     status
 }

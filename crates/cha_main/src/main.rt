@@ -1,13 +1,15 @@
 //! The program `cha`: the call `run` over standard input and standard output.
 //!
-//! `usage` has what is said of words that order nothing.
+//! `usage` has what is said of words that order nothing, and `processors` what `all` means behind `--workers`.
 #![tactic(auto)]
 
+mod processors;
 mod usage;
 
 use adjudicate::{Status, run};
 use cha_outside::{ReadFrom, WriteTo};
 use cha_words::usage_fault;
+use processors::with_numbers;
 use std::env;
 use std::io::{self, ErrorKind};
 use std::process::ExitCode;
@@ -38,22 +40,25 @@ fn main(rt: HostRuntime) -> ExitCode {
     let alloc = rt.alloc();
     let status = match env::args(&rt) {
         Ok(args) => match args.skip(1).collect::<Vec<String>>(alloc) {
-            Ok(words) => {
-                let mut source = ReadFrom::new(rt.stdin());
-                let mut sink = WriteTo::new(rt.stdout());
-                let mut notes = WriteTo::new(rt.stderr());
-                if let Some(fault) = usage_fault(words.as_slice()) {
-                    let _ = usage::say_fault(&rt, words.as_slice(), fault);
+            Ok(given) => match with_numbers(&rt, alloc, given) {
+                Ok(words) => {
+                    let mut source = ReadFrom::new(rt.stdin());
+                    let mut sink = WriteTo::new(rt.stdout());
+                    let mut notes = WriteTo::new(rt.stderr());
+                    if let Some(fault) = usage_fault(words.as_slice()) {
+                        let _ = usage::say_fault(&rt, words.as_slice(), fault);
+                    }
+                    run(
+                        &rt,
+                        alloc,
+                        words.as_slice(),
+                        &mut source,
+                        &mut sink,
+                        &mut notes,
+                    )
                 }
-                run(
-                    &rt,
-                    alloc,
-                    words.as_slice(),
-                    &mut source,
-                    &mut sink,
-                    &mut notes,
-                )
-            }
+                Err(_) => Status::NoMemory,
+            },
             Err(_) => Status::NoMemory,
         },
         Err(error) => without_words(&rt, &error),

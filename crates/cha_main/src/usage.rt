@@ -34,7 +34,7 @@ fn about_command(command: Command) -> &'static str {
 fn about_setting(setting: Setting) -> &'static str {
     match setting {
         Setting::Budget => "positions expanded for a side at most",
-        Setting::Workers => "threads that share a search",
+        Setting::Workers => "threads that judge side by side and share a search",
         Setting::Depth => "plies to which mates are looked for in rounds",
         Setting::Entries => "facts that each shard of the table keeps",
         Setting::Certs => "prints the certificate of each side that cannot mate",

@@ -1,6 +1,4 @@
 use Rattle.std.proofs.Common.{◌≤◌, length, None, refl, arith}
-use Rattle.cha_words.specs.declared.orders.Order.TheVariants.{CheckCert}
-use Rattle.adjudicate.specs.Report.{demand}
 use Rattle.adjudicate.proofs.RunEndings.{unread, written_run}
 use Rattle.adjudicate.proofs.checking.check_cert.Goals as goal
 
@@ -8,7 +6,7 @@ pub returns-in-Ok : goal.returns-in-Ok
 returns-in-Ok g c =
     let all = c.in-Ok.ensures.all in
     let few : length c.in-Ok.bytes.items ≤ 268435456 = let short = all.2 in omega (arith, short, c.in-Ok.bytes.ok) in
-    written_run (demand CheckCert) refl c.in-Ok.bytes.items _ _ _ _ _ _ _ _ all.0 all.1 _ few c.read_all.ensures.later c.write_answer.ensures
+    written_run None refl c.in-Ok.bytes.items _ _ _ _ _ _ _ _ all.0 all.1 _ few c.read_all.ensures.later c.write_answer.ensures
 
 pub returns-in-Err : goal.returns-in-Err
 returns-in-Err g c =

@@ -4,8 +4,8 @@ use Rattle.adjudicate.specs.Steps.{game_piece}
 use Rattle.adjudicate.proofs.RunEndings.{rose_in}
 use Rattle.adjudicate.proofs.OrderRuns.{nothing_corrected}
 use Rattle.adjudicate.proofs.GivenGames.{few_words}
-use Rattle.adjudicate.proofs.ReportLoop.{same_answers, not_more, all_taken}
-use Rattle.adjudicate.proofs.CorrectingLoop.{asked_of, still_asked_of, ended_at, at_first, retook, gave, stands, room_at, not_read, no_memory, cut_game, all_judged}
+use Rattle.adjudicate.proofs.ReportLoop.{same_answers, not_more, all_taken, given_whole, next_whole}
+use Rattle.adjudicate.proofs.CorrectingLoop.{asked_of, still_asked_of, ended_at, still_whole, at_first, retook, gave, stands, room_at, not_read, no_memory, cut_game, all_judged}
 use Rattle.adjudicate.proofs.correcting.correct_games.Goals as goal
 
 pub returns-in_default-clause-run : goal.returns-in_default-clause-run
@@ -36,7 +36,7 @@ returns-in-Err-clause-run g c =
     (λ fault. rose_in _ _ _ i.source_later (e.read_fault (c.in-Err.is ∙ ap Err fault)))
     (λ fault. e.settled (c.in-Err.is ∙ ap Err fault))
     ((λ long. e.too_long.0 (c.in-Err.is ∙ ap Err long)), (λ more. let f = sym c.in-Err.is ∙ e.too_long.1 more in cc))
-    e.few)
+    e.few (still_whole c.loop-found.reader.ended _ _ _ _ _ _ e.bytes.2 i.due (λ was. (e.still was).1) (ended_at c.loop-found.reader.ended c.next.new.self.ended _ _ i.end (λ was. ap g.S.Source.left (e.no_more_reads was)) e.end)))
 
 pub returns-in_default-found-clause-run : goal.returns-in_default-found-clause-run
 returns-in_default-found-clause-run g c =
@@ -59,7 +59,7 @@ returns-in_default-item_of_kept_game-clause-run g c =
     let at = retook _ _ c.loop-found.reader.ended _ _ _ _ e.bytes.0 _ _ _ _ i.at e.bytes.2 (λ was. (e.still was).0) i.due e.first e.written in
     let all = all_taken _ _ _ _ _ i.took e.bytes in
     let few = not_more _ 268435456 (λ long. let f = sym c.in-Ok-next.is ∙ e.too_long.1 long in cc) in
-    rw i.quiet (no_memory _ _ c.requires.asked _ _ _ _ _ _ _ at _ _ _ _ all (omega (arith, i.source_later, e.later)) _ _ i.sink_later few)
+    rw i.quiet (no_memory _ _ c.requires.asked _ _ _ _ _ _ _ at _ _ _ _ all (omega (arith, i.source_later, e.later)) _ _ i.sink_later few (given_whole c.next.new.self.ended _ _ _ (rw (c.in-Ok-next.is ∙ ap Ok c.in-Some.is) at e.before_end) (ended_at c.loop-found.reader.ended c.next.new.self.ended _ _ i.end (λ was. ap g.S.Source.left (e.no_more_reads was)) e.end)))
 
 pub judge-requires-clause-asked : goal.judge-requires-clause-asked
 judge-requires-clause-asked g c = asked_of _ _ (still_asked_of _ _ c.loop-found.invariant.question c.requires.asked) c.in-Ok-item_of_kept_game.ensures.asked
@@ -74,7 +74,7 @@ returns-in_default-judge-clause-run g c =
     let at = retook _ _ c.loop-found.reader.ended _ _ _ _ e.bytes.0 _ _ _ _ i.at e.bytes.2 (λ was. (e.still was).0) i.due e.first e.written in
     let all = all_taken _ _ _ _ _ i.took e.bytes in
     let few = not_more _ 268435456 (λ long. let f = sym c.in-Ok-next.is ∙ e.too_long.1 long in cc) in
-    rw i.quiet (no_memory _ _ c.requires.asked _ _ _ _ _ _ _ at _ _ _ _ all (omega (arith, i.source_later, e.later)) _ _ i.sink_later few)
+    rw i.quiet (no_memory _ _ c.requires.asked _ _ _ _ _ _ _ at _ _ _ _ all (omega (arith, i.source_later, e.later)) _ _ i.sink_later few (given_whole c.next.new.self.ended _ _ _ (rw (c.in-Ok-next.is ∙ ap Ok c.in-Some.is) at e.before_end) (ended_at c.loop-found.reader.ended c.next.new.self.ended _ _ i.end (λ was. ap g.S.Source.left (e.no_more_reads was)) e.end)))
 
 pub count-requires : goal.count-requires
 count-requires g c =
@@ -99,7 +99,7 @@ returns-in_default-text_of_game-clause-run g c =
     let at = retook _ _ c.loop-found.reader.ended _ _ _ _ e.bytes.0 _ _ _ _ i.at e.bytes.2 (λ was. (e.still was).0) i.due e.first e.written in
     let all = all_taken _ _ _ _ _ i.took e.bytes in
     let few = not_more _ 268435456 (λ long. let f = sym c.in-Ok-next.is ∙ e.too_long.1 long in cc) in
-    rw i.quiet (no_memory _ _ c.requires.asked _ _ _ _ _ _ _ at _ _ _ _ all (omega (arith, i.source_later, e.later)) _ _ i.sink_later few)
+    rw i.quiet (no_memory _ _ c.requires.asked _ _ _ _ _ _ _ at _ _ _ _ all (omega (arith, i.source_later, e.later)) _ _ i.sink_later few (given_whole c.next.new.self.ended _ _ _ (rw (c.in-Ok-next.is ∙ ap Ok c.in-Some.is) at e.before_end) (ended_at c.loop-found.reader.ended c.next.new.self.ended _ _ i.end (λ was. ap g.S.Source.left (e.no_more_reads was)) e.end)))
 
 pub returns-in-Failed-clause-worked : goal.returns-in-Failed-clause-worked
 returns-in-Failed-clause-worked g c = g.met.J.Judge.both_worked c.args.judge.now c.loop-found.judge c.judge.new.self c.loop-found.invariant.worked c.judge.ensures.worked
@@ -116,7 +116,8 @@ returns-in-Failed-clause-run g c =
     let text_is = c.items.ensures ∙ c.in-Ok-text_of_game.ensures.text ∙ ap (game_piece c.args.changed c.next.new.self.taken c.next.new.self.written c.in-Some.game.span) c.new_result.ensures in
     let cause = rw c.in-Failed.is at c.put.ensures.cause in
     rw i.quiet (cut_game _ _ c.requires.asked _ _ _ _ _ _ _ at _ _ _ _ all (omega (arith, i.source_later, e.later)) _ _ _ c.in-Ok-judge.outcome c.in-Some.game _ c.in-Failed.field-0
-    (omega (arith, cause.0, i.sink_later)) (rose_in _ _ _ i.sink_later cause.1) few found answers text_is (rw c.in-Failed.is at c.put.ensures.bytes))
+    (omega (arith, cause.0, i.sink_later)) (rose_in _ _ _ i.sink_later cause.1) few found answers text_is (rw c.in-Failed.is at c.put.ensures.bytes)
+    (next_whole c.next.new.self.ended _ _ _ (rw (c.in-Ok-next.is ∙ ap Ok c.in-Some.is) at e.before_end) (ended_at c.loop-found.reader.ended c.next.new.self.ended _ _ i.end (λ was. ap g.S.Source.left (e.no_more_reads was)) e.end)))
 
 pub loop-found-smaller : goal.loop-found-smaller
 loop-found-smaller g c =

@@ -1,4 +1,4 @@
-use Rattle.std.proofs.Common.{Some, refl, arith}
+use Rattle.std.proofs.Common.{Some, refl, ap, ◌∙◌, arith}
 use Rattle.std.proofs.KnownBytes.{Consumes-nil}
 use Rattle.adjudicate.specs.Jobs.{on_games}
 use Rattle.adjudicate.proofs.RunEndings.{not_begun_by}
@@ -7,14 +7,26 @@ use Rattle.adjudicate.proofs.jobs.report_games.Goals as goal
 pub returns-in_default-clause-run : goal.returns-in_default-clause-run
 returns-in_default-clause-run g c = not_begun_by (Some (on_games _ _)) _ _ _ _
 
+pub new-items-requires-clause-goes_on : goal.new-items-requires-clause-goes_on
+new-items-requires-clause-goes_on g c = rw c.in-Ok.ensures (refl, omega arith)
+
+pub new-items-requires-clause-first : goal.new-items-requires-clause-first
+new-items-requires-clause-first g c = rw c.in-Ok.ensures refl
+
+pub write_report-requires-clause-asked : goal.write_report-requires-clause-asked
+write_report-requires-clause-asked g c = ap (λ s. s.question) c.new-items.ensures ∙ c.question.ensures
+
 pub write_report-requires-clause-goes_on : goal.write_report-requires-clause-goes_on
-write_report-requires-clause-goes_on g c = rw c.in-Ok.ensures (refl, omega arith)
+write_report-requires-clause-goes_on g c = ap (λ s. s.failed) c.new-items.ensures
 
 pub write_report-requires-clause-first : goal.write_report-requires-clause-first
-write_report-requires-clause-first g c = rw c.in-Ok.ensures refl
+write_report-requires-clause-first g c = ap (λ s. s.given) c.new-items.ensures
+
+pub write_report-requires-clause-few : goal.write_report-requires-clause-few
+write_report-requires-clause-few g c = rw (c.new-items.ensures, c.in-Ok.ensures) (omega arith)
 
 pub write_report-requires-clause-ended : goal.write_report-requires-clause-ended
-write_report-requires-clause-ended g c = rw c.in-Ok.ensures (λ e. cc)
+write_report-requires-clause-ended g c = rw (c.new-items.ensures, c.in-Ok.ensures) (λ e. cc)
 
 pub returns-clause-run : goal.returns-clause-run
-returns-clause-run g c = c.write_report.ensures.run _ _ (rw c.in-Ok.ensures (Consumes-nil _)) (omega arith)
+returns-clause-run g c = (rw c.new-items.ensures at c.write_report.ensures.run) _ _ (rw c.in-Ok.ensures (Consumes-nil _)) (omega arith)

@@ -1,12 +1,12 @@
-use Rattle.std.proofs.Common.{◌<◌, ◌≤◌, length, Some, sym, ap, ◌∙◌, arith}
+use Rattle.std.proofs.Common.{◌<◌, ◌≤◌, length, sym, ◌∙◌, arith}
 use Rattle.text_lines.specs.Lines.{text_lines}
-use Rattle.cha_outcome.specs.Items.{line_item}
-use Rattle.adjudicate.proofs.Items.{line_given_few, line_at, lines_first}
+use Rattle.adjudicate.proofs.Items.{lines_about, line_given_few, line_at, lines_first}
 use Rattle.adjudicate.proofs.ReportLoop.{not_more}
 use Rattle.adjudicate.proofs.readers.next_line.Goals as goal
 
-pub returns-in-Ok-Some-clause-item : goal.returns-in-Ok-Some-clause-item
-returns-in-Ok-Some-clause-item g c = line_at (text_lines c.next.new.self.taken) c.args.reader.now.given c.in-Ok-Some.line (rw c.in-Ok-Some.field-0-is at c.in-Ok-Some.ensures.line) ∙ ap Some (ap (line_item c.in-Ok-Some.line.number) (sym c.items.ensures) ∙ sym c.item_of_line.ensures.item)
+pub returns-in-Ok-Some-clause-cut : goal.returns-in-Ok-Some-clause-cut
+returns-in-Ok-Some-clause-cut g c =
+    (line_at (text_lines c.next.new.self.taken) c.args.reader.now.given c.in-Ok-Some.line (rw c.in-Ok-Some.field-0-is at c.in-Ok-Some.ensures.line), tt, λ question asked. lines_about question c.in-Ok-Some.line asked)
 
 pub returns-in-Ok-Some-clause-given : goal.returns-in-Ok-Some-clause-given
 returns-in-Ok-Some-clause-given g c =

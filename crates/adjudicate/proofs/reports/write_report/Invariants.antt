@@ -1,19 +1,22 @@
-use Rattle.std.proofs.Common.{◌≡◌, ◌-◌, ◌≤◌, true}
+use Rattle.std.proofs.Common.{◌≡◌, ◌-◌, ◌≤◌, true, false, length}
 use Rattle.std.specs.Io.KnownBytes.{IsAtEnd}
 use Rattle.cha_outside.specs.Gathering.{Gathers}
-use Rattle.adjudicate.specs.Readers.{taken_by, given_by, has_ended, kind_of, CanGoOn, job_on}
+use Rattle.adjudicate.specs.Readers.{settled_by, job_on}
 use Rattle.adjudicate.proofs.ReportLoop.{IsAt}
 use Rattle.adjudicate.proofs.reports.write_report.Given as goal
 
 -- the items given so far were judged, and what is printed of them was written
 abbrev pub invariant-loop-found : goal.invariant-loop-found
 invariant-loop-found g l = record {
-  at : IsAt (job_on (kind_of l.fn.reader) (g.J.Judge.question l.fn.judge) l.form) (g.K.Sink.written l.fn.sink) (g.K.Sink.written l.sink) (taken_by l.items) (given_by l.items) l.totals;
-  kind : kind_of l.items ≡ kind_of l.fn.reader;
+  at : IsAt (job_on l.fn.batches.kind (g.J.Judge.question l.fn.judge) l.form) (g.K.Sink.written l.fn.sink) (g.K.Sink.written l.sink) l.items.taken l.items.given l.totals;
+  kind : l.items.kind ≡ l.fn.batches.kind;
+  asked : l.items.question ≡ g.J.Judge.question l.fn.judge;
   question : g.J.Judge.question l.judge ≡ g.J.Judge.question l.fn.judge;
-  took : Gathers (g.S.Source.left l.fn.source) (g.S.Source.left l.source) (taken_by l.fn.reader) (taken_by l.items);
-  end : has_ended l.items ≡ true → IsAtEnd (g.S.Source.left l.source);
-  goes_on : CanGoOn l.items;
+  took : Gathers (g.S.Source.left l.fn.source) (g.S.Source.left l.source) l.fn.batches.taken l.items.taken;
+  end : l.items.ended ≡ true → IsAtEnd (g.S.Source.left l.source);
+  due : l.items.ended ≡ false → l.items.given ≤ settled_by l.fn.batches.kind l.items.taken;
+  goes_on : l.items.failed ≡ false;
+  few : length l.items.taken ≤ 268435456;
   source_later : g.S.Source.faults l.fn.source ≤ g.S.Source.faults l.source;
   sink_later : g.K.Sink.faults l.fn.sink ≤ g.K.Sink.faults l.sink;
   ready : g.J.Judge.ready l.judge;
@@ -21,4 +24,4 @@ invariant-loop-found g l = record {
 }
 
 abbrev pub decreases-loop-found : goal.decreases-loop-found
-decreases-loop-found g l = 4611686018427387904 - given_by l.items
+decreases-loop-found g l = 4611686018427387904 - l.items.given

@@ -1,0 +1,181 @@
+-- A queue of work on items: how it grows, how it is worked on, and how its first goes.
+use Rattle.std.proofs.Common.{IfSome, ◌≡◌, ℕ, zero, suc, ◌+◌, ◌-◌, ◌^◌, ◌<◌, ◌≤◌, ◌⊎◌, inl, inr, Bool, true, false, List, [], ◌∷◌, ◌++◌, length, Option, Some, None, slice_get, slice_index_or, take, drop, option_to_list, refl, sym, ap, ◌∙◌, arith, subst}
+use Rattle.std.proofs.Math.Seq.{take-append_seam}
+use Rattle.cha_outcome.specs.declared.items.Item.{Item}
+use Rattle.cha_outcome.specs.declared.questions.Question.{Question}
+use Rattle.side_by_side.specs.declared.cuts.Cut.{Cut}
+use Rattle.side_by_side.specs.declared.progress.Progress.{Progress}
+use Rattle.side_by_side.specs.declared.progress.Progress.TheVariants.{Cut as OnlyCut}
+use Rattle.side_by_side.specs.Cuts.{item_of_cut}
+use Rattle.side_by_side.specs.Progresses.{IsOf, AreAsked, AllGoOn}
+use Rattle.adjudicate.specs.declared.readers.ItemReader.{ItemReader}
+use Rattle.adjudicate.specs.Readers.{ItemKind, kind_of, taken_by, given_by, has_ended, items_by, settled_by, CanGoOn, IsAskedOf}
+use Rattle.adjudicate.specs.Batches.{IsCutAt, IsWorkAt, AreWorkFrom, IsQueued}
+
+-- an element by its index
+there : (ps : List Progress) (i : ℕ) (d : Progress) → i < length ps → slice_get ps i ≡ Some (slice_index_or ps i d)
+there [] i d few = absurd (omega (arith, few))
+there (p ∷ ps) zero d few = refl
+there (p ∷ ps) (suc i) d few = there ps i d (omega (arith, few))
+
+is_there : (ps : List Progress) (i : ℕ) (p : Progress) → slice_get ps i ≡ Some p → (i < length ps) × (slice_index_or ps i p ≡ p)
+is_there [] i p e = cc
+is_there (first ∷ ps) zero p e = (omega arith, cc)
+is_there (first ∷ ps) (suc i) p e = let more = is_there ps i p e in (omega (arith, more.0), more.1)
+
+in_front : (ps : List Progress) (last : Progress) (i : ℕ) (p : Progress) → slice_get (ps ++ last ∷ []) i ≡ Some p → (slice_get ps i ≡ Some p) ⊎ ((i ≡ length ps) × (p ≡ last))
+in_front [] last zero p e = inr (refl, cc)
+in_front [] last (suc i) p e = cc
+in_front (first ∷ ps) last zero p e = inl e
+in_front (first ∷ ps) last (suc i) p e = elim (in_front ps last i p e) [
+  | inl more ↦ inl more
+  | inr end ↦ inr (ap suc end.0, end.1)
+]
+
+-- what is cut at a place is work on its item
+pub cut_is_work : (question : Question) (kind : ItemKind) (bytes : List ℕ) (number : ℕ) (cut : Cut) → IsAskedOf kind question → IsCutAt kind bytes number cut → IsWorkAt question (items_by kind bytes) number (OnlyCut cut)
+cut_is_work question kind bytes number cut asked at = (item_of_cut cut, at.0, (refl, at.1, at.2 question asked))
+
+pub no_work : (question : Question) (items : List Item) (first : ℕ) → AreWorkFrom question items first []
+unfolding AreWorkFrom
+no_work question items first = λ i p e. cc
+
+-- one more
+pub pushed : (question : Question) (items : List Item) (first : ℕ) (queue : List Progress) (p : Progress) → AreWorkFrom question items first queue → IsWorkAt question items (first + length queue) p → AreWorkFrom question items first (queue ++ p ∷ [])
+unfolding AreWorkFrom
+pushed question items first queue p work one = λ i x e. elim (in_front queue p i x e) [
+  | inl before ↦ work i x before
+  | inr end ↦ subst (λ n. IsWorkAt question items (first + n) x) (sym end.0) (subst (λ y. IsWorkAt question items (first + length queue) y) (sym end.1) one)
+]
+
+-- each is asked about
+pub all_asked : (question : Question) (items : List Item) (first : ℕ) (queue : List Progress) → AreWorkFrom question items first queue → AreAsked question queue
+unfolding AreWorkFrom
+all_asked question items first queue work = λ i d few. let at = work i (slice_index_or queue i d) (there queue i d few) in (at.0, at.2)
+
+-- what was worked on is work on the same items
+pub worked_on : (question : Question) (items : List Item) (first : ℕ) (old new : List Progress) → AreWorkFrom question items first old → length new ≡ length old → AllGoOn question old new → AreWorkFrom question items first new
+unfolding AreWorkFrom
+worked_on question items first old new work size same = λ i p e. (
+    let at = is_there new i p e in
+    let few : i < length old = omega (arith, size, at.0) in
+    let was = work i (slice_index_or old i p) (there old i p few) in
+    (was.0, was.1, subst (λ x. IsOf question was.0 x) at.1 (same i p few was.0 was.2)))
+
+-- the first goes
+pub first_of : (question : Question) (items : List Item) (first : ℕ) (p : Progress) (queue : List Progress) → AreWorkFrom question items first (p ∷ queue) → IsWorkAt question items first p
+unfolding AreWorkFrom
+first_of question items first p queue work = let none : first + 0 ≡ first = omega arith in subst (λ n. IsWorkAt question items n p) none (work 0 p refl)
+
+pub rest_of : (question : Question) (items : List Item) (first : ℕ) (p : Progress) (queue : List Progress) → AreWorkFrom question items first (p ∷ queue) → AreWorkFrom question items (first + 1) queue
+unfolding AreWorkFrom
+rest_of question items first p queue work = λ i x e. (
+    let more : first + suc i ≡ first + 1 + i = omega arith in
+    subst (λ n. IsWorkAt question items n x) more (work (suc i) x e))
+
+-- nothing is queued before the first item
+pub first_queue : (reader : ItemReader) (question : Question) → CanGoOn reader → IsAskedOf (kind_of reader) question → given_by reader ≡ 0 → IsQueued reader question [] false
+first_queue reader question goes_on asked none = record {
+  asked = asked;
+  few = omega arith;
+  work = no_work question (items_by (kind_of reader) (taken_by reader)) (given_by reader - 0);
+  goes_on = λ _. goes_on;
+  most = λ _. omega (arith, none);
+  settled = λ _ _. omega (arith, none);
+}
+
+-- where a call failed nothing is queued
+pub no_queue : (reader : ItemReader) (question : Question) → IsAskedOf (kind_of reader) question → IsQueued reader question [] true
+no_queue reader question asked = record {
+  asked = asked;
+  few = omega arith;
+  work = no_work question (items_by (kind_of reader) (taken_by reader)) (given_by reader - 0);
+  goes_on = λ e. cc;
+  most = λ e. cc;
+  settled = λ e. cc;
+}
+
+-- the first of what is queued goes
+pub popped : (reader : ItemReader) (question : Question) (p : Progress) (queue : List Progress) (failed : Bool) → IsQueued reader question (p ∷ queue) failed → IsQueued reader question queue failed
+popped reader question p queue failed h =
+    let few = h.few in
+    let next : given_by reader - suc (length queue) + 1 ≡ given_by reader - length queue = omega (arith, few) in
+    record {
+      asked = h.asked;
+      few = omega (arith, few);
+      work = subst (λ n. AreWorkFrom question (items_by (kind_of reader) (taken_by reader)) n queue) next (rest_of question (items_by (kind_of reader) (taken_by reader)) (given_by reader - suc (length queue)) p queue h.work);
+      goes_on = h.goes_on;
+      most = h.most;
+      settled = h.settled;
+    }
+
+-- its work
+pub first_work : (reader : ItemReader) (question : Question) (p : Progress) (queue all : List Progress) (failed : Bool) → all ≡ p ∷ queue → IsQueued reader question all failed
+    → IsWorkAt question (items_by (kind_of reader) (taken_by reader)) (given_by reader - length all) p
+first_work reader question p queue all failed e h =
+    let items = items_by (kind_of reader) (taken_by reader) in
+    let n = given_by reader - length all in
+    first_of question items n p queue (subst (λ q. AreWorkFrom question items n q) e h.work)
+
+-- whatever is taken from the front
+pub popped_any : (reader : ItemReader) (question : Question) (found : Option Progress) (all queue : List Progress) (failed : Bool) → all ≡ option_to_list found ++ queue → IsQueued reader question all failed → IsQueued reader question queue failed
+popped_any reader question None all queue failed e h = subst (λ q. IsQueued reader question q failed) e h
+popped_any reader question (Some p) all queue failed e h = popped reader question p queue failed (subst (λ q. IsQueued reader question q failed) e h)
+
+-- it is work on the item with the first number
+pub first_found : (question : Question) (found : Option Progress) (all queue : List Progress) (k k' : ItemKind) (t t' : List ℕ) (n n' : ℕ) → k' ≡ k → t' ≡ t → n' ≡ n → all ≡ option_to_list found ++ queue → AreWorkFrom question (items_by k t) n all
+    → IfSome found (IsWorkAt question (items_by k' t') n')
+first_found question None all queue k k' t t' n n' kind taken number e work = tt
+first_found question (Some p) all queue k k' t t' n n' kind taken number e work =
+    let one = first_of question (items_by k t) n p queue (subst (λ q. AreWorkFrom question (items_by k t) n q) e work) in
+    subst (λ x. IsWorkAt question (items_by x t') n' p) (sym kind) (subst (λ x. IsWorkAt question (items_by k x) n' p) (sym taken) (subst (λ x. IsWorkAt question (items_by k t) x p) (sym number) one))
+
+-- a queue without an element, by its length
+pub empty_queue : (queue : List Progress) → length queue ≡ 0 → queue ≡ []
+empty_queue [] e = refl
+empty_queue (p ∷ queue) e = cc
+
+-- where no item is left
+pub none_left : (reader reader' : ItemReader) (question : Question) (old queue : List Progress) (failed : Bool) → IsQueued reader question old failed → queue ≡ [] → kind_of reader' ≡ kind_of reader → given_by reader' ≡ given_by reader → CanGoOn reader' → has_ended reader' ≡ true
+    → IsQueued reader' question queue failed
+none_left reader reader' question old queue failed h none kind given goes_on ended = subst (λ q. IsQueued reader' question q failed) (sym none) (record {
+  asked = subst (λ k. IsAskedOf k question) (sym kind) h.asked;
+  few = omega arith;
+  work = no_work question (items_by (kind_of reader') (taken_by reader')) (given_by reader' - 0);
+  goes_on = λ _. goes_on;
+  most = λ f. (let was = h.most f in omega (arith, given, was));
+  settled = λ f more_comes. (let e = sym ended ∙ more_comes in cc);
+})
+
+-- where the reader failed
+pub failed_queue : (reader reader' : ItemReader) (question : Question) (old queue : List Progress) (failed : Bool) → IsQueued reader question old failed → queue ≡ [] → kind_of reader' ≡ kind_of reader → IsQueued reader' question queue true
+failed_queue reader reader' question old queue failed h none kind = subst (λ q. IsQueued reader' question q true) (sym none) (no_queue reader' question (subst (λ k. IsAskedOf k question) (sym kind) h.asked))
+
+-- where a batch was read
+pub new_queue : (reader reader' : ItemReader) (question : Question) (batch : List Progress) (failed : Bool) → IsAskedOf (kind_of reader) question → kind_of reader' ≡ kind_of reader → taken_by reader' ≡ taken_by reader → CanGoOn reader' → given_by reader' ≤ 2 ^ 62
+    → (has_ended reader' ≡ false → given_by reader' ≤ settled_by (kind_of reader) (taken_by reader)) → given_by reader' + 1 ≡ given_by reader + length batch → 1 ≤ given_by reader
+    → AreWorkFrom question (items_by (kind_of reader) (taken_by reader)) (given_by reader - 1) batch → IsQueued reader' question batch failed
+new_queue reader reader' question batch failed asked kind taken goes_on most settled count some work =
+    let first : given_by reader - 1 ≡ given_by reader' - length batch = omega (arith, count, some) in
+    record {
+      asked = subst (λ k. IsAskedOf k question) (sym kind) asked;
+      few = omega (arith, count, some);
+      work = subst (λ k. AreWorkFrom question (items_by k (taken_by reader')) (given_by reader' - length batch) batch) (sym kind)
+          (subst (λ t. AreWorkFrom question (items_by (kind_of reader) t) (given_by reader' - length batch) batch) (sym taken) (subst (λ n. AreWorkFrom question (items_by (kind_of reader) (taken_by reader)) n batch) first work));
+      goes_on = λ _. goes_on;
+      most = λ _. most;
+      settled = λ _ more_comes. subst (λ k. given_by reader' ≤ settled_by k (taken_by reader')) (sym kind) (subst (λ t. given_by reader' ≤ settled_by (kind_of reader) t) (sym taken) (settled more_comes));
+    }
+
+-- one more is cut
+pub one_more : (question : Question) (k k' : ItemKind) (t t' : List ℕ) (n n' : ℕ) (cut : Cut) → IsAskedOf k question → k' ≡ k → t' ≡ t → n' ≡ n → IsCutAt k' t' n' cut → IsWorkAt question (items_by k t) n (OnlyCut cut)
+one_more question k k' t t' n n' cut asked kind taken place at =
+    cut_is_work question k t n cut asked (subst (λ x. IsCutAt x t n cut) kind (subst (λ x. IsCutAt k' x n cut) taken (subst (λ x. IsCutAt k' t' x cut) place at)))
+
+-- what was worked on stands in its list again
+pub worked_back : (question : Question) (items : List Item) (first : ℕ) (old view new : List Progress) (len : ℕ) → len ≡ length old → view ≡ old → AreWorkFrom question items first old → length new ≡ length view → AllGoOn question view new
+    → AreWorkFrom question items first (take len (new ++ drop (length new) old))
+worked_back question items first old view new len size is work same goes =
+    let long : length new ≡ length old = same ∙ ap length is in
+    let back : take len (new ++ drop (length new) old) ≡ new = ap (λ n. take n (new ++ drop (length new) old)) (size ∙ sym long) ∙ take-append_seam new (drop (length new) old) in
+    subst (λ b. AreWorkFrom question items first b) (sym back) (worked_on question items first old new work long (subst (λ v. AllGoOn question v new) is goes))

@@ -1,0 +1,164 @@
+//! Items that have come whole are worked on together.
+
+ghost use Rattle.std.specs.Prelude.{◌≡◌, ◌≤◌, ◌<◌, ◌+◌, ◌-◌, ◌^◌, ◌↔◌, [], true, false, length, take, is_err, IfOk, IfSome, OnOk};
+ghost use Rattle.std.specs.declared.result.Result.TheVariants.{Ok, Err};
+ghost use Rattle.std.specs.declared.option.Option.TheVariants.{None};
+ghost use Rattle.std.specs.Io.KnownBytes.{IsAtEnd};
+ghost use Rattle.cha_outside.specs.Faults.{Rose};
+ghost use Rattle.cha_outside.specs.Gathering.{Gathers};
+ghost use Rattle.adjudicate.specs.Readers.{kind_of, taken_by, given_by, has_ended, items_by, settled_by, closed_by, CanGoOn, IsAskedOf};
+ghost use Rattle.adjudicate.specs.Batches.{IsCutAt, IsWorkAt, AreWorkFrom};
+ghost use Rattle.adjudicate.specs.Runs.{most_bytes};
+
+use crate::readers::ItemReader;
+use cha_list::NoMemory;
+use cha_outcome::Question;
+use cha_outside::{ReadEnd, Source};
+use side_by_side::{Cut, Hands, Progress};
+use std::alloc::Global;
+use std::collections::VecDeque;
+use std::marker::Model;
+
+/// Gives the items of a reader one at a time, in order. Those that are whole in what was read are worked on together before the first
+/// of them is given, as far as that needs no search by a crew.
+#[derive(Drop)]
+pub struct Batches<'a, H: Hands> {
+    hands: &'a H,
+    reader: ItemReader,
+    question: Question,
+    queue: VecDeque<Progress>,
+    failed: bool,
+}
+
+/// Contracts see the kind of the items and what is asked about them, the bytes taken, how many items were given, whether the source has
+/// ended, and whether a call failed.
+impl<'a, H: Hands> Model for Batches<'a, H> {
+    ghost use Rattle.std.specs.Prelude.{◌-◌, length};
+    ghost use Rattle.adjudicate.specs.Readers.{kind_of, taken_by, given_by, has_ended};
+    ghost use Rattle.adjudicate.specs.Batches.{BatchesState, IsQueued};
+
+    ghost Value = { BatchesState };
+
+    ghost view = { λ s. record { kind = kind_of s.reader; question = s.question; taken = taken_by s.reader; given = given_by s.reader - length s.queue.items; ended = has_ended s.reader; failed = s.failed } };
+
+    ghost invariant = { λ s. H.ready s.hands.now × IsQueued s.reader s.question s.queue.items s.failed };
+}
+
+/// A batch: an item that has come, and those behind it that are whole in what was taken, at most so many. They are worked on together.
+fn batch_of<H: Hands>(
+    alloc: Global,
+    hands: &H,
+    question: &Question,
+    first: Cut,
+    reader: &mut ItemReader,
+) -> Result<Vec<Progress>, NoMemory>
+    requires ready { H.ready hands.now }
+    requires goes_on { CanGoOn reader.old }
+    requires asked { IsAskedOf (kind_of reader.old) question.now }
+    requires some { 1 ≤ given_by reader.old }
+    requires most { given_by reader.old ≤ 2 ^ 62 }
+    requires first { IsCutAt (kind_of reader.old) (taken_by reader.old) (given_by reader.old - 1) first }
+    requires settled { has_ended reader.old ≡ false → given_by reader.old ≤ settled_by (kind_of reader.old) (taken_by reader.old) }
+    ensures kind { kind_of reader.new ≡ kind_of reader.old }
+    ensures same { (taken_by reader.new ≡ taken_by reader.old) × (has_ended reader.new ≡ has_ended reader.old) }
+    ensures goes_on { OnOk result (CanGoOn reader.new) }
+    ensures most { OnOk result (given_by reader.new ≤ 2 ^ 62) }
+    ensures settled { OnOk result (has_ended reader.new ≡ false → given_by reader.new ≤ settled_by (kind_of reader.old) (taken_by reader.old)) }
+    ensures count { IfOk result (λ batch. given_by reader.new + 1 ≡ given_by reader.old + length batch.items) }
+    ensures some { IfOk result (λ batch. 1 ≤ length batch.items) }
+    ensures work { IfOk result (λ batch. AreWorkFrom question.now (items_by (kind_of reader.old) (taken_by reader.old)) (given_by reader.old - 1) batch.items) }
+{
+    let mut batch = Vec::new(alloc);
+    let Ok(()) = batch.push(Progress::Cut(first)) else {
+        return Err(NoMemory);
+    };
+    let most = hands.most_items();
+    while batch.len() < most {
+        let Some(cut) = reader.ready()? else {
+            break;
+        };
+        let Ok(()) = batch.push(Progress::Cut(cut)) else {
+            return Err(NoMemory);
+        };
+    }
+    hands.work_ahead(alloc, question, batch.as_mut_slice());
+    Ok(batch)
+}
+
+impl<'a, H: Hands> Batches<'a, H> {
+    /// The items of a reader that has given none, of which this is asked. It takes no memory.
+    pub fn new(
+        alloc: Global,
+        hands: &'a H,
+        reader: ItemReader,
+        question: Question,
+    ) -> Batches<'a, H>
+        requires ready { H.ready hands.now }
+        requires goes_on { CanGoOn reader }
+        requires asked { IsAskedOf (kind_of reader) question }
+        requires first { given_by reader ≡ 0 }
+        ensures { result ≡ record { kind = kind_of reader; question = question; taken = taken_by reader; given = 0; ended = has_ended reader; failed = false } }
+    {
+        Batches {
+            hands,
+            reader,
+            question,
+            queue: VecDeque::new(alloc),
+            failed: false,
+        }
+    }
+
+    /// Whether the text is closed, once its source has ended; a text of lines always is.
+    pub fn is_closed(&self) -> bool
+        ensures { self.now.ended ≡ true → result ≡ closed_by self.now.kind self.now.taken }
+    {
+        self.reader.is_closed()
+    }
+
+    /// The work on the next item, or None where all items were given. It reads only where no item is queued. After an error no call may
+    /// follow.
+    pub fn next<S: Source>(
+        &mut self,
+        alloc: Global,
+        source: &mut S,
+    ) -> Result<Option<Progress>, ReadEnd>
+        requires goes_on { self.old.failed ≡ false }
+        ensures kind { (self.new.kind ≡ self.old.kind) × (self.new.question ≡ self.old.question) }
+        ensures bytes { Gathers (S.left source.old) (S.left source.new) self.old.taken self.new.taken }
+        ensures work { IfOk result (λ found. IfSome found (IsWorkAt self.old.question (items_by self.old.kind self.new.taken) self.old.given)) }
+        ensures given { IfOk result (λ found. IfSome found (λ progress. (self.new.given ≡ self.old.given + 1) × (self.old.given < 2 ^ 62))) }
+        ensures still_ended { self.old.ended ≡ true → self.new.ended ≡ true }
+        ensures before_end { self.new.ended ≡ false → IfOk result (λ found. IfSome found (λ progress. self.old.given < settled_by self.old.kind self.new.taken)) }
+        ensures none { result ≡ Ok None → (self.new.ended ≡ true) × (length (items_by self.old.kind self.new.taken) ≤ self.old.given) }
+        ensures first { take self.old.given (items_by self.old.kind self.new.taken) ≡ take self.old.given (items_by self.old.kind self.old.taken) }
+        ensures end { (self.old.ended ≡ true → IsAtEnd (S.left source.old)) → self.new.ended ≡ true → IsAtEnd (S.left source.new) }
+        ensures read_fault { result ≡ Err ReadEnd.ReadFault → Rose (S.faults source.old) (S.faults source.new) }
+        ensures settled { result ≡ Err ReadEnd.ReadFault → settled_by self.old.kind self.new.taken ≤ self.old.given }
+        ensures too_long { (result ≡ Err ReadEnd.TooLong) ↔ (most_bytes < length self.new.taken) }
+        ensures few { length self.new.taken ≤ most_bytes + 4096 }
+        ensures failed { self.new.failed ≡ is_err result }
+        ensures later { S.faults source.old ≤ S.faults source.new }
+    {
+        if let Some(progress) = self.queue.pop_front() {
+            return Ok(Some(progress));
+        }
+        let first = match self.reader.next(source) {
+            Ok(Some(first)) => first,
+            Ok(None) => return Ok(None),
+            Err(end) => {
+                self.failed = true;
+                return Err(end);
+            }
+        };
+        match batch_of(alloc, self.hands, &self.question, first, &mut self.reader) {
+            Ok(batch) => {
+                self.queue = VecDeque::from(batch);
+                Ok(self.queue.pop_front())
+            }
+            Err(_) => {
+                self.failed = true;
+                Err(ReadEnd::NoMemory)
+            }
+        }
+    }
+}

@@ -3,6 +3,7 @@ pub mod Progress
 pub mod Settling
 pub mod RunEndings
 pub mod OrderRuns
+pub mod Truth
 pub mod OpeningLives
 pub mod BegunGames
 pub mod CorrectedGames

@@ -5,6 +5,7 @@ pub mod Report
 pub mod Runs
 pub mod Corrections
 pub mod Orders
+pub mod Truth
 pub mod Statuses
 -- what only the crate's own functions say of each other
 pub mod Readers

@@ -1,6 +1,6 @@
 //! The same call where there is no runtime.
 
-ghost use Rattle.std.specs.Prelude.{◌≡◌, ◌≤◌, ◌↔◌, ◌⊎◌, ℕ, List, Option, false, length, IsNone, IsSome, IfSome, Some};
+ghost use Rattle.std.specs.Prelude.{◌≡◌, ◌≤◌, ◌↔◌, ◌⊎◌, ℕ, List, [], ◌∷◌, Option, false, length, map, codes, string_bytes, IsNone, IsSome, IfSome, Some};
 ghost use Rattle.cha_board.specs.declared.men.Color.{Color as Side};
 ghost use Rattle.cha_board.specs.Board.{Board, IsValid};
 ghost use Rattle.cha_outside.specs.Faults.{Rose};
@@ -19,9 +19,12 @@ ghost use Rattle.cha_words.specs.declared.orders.Order.TheVariants.{CheckCert, G
 ghost use Rattle.cha_words.specs.Language.{order, limits_in};
 ghost use Rattle.adjudicate.specs.CertFindings.{IsTextOf, IsUnwinnableAtFirst};
 ghost use Rattle.adjudicate.specs.Corrections.{noted, HasAll, HasSameGames};
-ghost use Rattle.adjudicate.specs.Jobs.{on_kept_games};
+ghost use Rattle.flag_report.specs.declared.styles.Subject.TheVariants.{Games, Positions};
+ghost use Rattle.true_blocks.specs.Shown.{ShowsOnlyTruth};
+ghost use Rattle.adjudicate.specs.Jobs.{on_kept_games, game_items, position_items};
 ghost use Rattle.adjudicate.specs.Orders.{IsRun};
-ghost use Rattle.adjudicate.specs.Runs.{outside};
+ghost use Rattle.adjudicate.specs.Runs.{outside, Grew};
+ghost use Rattle.adjudicate.specs.Truth.{usual, ReportsTruth};
 
 use crate::commands::{carry_out, carry_out_plain};
 use crate::correcting::corrected_games_stay;
@@ -53,6 +56,13 @@ pub fn run_alone<S: Source, K: Sink, N: Sink>(
 
     // What the words order was done, status by status: on Done the whole input was read, and its report was written.
     ensures run { IfSome (order words.now) (λ o. IsRun o result (outside (S.left source.old) (S.faults source.old) (K.written sink.old) (K.faults sink.old)) (outside (S.left source.new) (S.faults source.new) (K.written sink.new) (K.faults sink.new)) (noted (N.written notes.old) (N.faults notes.old)) (noted (N.written notes.new) (N.faults notes.new))) }
+
+    // The words `adjudicate` alone, and `position` alone: on Done, what was written says of each item what is true of it in chess.
+    ensures games { map string_bytes words.now ≡ codes "adjudicate" ∷ [] → result ≡ Status.Done → ReportsTruth game_items Games (S.left source.old) (S.left source.new) (K.written sink.old) (K.written sink.new) }
+    ensures positions { map string_bytes words.now ≡ codes "position" ∷ [] → result ≡ Status.Done → ReportsTruth position_items Positions (S.left source.old) (S.left source.new) (K.written sink.old) (K.written sink.new) }
+
+    // However their input was read, each block is true of the position whose FEN it shows.
+    ensures shown { (map string_bytes words.now ≡ codes "adjudicate" ∷ []) ⊎ (map string_bytes words.now ≡ codes "position" ∷ []) → result ≡ Status.Done → Grew (K.written sink.old) (K.written sink.new) (ShowsOnlyTruth usual) }
 
     // What the verdicts of a report cannot miss.
     ensures misses_nothing { (q : Board) (first : Side) (limits : Bounds) (d : Decision) → IsValid q → IsSound q first limits d → (winner : Side) → IsComplete q winner limits (verdict_on d winner) }

@@ -170,8 +170,8 @@ fn a_failing_write_leaves_the_blocks_before_it(rt: HostRuntime) -> Result<(), Fa
         assert_eq!(rt; found.status, Status::WriteFault);
         assert_eq!(rt; one.text().starts_with(found.text()), true, "write {write}");
         assert_eq!(rt;
-            (blocks.wrapping_add(unread)) as u32,
-            write.wrapping_sub(1),
+            blocks.wrapping_add(unread),
+            (write as usize).wrapping_sub(1),
             "write {write}"
         );
     }

@@ -1,4 +1,4 @@
-/* cha: what neither side can mate, in one's own process. See docs/LIBRARY.md.
+/* cha, the chess adjudicator, as a library: rules on games in PGN and positions in FEN, and checks certificates. See docs/LIBRARY.md.
  *
  * Both functions keep nothing between two calls, start no thread, and may be called from several threads at once. They take memory
  * by malloc and realloc and give it back by free before they return. They read no file and no environment.
@@ -26,23 +26,22 @@ enum cha_answer {
     CHA_NO_ROOM = 7       /* the output is longer than its room */
 };
 
-/* Does what command words order with an input, as the program cha does with its words and its standard input, and writes what the
- * program prints to the front of out.
+/* Runs the command that the words name over an input, as the program cha does over its standard input, and writes what the program
+ * prints to the front of out.
  *
  * words, words_len  the words behind the program's name in UTF-8, with one zero byte between two of them ("position\0--certs")
  * input, input_len  what the program reads: PGN, FEN lines or the text of a certificate
  * out, out_len      room for the output
  * used              afterwards how many bytes the output has; written in every case
  *
- * Games of any length are judged in pieces: with the option --json the last line says "closed":true where the games behind the input are what
- * they would be if the input were not there. So judge the first piece. If it is closed, go on with the next one alone, and add to its places
- * and numbers those before it; if not, judge it again together with the next one. The lines are those of one run over the whole (proved;
- * docs/LIBRARY.md).
+ * A longer text of games is judged in pieces. With --json the last line says "closed":true where no game is open at the end of the piece:
+ * then the next piece can be judged alone. Where it says false, judge the piece again together with the next one. docs/LIBRARY.md has the
+ * steps.
  *
  * With the word correct the output is the text of the games, with the right results; the summary is not handed out.
  *
- * Where the answer is CHA_NO_ROOM, nothing was written, and a call with *used bytes of room has enough. Options for threads change
- * nothing: one thread does the work.
+ * Where the answer is CHA_NO_ROOM, nothing was written, and room for *used bytes is enough. --workers changes nothing: one thread does
+ * the work.
  */
 uint8_t cha_run(const uint8_t *words, size_t words_len, const uint8_t *input, size_t input_len, uint8_t *out, size_t out_len,
                 size_t *used);

@@ -34,9 +34,9 @@ enum cha_answer {
  * out, out_len      room for the output
  * used              afterwards how many bytes the output has; written in every case
  *
- * A longer text of games is judged in pieces. With --json the last line says "closed":true where no game is open at the end of the piece:
- * then the next piece can be judged alone. Where it says false, judge the piece again together with the next one. docs/LIBRARY.md has the
- * steps.
+ * A longer text of games is judged in pieces. With --json the last line says "closed":true where the next piece can be judged alone: no
+ * game is open, and the next byte begins a line. Where it says false, judge the piece again together with the next one. docs/LIBRARY.md
+ * has the steps.
  *
  * With the word correct the output is the text of the games, with the right results; the summary is not handed out.
  *

@@ -22,8 +22,8 @@ const NO_MEMORY: u8 = 5;
 /// The answer where the output does not fit into its room.
 const NO_ROOM: u8 = 7;
 
-/// Does what command words order with an input, as the program `cha` does with its words and its standard input, and writes
-/// what the program prints to the front of `out`. `words` is one text in UTF-8, in which a zero byte stands between two words.
+/// Runs the command that the words name over an input, as the program `cha` does over its standard input, and writes what the
+/// program prints to the front of `out`. `words` is one text in UTF-8, in which a zero byte stands between two words.
 /// Afterwards `used` tells how many bytes the output has.
 ///
 /// The answer is the exit status of the program, where 5 is also said of an output for which memory was refused; or 7 where the

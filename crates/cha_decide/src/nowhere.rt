@@ -2,7 +2,7 @@
 
 use cha_fact::{Facts, Key, Probe, Proved, Stored};
 
-/// A place that keeps nothing, and knows nothing. Nothing is told of what is asked there.
+/// A place of facts that keeps and knows nothing. Contracts say nothing of the calls that are made there.
 #[derive(Clone, Copy)]
 pub struct Nowhere;
 

@@ -3,7 +3,7 @@
 use crate::key::Key;
 use crate::proved::Proved;
 
-/// What a place answers that is asked for a key.
+/// The answer of a place of facts that is asked for a key.
 #[derive(Drop)]
 pub enum Probe {
     /// What is known under that key.
@@ -12,7 +12,7 @@ pub enum Probe {
     Miss,
 }
 
-/// What a place answers that is given something to keep.
+/// The answer of a place of facts that is given a fact to keep.
 #[derive(Clone, Copy, Debug, PartialEq, Eq)]
 pub enum Stored {
     /// Nothing was known under its key: it is kept.

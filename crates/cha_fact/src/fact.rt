@@ -26,7 +26,7 @@ impl Fact {
         }
     }
 
-    /// The same fact once more.
+    /// A copy of the fact.
     pub fn copy(&self) -> Fact
         ensures { result ≡ self.now }
     {

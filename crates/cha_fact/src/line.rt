@@ -70,7 +70,7 @@ impl Line {
         Some(Line { moves })
     }
 
-    /// The same line once more.
+    /// A copy of the line.
     pub fn copy(&self) -> Line
         ensures { result ≡ self.now }
     {

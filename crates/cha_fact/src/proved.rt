@@ -114,7 +114,7 @@ impl Proved {
         self.fact.rank()
     }
 
-    /// The same once more.
+    /// A copy of the fact, with its position and side.
     pub fn copy(&self) -> Proved
         ensures { result ≡ self.now }
     {

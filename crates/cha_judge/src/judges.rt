@@ -1,4 +1,4 @@
-//! Who judges.
+//! What a judge is.
 
 ghost use Rattle.std.specs.Prelude.{◌≡◌, IfOk, IfErr};
 ghost use Rattle.cha_outcome.specs.Outcomes.{Answers, CanBeAsked, IsPrintableOutcome};
@@ -6,7 +6,7 @@ ghost use Rattle.cha_outcome.specs.Outcomes.{Answers, CanBeAsked, IsPrintableOut
 use cha_outcome::{Item, Outcome, Question};
 use std::alloc::Global;
 
-/// Who answers one question about each item, with workers of its own.
+/// A judge: it answers one question about each item, with workers of its own.
 pub trait Judge {
     ghost use Rattle.cha_outcome.specs.declared.questions.Question.{Question};
 

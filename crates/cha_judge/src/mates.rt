@@ -6,7 +6,7 @@ use cha_outcome::{Item, Outcome, Question};
 use helpmate_list::{Spread, least_mates_by};
 use std::alloc::Global;
 
-/// Who lists the shortest mates of a side in a position.
+/// The judge that lists the shortest mates of a side in a position.
 #[derive(Drop)]
 pub struct MatesJudge<P: Spread> {
     /// The side that mates.
@@ -15,7 +15,7 @@ pub struct MatesJudge<P: Spread> {
     pub depth: u8,
     /// How many workers share the root moves, at least one.
     pub workers: u32,
-    /// How the work is spread out to them.
+    /// How the workers do their parts: in threads, or in turn.
     pub spread: P,
 }
 

@@ -4,7 +4,7 @@ use crate::judges::Judge;
 use cha_outcome::{Item, Outcome, Question};
 use std::alloc::Global;
 
-/// Who tells the moves of games. Nothing is judged.
+/// The judge that hands on the moves of games. It decides nothing.
 #[derive(Clone, Copy, Debug, PartialEq, Eq)]
 pub struct PliesJudge;
 

@@ -22,8 +22,8 @@ use cha_verdict::{Decision, Scan};
 use root_workers::Crew;
 use std::alloc::Global;
 
-/// Who decides whether each side can still mate, in a position or in the final position of a game, and from where on a game was
-/// dead.
+/// The judge that decides whether each side can still mate, in a position or in the final position of a game, and from where on
+/// a game was dead.
 #[derive(Drop)]
 pub struct VerdictsJudge<'a, C: Crew> {
     /// What a search may spend on a side.

@@ -63,7 +63,7 @@ impl Limits {
         self.depth
     }
 
-    /// How many workers share the search of a round, from 1 to 16.
+    /// How many workers judge items side by side, and share the search of a round, from 1 to 16.
     pub fn workers(&self) -> u32
         ensures value { result ≡ self.now.workers }
         ensures range { (1 ≤ result) × (result ≤ 16) }

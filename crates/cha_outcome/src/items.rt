@@ -59,7 +59,7 @@ pub enum Item {
         line: u64,
         position: Position,
     },
-    /// A line that is none.
+    /// A line that is no position in FEN.
     RefusedLine {
         /// The number of the line, from 1. Blank lines count too.
         line: u64,
@@ -73,7 +73,7 @@ pub enum Item {
         span: Span,
         why: Unreadable,
     },
-    /// A game whose moves are told, and which is not judged.
+    /// A game whose moves are listed, and which is not judged.
     Replayed(ReplayedGame),
 }
 
@@ -190,7 +190,7 @@ fn lacks_memory(fault: SanFault) -> bool
     }
 }
 
-/// The item of a game whose moves are told: those before its first fault, as far as words name moves. The only error is want of memory.
+/// The item of a game whose moves are listed: those that its words name, up to its first fault. The only error is want of memory.
 #[tactic(auto, unfolding(crate::specs::Items::replay_item))]
 pub fn item_of_replay(alloc: Global, placed: &PlacedGame) -> Result<Item, NoMemory>
     requires { placed.now.game.fault ≡ None → length placed.now.game.words ≤ 12000 }

@@ -16,8 +16,8 @@ pub enum FlaggedDraws {
 /// What is asked about each item of an input.
 #[derive(Clone, Copy, Debug, PartialEq, Eq)]
 pub enum Question {
-    /// Whether each side can still mate, by a search that may spend this on a side; and of a game, from where on neither can, and which
-    /// result it has.
+    /// Whether each side can still mate, by a search within these limits; of a game also its result, and from where on neither side
+    /// can mate.
     Verdicts(Limits, FlaggedDraws),
     /// What the shortest mates are. It is asked about positions alone.
     Mates {

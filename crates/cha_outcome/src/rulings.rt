@@ -150,8 +150,8 @@ fn running_ruling(claim: Claim, white: &Verdict, black: &Verdict) -> Judgment
     }
 }
 
-/// The result of a game: its final position stands so, its text says this of its end, these are the verdicts on the final position, and
-/// `earlier` says that a position before it was dead already, where the game ended at once. The first that fits is the cause:
+/// The result of a game. `state` says how its final position stands, `claim` what its text says of its end, `white` and `black` who can
+/// mate in the final position, and `earlier` whether a position before it was dead, where the game ended. The first row that fits counts:
 ///
 /// | where | result | cause |
 /// |---|---|---|
@@ -218,8 +218,8 @@ pub fn claim_of(draws: FlaggedDraws, game: &PlayedGame) -> Claim
     }
 }
 
-/// Whose flag fell, as far as the result of a game rests on it or could have: of a game that was lost on time the loser's, and of a drawn
-/// one that was examined the flag of the player to move.
+/// Whose flag fell: in a game that was lost on time the loser's; in a drawn game that was examined for a flag that of the player to move.
+/// None in all other games.
 #[tactic(auto, unfolding(crate::specs::Rulings::fallen_flag))]
 pub fn fallen_flag(game: &PlayedGame, cause: Cause) -> Option<Color>
     ensures { result ≡ flag_of game.now cause }

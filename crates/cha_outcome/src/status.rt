@@ -17,7 +17,7 @@ pub enum PositionStatus {
     Dead,
     /// A side can mate.
     Live,
-    /// Of no side it was shown that it can mate, and not of both that they cannot.
+    /// No side was shown able to mate, and at least one was not shown unable to.
     Unclear,
 }
 

@@ -59,7 +59,7 @@ pub enum Order {
     },
     /// `check`: check the certificate whose text the input is.
     CheckCert,
-    /// `gen`: make games and judge them.
+    /// `gen`: generate random games and judge them.
     GenGames {
         /// What a search may spend on a side.
         limits: Limits,
@@ -79,7 +79,7 @@ pub enum Order {
         /// How the report is printed.
         printing: Printing,
     },
-    /// `replay`: tell the moves of each game of the input, which is in PGN.
+    /// `replay`: list the moves of each game of the input, which is in PGN.
     ReplayGames {
         /// How they are printed.
         printing: Printing,

@@ -19,11 +19,11 @@ pub enum Command {
     Position,
     /// To check a certificate.
     Check,
-    /// To make games and judge them.
+    /// To generate random games and judge them.
     Gen,
     /// To list the shortest mates.
     Mates,
-    /// To tell the moves of games.
+    /// To list the moves of games.
     Replay,
 }
 
@@ -43,9 +43,9 @@ pub const COMMANDS: [Command; 7] = [
 pub enum Setting {
     /// `--budget`: how many positions are expanded for a side at most.
     Budget,
-    /// `--workers`: how many workers share a search.
+    /// `--workers`: how many workers judge items side by side, and share a search.
     Workers,
-    /// `--depth`: to how many plies a side is searched in rounds.
+    /// `--depth`: to how many plies the rounds search; for `mates`, within how many a mate is looked for.
     Depth,
     /// `--entries`: how many rows each shard of the table of facts has at most.
     Entries,

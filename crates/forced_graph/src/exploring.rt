@@ -16,13 +16,13 @@ use cha_fact::Facts;
 use cha_list::NoMemory;
 use std::alloc::Global;
 
-/// Explores what legal moves reach from a position that is no mate for the winner and not statically unwinnable for it, the
-/// position first that the guide puts first. At most `budget` positions are expanded. Where a move changed a position for
-/// good, and small material or lone minor pieces never mate there or its closed sets have no mate, it is a leaf, which is never
-/// expanded and costs nothing.
+/// Explores what legal moves reach from a position that is no mate for the winner and not statically unwinnable for it, in the
+/// order of a guide. At most `budget` positions are expanded. A position behind a lasting move (`is_lasting`) is a leaf
+/// where closed sets, small material or lone minor pieces show the side unable to mate; a leaf is never expanded and costs
+/// nothing of the budget.
 ///
 /// A place that keeps facts is asked for each position that is expanded; a mate that it knows ends the exploration. Where
-/// more than 4,294,967,295 positions are met, memory counts as used up.
+/// more than 4,294,967,295 positions are met, the error is want of memory; there is no other.
 pub fn explore_in<F: Facts>(
     alloc: Global,
     position: &Position,

@@ -8,10 +8,10 @@ use crate::answers::RoundAnswer;
 use cha_board::{Color, Position};
 use cha_fact::{Fact, Proved};
 
-/// The longest line of a mate that was found elsewhere and is taken over. Moves in front of it then fit a line.
+/// The most moves of a mate that a round takes over from a place of facts, so that the moves of the round still fit in front of it.
 pub const MOST_FOUND: usize = 32;
 
-/// What a fact of a position and a side answers for a depth by itself.
+/// The answer that a fact gives to a search of this depth, or None where it does not decide.
 pub fn decided(position: &Position, winner: Color, row: &Proved, depth: u8) -> Option<RoundAnswer>
     requires { key_of row.now.position row.now.winner ≡ key_of position.now winner }
     ensures value { result ≡ decided_by depth row.now.fact }

@@ -93,7 +93,7 @@ pub fn least_mates<R: Threads + Sync>(
     least_mates_by(&InThreads::new(rt), alloc, position, winner, depth, workers)
 }
 
-/// The same by one worker, without a thread.
+/// What `least_mates` answers, by one worker without a thread.
 pub fn least_mates_alone(
     alloc: Global,
     position: &Position,

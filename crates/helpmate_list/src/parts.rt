@@ -36,8 +36,8 @@ pub struct RootLines {
     pub lines: Lines,
 }
 
-/// The root moves of the worker with a number among `count` workers: those whose number leaves its own as the rest by `count`.
-/// It keeps positions without a mate for itself.
+/// The lines behind the root moves of one of `count` workers: the moves whose number modulo `count` is the worker's `number`. It
+/// remembers positions without a mate in a shard of its own.
 pub fn part_of(
     alloc: Global,
     task: &Task,

@@ -1,6 +1,6 @@
-//! What lines may have beside what each has.
+//! What lines in JSON have on demand.
 
-/// What the verdicts in a report have beside what each has.
+/// What the verdicts in a report in JSON have on demand.
 #[derive(Clone, Copy, Debug, PartialEq, Eq)]
 pub struct Extras {
     /// Whether the certificate of a side that cannot mate is printed.

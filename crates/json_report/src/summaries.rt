@@ -76,7 +76,7 @@ fn put_plies(
 }
 
 /// Appends the last line of a report on games, as `{"games":2,"unreadable":1,"changed":0,"undecided":0,"closed":true}`. A text is
-/// closed where games behind it are read as if it were not there.
+/// closed where a text that follows it is read as if it stood alone.
 pub fn put_games_line(
     alloc: Global,
     totals: &Totals,

@@ -13,13 +13,13 @@ use cha_moves::{Move, Moves, is_mate, mating_move, replays};
 use search_guide::Guide;
 use std::alloc::Global;
 
-/// Looks for a mate for a side along a guide: the position of the least number that waits is expanded, the last added first,
-/// and of at most `most` positions. A hunt that follows few moves, of more than one position, looks for a mate within two plies
-/// before. A line that is found is cut where two plies mate.
+/// Looks for a mate for a side, led by a guide: of the positions that wait, one of the least number is expanded, and of these the
+/// one added last; at most `most` are expanded. A hunt of the width `Telling` and of more than one position looks for a mate within
+/// two plies before. A line that is found is cut where two plies mate.
 ///
 /// `None` says nothing but that there is no mate within one ply, and only where `most` is at least 1: a mate may be anywhere
-/// else. With 0 for `most`, only a mate on the board is found. What is answered was played once more, so nothing else has to be
-/// believed of the search.
+/// else. With 0 for `most`, only a mate on the board is found. The line that is answered was played move by move, so nothing of the
+/// search has to be believed. The only error is want of memory.
 pub fn hunt(
     alloc: Global,
     position: &Position,

@@ -47,8 +47,8 @@ fn expand(
     Ok(())
 }
 
-/// A line to a mate, if one is met: the position of the least number that waits is expanded, the last added first. The line is cut
-/// where two plies are seen to mate. The first position is not asked for a move that mates: it has none.
+/// A line to a mate, if one is met: of the positions that wait, one of the least number is expanded, of these the one added last. The
+/// line is cut where two plies are seen to mate. The first position is not asked for a move that mates: it has none.
 pub fn search(
     alloc: Global,
     position: &Position,

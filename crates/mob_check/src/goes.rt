@@ -11,7 +11,7 @@ use crate::ranks::{ending, staying};
 use crate::single_steps::spread;
 use cha_board::{Color, Kind, SquareSet};
 
-/// The squares from which fixed men of the other side keep a king; none for other men.
+/// The squares that a king need not step onto, since fixed men of the other side guard them; none for other kinds.
 pub fn barred(ground: &Ground, side: Color, kind: Kind) -> SquareSet
     ensures { (t : ℕ) → t < 64 → has_square result t ≡ is_barred ground.now side kind t }
 {

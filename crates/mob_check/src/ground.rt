@@ -10,7 +10,7 @@ ghost use Rattle.mob_check.specs.Grounds.{is_reached, guards_with, is_target_for
 use crate::single_steps::spread;
 use cha_board::{Color, Kind, Position, SquareSet};
 
-/// What the rules look at of a side.
+/// What the rules ask about one side.
 #[derive(Clone, Copy, Debug, PartialEq, Eq)]
 pub struct SideGround {
     /// The squares on which its men other than the king stand in the position.

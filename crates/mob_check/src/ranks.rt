@@ -25,7 +25,7 @@ pub fn staying(side: Color, kind: Kind, set: SquareSet) -> SquareSet
     set.minus(changing(side, kind))
 }
 
-/// The squares of a set on which it does not.
+/// The squares of a set on which a man that enters them changes its kind: for a pawn those of the last rank.
 pub fn ending(side: Color, kind: Kind, set: SquareSet) -> SquareSet
     ensures { result ≡ set_of (λ t. has_square set t && not (stays side kind t)) }
 {

@@ -22,7 +22,7 @@ pub struct Ring {
     pub men: u8,
 }
 
-/// Whether the loser's men may stand on all of these squares, and are as many.
+/// Whether the loser's own men may fill these squares: they may stand on each of them, and there are at least as many men.
 #[tactic(auto, unfolding(crate::specs::MatesInReach::is_filled))]
 pub fn fills(ring: &Ring, left: SquareSet) -> bool
     ensures { result ≡ is_filled ring.now left }

@@ -74,7 +74,7 @@ impl Reach {
     }
 }
 
-/// Where men are in reach as a kind.
+/// The squares on which men are in reach as a kind.
 pub fn reach_as(reach: &Reach, kind: Kind) -> SquareSet
     ensures { result ≡ squares_as reach.now kind }
 {

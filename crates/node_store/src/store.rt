@@ -127,7 +127,7 @@ impl Store {
         }
     }
 
-    /// Makes room ready for so many more nodes, unless it is, and then it is never refused. On a refusal nothing changes.
+    /// Makes room for `more` further nodes. Where room for so many is there already it is never refused; on a refusal nothing changes.
     pub fn reserve(&mut self, more: u32) -> Result<(), NoMemory>
         ensures nodes { self.new.nodes ≡ self.old.nodes }
         ensures waiting { self.new.waiting ≡ self.old.waiting }

@@ -6,16 +6,16 @@ use pgn_lex::Placed;
 use std::marker::Model;
 use std::snapshot::Snapshot;
 
-/// Tokens, the last of them outermost.
+/// A list of tokens as a chain, the last one outermost. Only contracts see it.
 #[derive(Drop)]
 pub enum TokensTold {
     /// No token.
     Nothing,
-    /// Tokens, and one more.
+    /// Earlier tokens, and one more behind them.
     More(Snapshot<TokensTold>, Snapshot<Placed>),
 }
 
-/// Tokens, in order, which take no memory: only contracts see them.
+/// A list of tokens that only contracts see. It takes no memory.
 #[derive(Drop)]
 pub struct TokenHistory {
     told: Snapshot<TokensTold>,
@@ -32,7 +32,7 @@ impl Model for TokenHistory {
 }
 
 impl TokenHistory {
-    /// No token.
+    /// The empty list.
     pub fn new() -> TokenHistory
         ensures { result ≡ [] }
     {
@@ -41,7 +41,7 @@ impl TokenHistory {
         }
     }
 
-    /// One token more.
+    /// Appends a token.
     pub fn push(&mut self, token: Snapshot<Placed>)
         ensures { self.new ≡ self.old ++ token.value ∷ [] }
     {

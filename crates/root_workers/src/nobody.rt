@@ -17,7 +17,7 @@ pub struct Nobody {
 }
 
 impl Nobody {
-    /// It takes no memory.
+    /// A crew that has nobody. It takes no memory.
     pub fn new(alloc: Global) -> Nobody {
         Nobody {
             work: refused(alloc),

@@ -24,7 +24,7 @@ pub struct OnDemand<'a, R: Threads + Wait + Sync> {
 }
 
 impl<'a, R: Threads + Wait + Sync> OnDemand<'a, R> {
-    /// So many workers, at a table with so many rows for each shard. It takes no memory.
+    /// A crew of `count` workers, 1 to 16, to be hired at a table of `entries` rows for each shard, 1 to 65,536. It takes no memory.
     pub fn new(rt: &'a R, alloc: Global, count: u32, entries: u32) -> OnDemand<'a, R>
         requires some { 1 ≤ count }
         requires few { count ≤ 16 }
@@ -39,7 +39,7 @@ impl<'a, R: Threads + Wait + Sync> OnDemand<'a, R> {
         }
     }
 
-    /// Dismisses who was hired, and closes the table. Its shards are left.
+    /// Dismisses the workers, closes the table and gives its shards; None where nobody was hired.
     pub fn close(self) -> Option<[Shard; 8]>
         requires { IsStaff self.staff }
         ensures { StaffEnds self.entry.staff.hired result }

@@ -38,7 +38,7 @@ pub struct Worker {
 }
 
 impl RootMate {
-    /// The same once more.
+    /// A copy of it.
     pub fn copy(&self) -> RootMate
         ensures { result ≡ self.now }
     {

@@ -44,7 +44,7 @@ pub trait Crew: Facts {
         ensures left { leaves self.now number result.now }
         ensures only { (work : Work) → leaves self.now number work → work ≡ result.now };
 
-    /// Each worker searches its root moves: those whose number leaves its own as the rest by the count of workers.
+    /// Has each worker search its root moves: those whose number is the worker's own, modulo the count of workers.
     fn share_out(&mut self, alloc: Global, task: &Task, moves: &[Move])
         requires ready { Self.ready self.old }
         requires listed { moves.now ≡ legal_moves task.now.position }

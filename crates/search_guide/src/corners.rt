@@ -22,7 +22,7 @@ const NO_BLOCKER: u32 = 24;
 /// What a pawn counts that has to be promoted first, beside its ranks to promotion.
 const TO_PROMOTE: u32 = 2;
 
-/// The most that a position counts.
+/// The greatest number of this guide.
 pub const FARTHEST: u32 = 62;
 
 /// The number of the last file and of the last rank.

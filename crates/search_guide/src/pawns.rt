@@ -16,7 +16,7 @@ const MAN_IN_FRONT: u32 = 4;
 /// What each king's step to the first pawn of the loser in front counts.
 const STEP_TO_PAWN: u32 = 4;
 
-/// The most that a way counts.
+/// The most that the way of a pawn counts, and what counts where there is no pawn.
 pub const LONGEST_WAY: u32 = 40;
 
 /// How many ranks the most advanced pawn of a set is from the last rank of its side. `None` where there is none.
@@ -91,7 +91,7 @@ fn way(own: &Army, other: &Army, occupied: SquareSet, pawn: Square) -> u32
     RANK * ranks + MAN_IN_FRONT * men + blocked(own, other, pawn, squares)
 }
 
-/// The least that the way of a pawn counts.
+/// What the way of a side's pawns to promotion counts: the least over its pawns, at most `LONGEST_WAY`.
 pub fn least_way(own: &Army, other: &Army, occupied: SquareSet) -> u32
     ensures { result ≤ LONGEST_WAY }
 {

@@ -12,8 +12,8 @@ use std::alloc::Global;
 use std::marker::Model;
 use std::num::NonZeroUsize;
 
-/// What is known of positions and sides, each under its own key, the most recently used first. There is a most that it has;
-/// past that, what was used longest ago goes.
+/// A bounded list of facts, each under its own key, the most recently used first. Where it is full and a new key comes, the fact
+/// that was used longest ago is evicted.
 ///
 /// Contracts see the list, and how many rows it may have. Room for all of them is made with the shard, so that each row that
 /// is given is kept. They lie in a cache that takes memory as it fills; where it is refused some, they move into that room,

@@ -16,7 +16,8 @@ use cha_board::Color;
 use cha_fact::{FactCall, FactReply, Key, Probe, Proved, Stored};
 use std::sync::Wait;
 
-/// The number of a key's shard, 0 to 7: the sum of the remainders of its five words by 1,021, and one more for Black, by 8.
+/// The number of a key's shard, from 0 to 7: its five words modulo 1,021 are added up, with 1 more for Black, and the sum is taken
+/// modulo 8.
 pub fn shard_of(key: &Key) -> u8
     ensures number { result ≡ shard_number key.now }
     ensures few { result < 8 }

@@ -5,16 +5,16 @@ ghost use Rattle.std.specs.Prelude.{◌≡◌, ◌++◌, take, []};
 use std::marker::Model;
 use std::snapshot::Snapshot;
 
-/// Bytes, those of the last piece outermost.
+/// A list of bytes as a chain of pieces, the last one outermost. Only contracts see it.
 #[derive(Drop)]
 pub enum Told {
     /// No byte.
     Nothing,
-    /// Bytes, and so many more, with which a piece begins.
+    /// Earlier bytes, and behind them so many from the front of a piece.
     More(Snapshot<Told>, Snapshot<Vec<u8>>, usize),
 }
 
-/// Bytes, in order, which take no memory: only contracts see them.
+/// A list of bytes that only contracts see. It takes no memory.
 #[derive(Drop)]
 pub struct History {
     told: Snapshot<Told>,
@@ -30,7 +30,7 @@ impl Model for History {
 }
 
 impl History {
-    /// No byte.
+    /// The empty list.
     pub fn new() -> History
         ensures { result ≡ [] }
     {
@@ -39,7 +39,7 @@ impl History {
         }
     }
 
-    /// So many bytes more, with which a piece begins.
+    /// Appends the first `size` bytes of a piece.
     pub fn push(&mut self, piece: &Vec<u8>, size: usize)
         ensures { self.new ≡ self.old ++ take size piece.now.items }
     {

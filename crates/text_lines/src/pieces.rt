@@ -43,7 +43,7 @@ pub struct OpenText {
     pub piece: Vec<u8>,
     /// How many of them belong to lines that ended.
     pub used: usize,
-    /// Up to where no line feed stands behind those.
+    /// The place in `piece` up to which no line feed stands behind those bytes.
     pub scanned: usize,
     /// How many bytes were taken of the source.
     pub taken: usize,

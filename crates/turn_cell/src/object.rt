@@ -31,7 +31,7 @@ pub struct Entry<C, R> {
     pub reply: R,
 }
 
-/// A pass that was taken back: its number, and the entries of its calls. Contracts list such; no value of it is made.
+/// A pass that was taken back: its number, and the entries of its calls. Contracts list them; no value of it is made.
 pub struct TakenBack<C, R> {
     /// The number of the pass.
     pub number: u64,

@@ -98,8 +98,8 @@ impl<V: Object> TurnCell<V> {
         pass.joins += 1;
     }
 
-    /// The value, after all calls that the first pass knows. While other passes are out all comes back as it was, with the
-    /// number of passes.
+    /// Closes the cell, and gives the value after all calls that the first pass knows. While other passes are out, cell and pass
+    /// come back as they were, with the number of passes.
     pub fn close(self, pass: Pass<V>) -> Result<V, Still<V>>
         requires of { IsOf self pass }
         requires first { IsFirst pass }

@@ -1,13 +1,13 @@
 //! The check of all nodes.
 
-ghost use Rattle.std.specs.Prelude.{◌≡◌, ◌<◌, ◌≤◌, ◌^◌, ◌↔◌, length, IfOk};
+ghost use Rattle.std.specs.Prelude.{◌≡◌, ◌+◌, ◌-◌, ◌<◌, ◌≤◌, ◌^◌, ◌↔◌, length, IfOk};
 ghost use Rattle.std.specs.List.{AllZip, range_with_len};
 ghost use Rattle.cha_moves.specs.Ends.{IsUnwinnable};
 ghost use Rattle.cha_cert.specs.declared.checking.Checked.TheVariants.{Accepted};
 ghost use Rattle.cha_cert.specs.Certificates.{IsValidCert, Answers, NodeHolds, FirstFailing};
 ghost use Rattle.cha_cert.specs.Indexed.{IsIndexOf};
 ghost use Rattle.cha_cert.specs.Shared.{expansion};
-ghost use Rattle.cert_par.specs.Failing.{TellsFailing, Found};
+ghost use Rattle.cert_par.specs.Failing.{TellsFailing, Found, HoldBefore, FirstBefore};
 
 use crate::nodes::node_fails;
 use cha_board::{Color, Position, same_position};
@@ -17,11 +17,17 @@ use rayon::prelude::*;
 use std::alloc::Global;
 use std::thread::Threads;
 
-/// Below so many nodes one thread checks them all.
-const WORTH_A_THREAD: usize = 256;
+/// Below so many nodes one thread checks them all: `rayon` deals out no piece of fewer than 1,024 items, and so makes no thread for
+/// fewer than twice as many.
+const WORTH_A_THREAD: usize = 2048;
+
+/// So many nodes are checked before it is asked whether one of them fails. Behind a run of them that has such a node none is
+/// checked.
+const RUN: usize = 8192;
 
 /// Checks that a shared certificate shows that no series of legal moves from a position mates for a side. It answers what
-/// `check_shared` answers, whichever thread ends first; a few nodes are checked by one thread.
+/// `check_shared` answers, whichever thread ends first. Fewer than 2,048 nodes are checked by one thread; of more some thousand are
+/// checked at a time, by threads, and the check ends behind the first of these that fails.
 pub fn check_par<R: Threads + Sync>(
     rt: &R,
     alloc: Global,
@@ -61,26 +67,63 @@ fn check_apart<R: Threads + Sync>(
         return Ok(Checked::Fails(0));
     }
     let index = Index::of_shared(alloc, cert)?;
-    let found = found_of_each(rt, alloc, cert, &index, winner)?;
-    match first_failing(&found, cert, winner)? {
+    match first_failing(rt, alloc, cert, &index, winner)? {
         None => Ok(Checked::Accepted),
         Some(number) => Ok(Checked::Fails(number)),
     }
 }
 
-/// What is found of each node, in order of the nodes.
-fn found_of_each<R: Threads + Sync>(
+/// The number of the first node that fails. The nodes are checked in runs, one run after the other, up to the first that has such a
+/// node.
+fn first_failing<R: Threads + Sync>(
     rt: &R,
     alloc: Global,
     cert: &SharedCert,
     index: &Index,
     winner: Color,
-) -> Result<Vec<Result<bool, NoMemory>>, NoMemory>
+) -> Result<Option<u32>, NoMemory>
     requires few { length cert.now.nodes < 2 ^ 32 }
     requires index { IsIndexOf (expansion cert.now) index.now }
-    ensures { IfOk result (λ found. AllZip (Found winner (expansion cert.now)) (range_with_len 0 (length cert.now.nodes)) found.items) }
+    ensures { IfOk result (λ failing. FirstFailing (NodeHolds winner (expansion cert.now)) (expansion cert.now) failing) }
 {
-    let found = (0..cert.nodes().len())
+    let count = cert.nodes().len();
+    let mut from = 0;
+    while from < count {
+        let to = end_of_run(from, count);
+        let found = found_of_run(rt, alloc, cert, index, winner, from, to)?;
+        if let Some(number) = first_of_run(&found, cert, winner, from, to)? {
+            return Ok(Some(number));
+        }
+        from = to;
+    }
+    Ok(None)
+}
+
+/// Where a run ends that begins at a node.
+fn end_of_run(from: usize, count: usize) -> usize
+    requires { from < count }
+    ensures some { from < result }
+    ensures inside { result ≤ count }
+{
+    from + RUN.min(count - from)
+}
+
+/// What is found of each node of a run, in order of the nodes.
+fn found_of_run<R: Threads + Sync>(
+    rt: &R,
+    alloc: Global,
+    cert: &SharedCert,
+    index: &Index,
+    winner: Color,
+    from: usize,
+    to: usize,
+) -> Result<Vec<Result<bool, NoMemory>>, NoMemory>
+    requires inside { to ≤ length cert.now.nodes }
+    requires few { length cert.now.nodes < 2 ^ 32 }
+    requires index { IsIndexOf (expansion cert.now) index.now }
+    ensures { IfOk result (λ found. AllZip (Found winner (expansion cert.now)) (range_with_len from (to - from)) found.items) }
+{
+    let found = (from..to)
         .into_par_iter()
         .map(
             |at: usize| -> Result<bool, NoMemory>
@@ -92,22 +135,27 @@ fn found_of_each<R: Threads + Sync>(
     Ok(found)
 }
 
-/// The number of the first node that fails, as each was found.
-fn first_failing(
+/// The number of the first node of a run that fails, as each was found, where each node before the run holds.
+fn first_of_run(
     found: &[Result<bool, NoMemory>],
     cert: &SharedCert,
     winner: Color,
+    from: usize,
+    to: usize,
 ) -> Result<Option<u32>, NoMemory>
+    requires some { from ≤ to }
+    requires inside { to ≤ length cert.now.nodes }
     requires few { length cert.now.nodes < 2 ^ 32 }
-    requires found { AllZip (Found winner (expansion cert.now)) (range_with_len 0 (length cert.now.nodes)) found.now }
-    ensures { IfOk result (λ failing. FirstFailing (NodeHolds winner (expansion cert.now)) (expansion cert.now) failing) }
+    requires found { AllZip (Found winner (expansion cert.now)) (range_with_len from (to - from)) found.now }
+    requires before { HoldBefore winner (expansion cert.now) from }
+    ensures { IfOk result (λ failing. FirstBefore winner (expansion cert.now) to failing) }
 {
     for number in 0..found.len() {
         match found[number] {
             Err(refused) => return Err(refused),
             Ok(fails) => {
                 if fails {
-                    return Ok(Some(number as u32));
+                    return Ok(Some((from + number) as u32));
                 }
             }
         }

@@ -44,12 +44,12 @@ fn king_sets(alloc: Global) -> Result<Sets, NoMemory> {
     Ok(sets)
 }
 
-/// 4,096 leaves of a position, of which two name the second, empty sets.
+/// 10,000 leaves of a position, of which two name the second, empty sets. They are more than one run.
 fn leaves(alloc: Global, position: Position, empty: [u32; 2]) -> Result<SharedCert, NoMemory> {
     let mut cert = SharedCert::new(alloc);
     cert.add_sets(king_sets(alloc)?)?;
     cert.add_sets(Sets::new(alloc))?;
-    for number in 0..4096 {
+    for number in 0..10_000 {
         let is_empty = number == empty[0] || number == empty[1];
         add(&mut cert, position, u32::from(is_empty))?;
     }
@@ -91,7 +91,7 @@ fn answer_on_inner_nodes<R: Threads + Sync>(
     Ok(check_par(rt, alloc, &start, Color::White, &cert)?)
 }
 
-/// What they answer of 4,096 leaves of which these are empty.
+/// What they answer of 10,000 leaves of which these are empty.
 fn answer_on_leaves<R: Threads + Sync>(
     rt: &R,
     alloc: Global,
@@ -99,22 +99,24 @@ fn answer_on_leaves<R: Threads + Sync>(
     empty: [u32; 2],
 ) -> Result<Checked, Fail> {
     let cert = leaves(alloc, *kings, empty)?;
-    if cert.nodes().len() != 4096 {
-        Err("not 4,096 nodes")?;
+    if cert.nodes().len() != 10_000 {
+        Err("not 10,000 nodes")?;
     }
     Ok(check_par(rt, alloc, kings, Color::White, &cert)?)
 }
 
 /// Which leaves are empty, and what is answered.
-const LEAVES: [([u32; 2], Checked); 3] = [
+const LEAVES: [([u32; 2], Checked); 5] = [
     ([17, 3000], Checked::Fails(17)),
-    ([4095, 4095], Checked::Fails(4095)),
-    ([9999, 9999], Checked::Accepted),
+    ([8191, 9000], Checked::Fails(8191)),
+    ([8192, 8193], Checked::Fails(8192)),
+    ([9999, 9999], Checked::Fails(9999)),
+    ([10_000, 10_000], Checked::Accepted),
 ];
 
 #[test]
 fn the_first_node_that_fails_is_named(rt: HostRuntime) -> Result<(), Fail> {
-    for count in [0, 4, 255, 256, 4096] {
+    for count in [0, 4, 2047, 2048, 4096] {
         let answer = answer_on_inner_nodes(&rt, rt.alloc(), count)?;
         assert_eq!(rt; answer, Checked::Fails(0), "{count}");
     }

@@ -1,39 +1,30 @@
--- The first node that fails, as each was found.
-use Rattle.std.proofs.Common.{length, sym, arith}
+-- The runs, one after the other.
+use Rattle.std.proofs.Common.{length, ap, subst, arith}
 use Rattle.cha_cert.specs.Shared.{expansion}
 use Rattle.cha_cert.proofs.Expanded.{length-expansion}
-use Rattle.cert_par.proofs.Together.{found_long, more_hold, one_found}
+use Rattle.cert_par.specs.Failing.{FirstBefore}
 use Rattle.cert_par.proofs.checking.first_failing.Goals as goal
 
-pub loop-number-init : goal.loop-number-init
-loop-number-init c = λ j d less. absurd (omega (arith, less))
+pub loop-from-init : goal.loop-from-init
+loop-from-init g c = record {
+  size = ap length c.nodes-count.ensures.value;
+  inside = omega arith;
+  before = λ j d less. absurd (omega (arith, less));
+}
 
-pub overflow_cast-result : goal.overflow_cast-result
-overflow_cast-result c =
-    let long = found_long c.args.winner (expansion c.args.cert.now) (length c.args.cert.now.nodes) c.args.found.now c.requires.found in
-    let few = c.requires.few in
-    let inside = c.loop-number-test.true in
-    omega (arith, long, few, inside)
+pub returns-in-Some : goal.returns-in-Some
+returns-in-Some g c = subst (FirstBefore c.args.winner (expansion c.args.cert.now) c.end_of_run-to.result) c.in-Some.is c.in_ok-number.ensures
 
-pub returns-then-fails : goal.returns-then-fails
-returns-then-fails c =
-    let n = length c.args.cert.now.nodes in
-    let nodes = expansion c.args.cert.now in
-    let long = found_long c.args.winner nodes n c.args.found.now c.requires.found in
-    let inside = c.loop-number-test.true in
-    one_found c.args.winner nodes n c.args.found.now c.requires.found c.loop-number.number _ c.in-Ok.fails (omega (arith, long, inside)) (sym (length-expansion c.args.cert.now)) c.in-Ok.is c.if-fails.true c.loop-number.invariant
-
-pub loop-number-preserved : goal.loop-number-preserved
-loop-number-preserved c =
-    let n = length c.args.cert.now.nodes in
-    let nodes = expansion c.args.cert.now in
-    let long = found_long c.args.winner nodes n c.args.found.now c.requires.found in
-    let inside = c.loop-number-test.true in
-    more_hold c.args.winner nodes n c.args.found.now c.requires.found c.loop-number.number _ c.in-Ok.fails (omega (arith, long, inside)) c.in-Ok.is c.if-fails.false c.loop-number.invariant
+pub loop-from-preserved : goal.loop-from-preserved
+loop-from-preserved g c = record {
+  size = c.loop-from.invariant.size;
+  inside = c.end_of_run-to.ensures.inside;
+  before = subst (FirstBefore c.args.winner (expansion c.args.cert.now) c.end_of_run-to.result) c.in_default.is c.in_ok-number.ensures;
+}
 
 pub returns : goal.returns
-returns c = λ k d inside.
-    let long = found_long c.args.winner (expansion c.args.cert.now) (length c.args.cert.now.nodes) c.args.found.now c.requires.found in
-    let size = length-expansion c.args.cert.now in
-    let all = c.loop-number-test.false in
-    c.loop-number.invariant k d (omega (arith, inside, long, size, all))
+returns g c = λ j d inside. (
+    let size = c.loop-from.invariant.size in
+    let all = c.loop-from-test.false in
+    let long = length-expansion c.args.cert.now in
+    c.loop-from.invariant.before j d (omega (arith, inside, size, all, long)))

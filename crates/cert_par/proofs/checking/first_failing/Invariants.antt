@@ -1,9 +1,15 @@
-use Rattle.std.proofs.Common.{ℕ, ◌<◌, get_or}
-use Rattle.cha_cert.specs.declared.nodes.Node.{Node}
-use Rattle.cha_cert.specs.Certificates.{NodeHolds}
+use Rattle.std.proofs.Common.{◌≡◌, ◌-◌, ◌≤◌, length}
 use Rattle.cha_cert.specs.Shared.{expansion}
+use Rattle.cert_par.specs.Failing.{HoldBefore}
 use Rattle.cert_par.proofs.checking.first_failing.Given as goal
 
--- the nodes so far hold
-abbrev pub invariant-loop-number : goal.invariant-loop-number
-invariant-loop-number l = (j : ℕ) (d : Node) → j < l.number → NodeHolds l.fn.winner (expansion l.cert) (get_or (expansion l.cert) j d)
+-- the nodes before the next run hold
+abbrev pub invariant-loop-from : goal.invariant-loop-from
+invariant-loop-from g l = record {
+  size : l.count ≡ length l.cert.nodes;
+  inside : l.from ≤ l.count;
+  before : HoldBefore l.winner (expansion l.cert) l.from;
+}
+
+abbrev pub decreases-loop-from : goal.decreases-loop-from
+decreases-loop-from g l = l.count - l.from

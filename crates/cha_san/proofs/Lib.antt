@@ -7,6 +7,7 @@ pub mod Seeing
 pub mod Resolved
 pub mod Replayed
 pub mod Played
+pub mod PlayedGames
 pub mod NamedMoves
 pub mod Naming
 pub mod Spelling

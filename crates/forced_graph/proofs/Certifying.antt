@@ -1,5 +1,5 @@
 -- The certificate of a region in which nothing waits.
-use Rattle.std.proofs.Common.{◌≡◌, ℕ, zero, suc, ◌+◌, inl, inr, List, [], ◌∷◌, ◌++◌, length, drop, Some, Result, Ok, Err, slice_get, refl, sym, ap, subst, ◌∙◌, arith}
+use Rattle.std.proofs.Common.{◌≡◌, ℕ, zero, suc, ◌+◌, inl, inr, ◌≤◌, List, [], ◌∷◌, ◌++◌, length, drop, Some, Result, Ok, Err, slice_get, refl, sym, ap, subst, ◌∙◌, arith}
 use Rattle.std.specs.List.{All, Contains}
 use Rattle.std.specs.Result.{IfOk}
 use Rattle.cha_list.specs.declared.memory.NoMemory.{NoMemory}
@@ -15,7 +15,8 @@ use Rattle.cha_cert.specs.Certificates.{positions_of, PartHolds, NodeHolds, Begi
 use Rattle.node_store.specs.Nodes.{Node, positions}
 use Rattle.node_store.specs.Graphs.{IsStore}
 use Rattle.forced_graph.specs.Regions.{Waits, IsLeaf, IsSettled, AreLed, AreExpanded, Between, certified}
-use Rattle.forced_graph.specs.Outcomes.{IsCertSize}
+use Rattle.forced_graph.specs.declared.explored.Explored.TheVariants.{Closed}
+use Rattle.forced_graph.specs.Outcomes.{IsCertSize, HasExpandedInner, IsOutcome}
 use Rattle.forced_graph.proofs.ByName.{length_positions}
 
 -- the nodes have these positions
@@ -113,3 +114,58 @@ closed_ok (Err e) root w count nodes waiting parts store was none is = tt
 pub size_ok : (o : Result (List CertNode) NoMemory) (root : Board) (w : Color) (count : ℕ) (nodes : List Node) (waiting : List (List ℕ)) (parts : List Part) → IsStore nodes waiting → Between root w count nodes waiting parts → IfOk o (λ cert. cert ≡ certified (positions nodes) parts) → IfOk o (λ cert. IsCertSize (length cert))
 size_ok (Ok cert) root w count nodes waiting parts store was is = cert_size nodes waiting parts cert store was.map.size is
 size_ok (Err e) root w count nodes waiting parts store was is = tt
+
+-- an inner node is no leaf
+not_inner : (w : Color) (q : Board) (part : Part) → IsLeaf w q part → part ≡ Inner → ⊥
+unfolding IsLeaf
+not_inner w q Inner leaf is = leaf
+not_inner w q (Leaf sets) leaf is = cc
+not_inner w q Small leaf is = cc
+not_inner w q Lone leaf is = cc
+
+-- so each of them was expanded
+inner_expanded : (root : Board) (w : Color) (count : ℕ) (nodes : List Node) (waiting : List (List ℕ)) (parts : List Part) (was : Between root w count nodes waiting parts) → ((name : ℕ) → Waits waiting name → ⊥)
+    → (i : ℕ) (q : Board) (part : Part) → slice_get (positions nodes) i ≡ Some q → slice_get parts i ≡ Some part → part ≡ Inner → Contains was.members q
+unfolding IsSettled
+inner_expanded root w count nodes waiting parts was none i q part at has inner = elim (was.settled i q part at has) [
+  | inl waits ↦ absurd (none i waits)
+  | inr rest ↦ elim rest [
+    | inl member ↦ member.0
+    | inr leaf ↦ absurd (not_inner w q part leaf inner)
+  ]
+]
+
+expanded : (root : Board) (w : Color) (count : ℕ) (nodes : List Node) (waiting : List (List ℕ)) (parts : List Part) (cert : List CertNode) → Between root w count nodes waiting parts → ((name : ℕ) → Waits waiting name → ⊥) → cert ≡ certified (positions nodes) parts → HasExpandedInner root w count cert
+expanded root w count nodes waiting parts cert was none is =
+    let size : length parts ≡ length (positions nodes) = was.map.size ∙ sym (length_positions nodes) in
+    let P : CertNode → Type 0 = λ node. node.part ≡ Inner → Contains was.members node.position in
+    let each : (i : ℕ) (q : Board) (part : Part) → slice_get (positions nodes) i ≡ Some q → slice_get parts i ≡ Some part → P (record { position = q; part = part }) = inner_expanded root w count nodes waiting parts was none in
+    let whole : HasExpandedInner root w count (certified (positions nodes) parts) = record {
+      members = was.members;
+      few = (let long = was.size in omega arith);
+      distinct = was.grown.distinct;
+      first = was.grown.first;
+      later = was.grown.later;
+      inner = all_hold P (positions nodes) parts size each;
+    } in
+    subst (HasExpandedInner root w count) (sym is) whole
+
+pub expanded_ok : (o : Result (List CertNode) NoMemory) (root : Board) (w : Color) (count : ℕ) (nodes : List Node) (waiting : List (List ℕ)) (parts : List Part) → Between root w count nodes waiting parts → ((name : ℕ) → Waits waiting name → ⊥) → IfOk o (λ cert. cert ≡ certified (positions nodes) parts) → IfOk o (HasExpandedInner root w count)
+expanded_ok (Ok cert) root w count nodes waiting parts was none is = expanded root w count nodes waiting parts cert was none is
+expanded_ok (Err e) root w count nodes waiting parts was none is = tt
+
+more_allowed : (q : Board) (w : Color) (count budget : ℕ) (cert : List CertNode) → count ≤ budget → HasExpandedInner q w count cert → HasExpandedInner q w budget cert
+more_allowed q w count budget cert most was = record {
+  members = was.members;
+  few = (let few = was.few in omega arith);
+  distinct = was.distinct;
+  first = was.first;
+  later = was.later;
+  inner = was.inner;
+}
+
+-- and so of the position and the side that were asked for
+pub closed_asked : (root q : Board) (v w : Color) (count budget : ℕ) (cert : List CertNode) → IsValidCert root v cert → IsCertSize (length cert) → HasExpandedInner root v count cert → root ≡ q → v ≡ w → count ≤ budget → IsOutcome q w budget (Closed cert)
+closed_asked root q v w count budget cert valid size expanded is same most =
+    subst (λ (c : Color). IsOutcome q c budget (Closed cert)) same
+    (subst (λ (b : Board). IsOutcome b v budget (Closed cert)) is (valid, size, more_allowed root v count budget cert most expanded))

@@ -1,5 +1,7 @@
 -- What an exploration answers (this project).
-use Rattle.std.specs.Prelude.{◌≡◌, ℕ, suc, ◌≤◌, ⊤, ◌⊎◌, IsTrue, List, Some, length, slice_get}
+use Rattle.std.specs.Prelude.{◌≡◌, ℕ, suc, ◌≤◌, ⊤, ◌⊎◌, IsTrue, List, Some, length, slice_get, Contains}
+use Rattle.std.specs.List.{All}
+use Rattle.cha_list.specs.Distinct.{AreDistinct}
 use Rattle.cha_board.specs.declared.men.Color.{Color}
 use Rattle.cha_board.specs.Board.{Board}
 use Rattle.cha_moves.specs.Moves.{is_zeroing}
@@ -9,6 +11,8 @@ use Rattle.mob_law.specs.Static.{IsStaticallyUnwinnable}
 use Rattle.mob_law.specs.Explored.{ComesFrom, IsExplored}
 use Rattle.mob_small.specs.Small.{IsSmallUnwinnable}
 use Rattle.mob_small.specs.Lone.{IsLoneUnwinnable}
+use Rattle.cha_cert.specs.declared.nodes.Node.{Node}
+use Rattle.cha_cert.specs.declared.nodes.Part.TheVariants.{Inner}
 use Rattle.cha_cert.specs.Certificates.{IsValidCert}
 use Rattle.forced_graph.specs.declared.explored.Explored.{Explored}
 use Rattle.forced_graph.specs.declared.explored.Explored.TheVariants.{Mate, Closed, Spent}
@@ -36,10 +40,20 @@ AreUnshown w members = (i : ℕ) (q : Board) → slice_get members (suc i) ≡ S
 abbrev pub HasExpanded : Board → Color → ℕ → Type 0
 HasExpanded q w count = (e : IsExplored q w count) × AreUnshown w e.members
 
--- the moves mate; or the certificate is valid; or exactly as many positions were expanded as were allowed
+-- The inner nodes of a certificate are positions that were expanded, at most so many. These are distinct, the first is the one that was
+-- asked for, and none of the others is one that is never to be expanded.
+pub record HasExpandedInner (q : Board) (w : Color) (most : ℕ) (cert : List Node) : Type 0 where
+  pub members : List Board
+  pub few : length members ≤ most
+  pub distinct : AreDistinct members
+  pub first : (r : Board) → slice_get members 0 ≡ Some r → r ≡ q
+  pub later : AreUnshown w members
+  pub inner : All (λ node. node.part ≡ Inner → Contains members node.position) cert
+
+-- the moves mate; or the certificate is valid, and its inner nodes were expanded; or exactly as many positions were expanded as were allowed
 abbrev pub IsOutcome : Board → Color → ℕ → Explored → Type 0
 IsOutcome q winner budget (Mate moves) = IsMatingLine q winner moves
-IsOutcome q winner budget (Closed cert) = IsValidCert q winner cert × IsCertSize (length cert)
+IsOutcome q winner budget (Closed cert) = IsValidCert q winner cert × IsCertSize (length cert) × HasExpandedInner q winner budget cert
 IsOutcome q winner budget (Spent count) = (count ≡ budget) × HasExpanded q winner count
 
 -- where the budget is spent, as many distinct positions can be reached by legal moves: where fewer can, it never is

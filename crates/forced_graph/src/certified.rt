@@ -3,7 +3,7 @@
 ghost use Rattle.std.specs.Prelude.{◌≡◌, length, IfOk};
 ghost use Rattle.cha_cert.specs.Certificates.{IsValidCert};
 ghost use Rattle.node_store.specs.Nodes.{positions};
-ghost use Rattle.forced_graph.specs.Outcomes.{IsCertSize};
+ghost use Rattle.forced_graph.specs.Outcomes.{IsCertSize, HasExpandedInner};
 ghost use Rattle.forced_graph.specs.Regions.{IsDone, certified};
 
 use crate::region::Region;
@@ -18,6 +18,7 @@ impl Region {
         requires { IsDone self }
         ensures valid { IfOk result (IsValidCert self.root self.winner) }
         ensures size { IfOk result (λ cert. IsCertSize (length cert)) }
+        ensures expanded { IfOk result (HasExpandedInner self.root self.winner self.count) }
     {
         let Region { store, parts, .. } = self;
         store.known();

@@ -5,6 +5,7 @@ use Rattle.node_store.proofs.Pushing.{map_within}
 use Rattle.forced_graph.specs.Regions.{IsBetween, IsExpanding}
 use Rattle.forced_graph.proofs.Calling.{more_made, one_called, spent_is}
 use Rattle.forced_graph.proofs.Members.{explored_asked}
+use Rattle.forced_graph.proofs.Certifying.{closed_asked}
 use Rattle.cha_list.proofs.WhenTold.{when_some, when_none}
 use Rattle.forced_graph.proofs.exploring.explore_in.Goals as goal
 
@@ -76,3 +77,12 @@ returns-then-region-budget-clause-asks g c = λ n is. (
     let full = c.if-region-budget.true in
     let one : c.args.budget ≡ n = spent_is c.args.budget n is in
     (a.0, a.1, (let were = a.2 in omega arith)))
+
+pub returns-clause-holds : goal.returns-clause-holds
+returns-clause-holds g c =
+    let s = c.next.new.self in
+    let before = c.loop-region.invariant in
+    let few = before.few in
+    let same = c.next.ensures.same.2 in
+    closed_asked s.root c.args.position.now s.winner c.args.winner s.count c.args.budget c.in_ok-into_cert.field-0 c.in_ok-into_cert.ensures.valid c.in_ok-into_cert.ensures.size c.in_ok-into_cert.ensures.expanded
+    (c.next.ensures.same.0 ∙ before.task.0) (c.next.ensures.same.1 ∙ before.task.1) (omega arith)

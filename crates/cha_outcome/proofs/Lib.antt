@@ -1,4 +1,6 @@
 pub mod Asked
 pub mod Examples
 pub mod NamedLegal
+pub mod PlayedThrough
 pub mod ResultsStay
+pub mod ShownDead

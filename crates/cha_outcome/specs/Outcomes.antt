@@ -1,19 +1,19 @@
 -- What is found about an item (this project).
-use Rattle.std.specs.Prelude.{◌≡◌, ℕ, ◌<◌, ◌≤◌, Bool, true, false, ◌||◌, if◌then◌else◌, List, [], ◌∷◌, length, Option, Some, None, is_some, ⊤}
+use Rattle.std.specs.Prelude.{◌≡◌, ℕ, Bool, true, false, ◌||◌, if◌then◌else◌, List, [], ◌∷◌, Option, Some, None, is_some, IfSome, ⊤}
 use Rattle.cha_board.specs.declared.men.Color.{Color}
 use Rattle.cha_board.specs.declared.men.Color.TheVariants.{White}
+use Rattle.cha_board.specs.Board.{Board, IsValid}
 use Rattle.cha_moves.specs.Standings.{standing_of}
 use Rattle.pgn_games.specs.declared.marks.ResultMark.{ResultMark}
 use Rattle.cha_limits.specs.Bounds.{Bounds}
 use Rattle.cha_verdict.specs.declared.decisions.Decision.{Decision}
 use Rattle.cha_verdict.specs.declared.scans.Scan.{Scan}
 use Rattle.cha_verdict.specs.Verdicts.{is_undecided, IsPrintable}
-use Rattle.cha_verdict.specs.Sound.{IsSound}
-use Rattle.cha_verdict.specs.Scans.{HasScan, IsPrintableScan}
+use Rattle.cha_verdict.specs.Sound.{IsSound, IsComplete, verdict_on}
+use Rattle.cha_verdict.specs.Scans.{HasScan, ShowsDead, IsPrintableScan}
 use Rattle.helpmate_list.specs.declared.answers.Shortest.{Shortest}
 use Rattle.helpmate_list.specs.declared.answers.Shortest.TheVariants.{NoneWithin, Found}
 use Rattle.helpmate_list.specs.Shortest.{shortest}
-use Rattle.cha_outcome.specs.declared.items.PlayedGame.{PlayedGame}
 use Rattle.cha_outcome.specs.declared.items.Item.{Item}
 use Rattle.cha_outcome.specs.declared.items.Item.TheVariants.{Position, RefusedLine as Refused, Played, UnreadableGame as Unread, Replayed as Told}
 use Rattle.cha_outcome.specs.declared.questions.FlaggedDraws.{FlaggedDraws}
@@ -22,6 +22,7 @@ use Rattle.cha_outcome.specs.declared.questions.Question.TheVariants.{Verdicts, 
 use Rattle.cha_outcome.specs.declared.outcomes.Outcome.{Outcome}
 use Rattle.cha_outcome.specs.declared.outcomes.Outcome.TheVariants.{JudgedPosition, JudgedGame, ListedMates, RefusedLine, UnreadableGame, Replayed}
 use Rattle.cha_outcome.specs.LegalMoves.{AreLegalFrom}
+use Rattle.cha_outcome.specs.PlayedOut.{IsPlayedOut}
 use Rattle.cha_outcome.specs.PositionStatuses.{status_of, is_dead}
 use Rattle.cha_outcome.specs.Rulings.{first_of, is_changed, judgment_of}
 
@@ -34,13 +35,21 @@ item_of (RefusedLine number fault) = Refused number fault
 item_of (UnreadableGame span why) = Unread span why
 item_of (Replayed game) = Told game
 
--- the verdicts are true of the position, and a game whose final position they show dead has a sound scan, and no other has one; the
--- status and the result are by these. A line that is refused and a game that cannot be read have no verdicts.
+-- Verdicts on a valid position are true of it, with this side examined first, and miss nothing that they have to find.
+pub record IsDecided (q : Board) (first : Color) (limits : Bounds) (d : Decision) : Type 0 where
+  pub valid : IsValid q
+  pub sound : IsSound q first limits d
+  pub complete : (winner : Color) → IsComplete q winner limits (verdict_on d winner)
+
+-- The verdicts are true of the position and miss nothing, and the status and the result are by them. A game was played to its final
+-- position. Where that is shown dead the game has a sound scan, and each position from its ply on is dead and, unless its edge is unclear,
+-- none before it; no other game has one. A line that is refused and a game that cannot be read have no verdicts.
 unfoldable pub HasSoundVerdicts : Bounds → FlaggedDraws → Outcome → Type 0
-HasSoundVerdicts limits draws (JudgedPosition number q d status) = IsSound q White limits d × (status ≡ status_of (standing_of q) d.white d.black)
+HasSoundVerdicts limits draws (JudgedPosition number q d status) = IsDecided q White limits d × (status ≡ status_of (standing_of q) d.white d.black)
 HasSoundVerdicts limits draws (JudgedGame game d scan status judgment) =
-    IsSound game.last (first_of draws game) limits d × HasScan game.positions (first_of draws game) limits d scan
+    IsDecided game.last (first_of draws game) limits d × HasScan game.positions (first_of draws game) limits d scan
     × (status ≡ status_of (standing_of game.last) d.white d.black) × (judgment ≡ judgment_of draws game d scan)
+    × IsPlayedOut game × IfSome scan (ShowsDead game.positions)
 HasSoundVerdicts limits draws (ListedMates number q depth found) = ⊥
 HasSoundVerdicts limits draws (RefusedLine number fault) = ⊤
 HasSoundVerdicts limits draws (UnreadableGame span why) = ⊤
@@ -74,16 +83,12 @@ IsSoundOutcome Plies o = TellsMoves o
 abbrev pub Answers : Question → Item → Outcome → Type 0
 Answers question item o = (item_of o ≡ item) × IsSoundOutcome question o
 
--- a game has 1 to 12,001 positions
-abbrev pub HasPositions : PlayedGame → Type 0
-HasPositions game = (0 < length game.positions) × (length game.positions ≤ 12001)
-
--- a question can be asked about an item: mates are looked for in positions and not in games, and moves are told of games alone, which are
--- not judged
+-- a question can be asked about an item: a game is judged that was played to its final position, mates are looked for in positions and not
+-- in games, and moves are told of games alone, which are not judged
 abbrev pub CanBeAsked : Question → Item → Type 0
 CanBeAsked (Verdicts limits draws) (Position number q) = ⊤
 CanBeAsked (Verdicts limits draws) (Refused number fault) = ⊤
-CanBeAsked (Verdicts limits draws) (Played game) = HasPositions game
+CanBeAsked (Verdicts limits draws) (Played game) = IsPlayedOut game
 CanBeAsked (Verdicts limits draws) (Unread span why) = ⊤
 CanBeAsked (Verdicts limits draws) (Told game) = ⊥
 CanBeAsked (Mates side depth) (Position number q) = ⊤

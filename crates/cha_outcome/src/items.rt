@@ -141,6 +141,7 @@ fn played_out(alloc: Global, span: Span, game: &Game) -> Result<Item, NoMemory>
     ensures item { IfOk result (λ item. item ≡ played_item span game.now (positions game.now.start game.now.words)) }
     ensures asked { IfOk result (λ item. (limits : Bounds) (draws : DrawRule) → CanBeAsked (Verdicts limits draws) item) }
 {
+    game.start.known();
     match play(alloc, game) {
         Ok(positions) => {
             let last = positions.items()[positions.items().len() - 1];

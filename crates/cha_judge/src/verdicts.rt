@@ -1,11 +1,12 @@
 //! Whether the sides can still mate.
 
-ghost use Rattle.std.specs.Prelude.{◌≡◌, ◌<◌, ◌≤◌, length, IfOk, IfErr};
+ghost use Rattle.std.specs.Prelude.{◌≡◌, IfOk, IfErr};
 ghost use Rattle.cha_outcome.specs.declared.questions.FlaggedDraws.{FlaggedDraws as DrawRule};
 ghost use Rattle.cha_outcome.specs.declared.questions.Question.TheVariants.{Verdicts};
 ghost use Rattle.cha_fact.specs.Entries.{MadeSome};
 ghost use Rattle.cha_outcome.specs.declared.items.Item.TheVariants.{Position as OfPosition, Played};
-ghost use Rattle.cha_outcome.specs.Outcomes.{Answers, HasPositions, HasSoundVerdicts, IsPrintableOutcome};
+ghost use Rattle.cha_outcome.specs.Outcomes.{Answers, HasSoundVerdicts, IsPrintableOutcome};
+ghost use Rattle.cha_outcome.specs.PlayedOut.{IsPlayedOut};
 ghost use Rattle.cha_outcome.specs.declared.outcomes.Outcome.TheVariants.{JudgedGame};
 
 use crate::judges::Judge;
@@ -83,6 +84,7 @@ fn judge_position<C: Crew>(
     ensures printable { IfOk result IsPrintableOutcome }
     ensures back { IfErr result (λ back. back ≡ OfPosition line position) }
 {
+    position.known();
     let Ok(decision) = decide_by(alloc, &position, Color::White, limits, crew) else {
         return Err(Item::Position { line, position });
     };
@@ -113,13 +115,14 @@ fn decide_game<C: Crew>(
     draws: FlaggedDraws,
     crew: &mut C,
 ) -> Result<DecidedGame, NoMemory>
-    requires positions { HasPositions game.now }
+    requires played { IsPlayedOut game.now }
     requires ready { C.ready crew.old }
     ensures stays_ready { C.ready crew.new }
     ensures calls { MadeSome C.made crew.old crew.new }
     ensures sound { IfOk result (λ found. HasSoundVerdicts limits.now draws (JudgedGame game.now found.decision found.scan found.status found.judgment)) }
     ensures printable { IfOk result (λ found. IsPrintableOutcome (JudgedGame game.now found.decision found.scan found.status found.judgment)) }
 {
+    game.last.known();
     let claim = claim_of(draws, game);
     let first = first_examined(claim);
     let decision = decide_by(alloc, &game.last, first, limits, crew)?;
@@ -150,7 +153,7 @@ fn judge_game<C: Crew>(
     draws: FlaggedDraws,
     crew: &mut C,
 ) -> Result<Outcome, Item>
-    requires positions { HasPositions game }
+    requires played { IsPlayedOut game }
     requires ready { C.ready crew.old }
     ensures stays_ready { C.ready crew.new }
     ensures calls { MadeSome C.made crew.old crew.new }

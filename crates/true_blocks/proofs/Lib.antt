@@ -1,6 +1,4 @@
 pub mod Meaning
 pub mod Printed
-pub mod Valid
-pub mod Games
 pub mod Shown
 pub mod Reports

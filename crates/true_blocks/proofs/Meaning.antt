@@ -1,6 +1,5 @@
 -- What sound verdicts say in chess alone.
-use Rattle.std.proofs.Common.{◌≡◌, ℕ, zero, suc, ◌+◌, ◌-◌, ◌<◌, true, false, List, [], ◌∷◌, ◌++◌, length, Contains, Option, Some, None, slice_get, refl, sym, ap, subst, ◌∙◌, arith}
-use Rattle.std.proofs.lemmas.Bool.{and_parts}
+use Rattle.std.proofs.Common.{◌≡◌, ℕ, zero, suc, ◌+◌, ◌<◌, true, false, List, [], ◌∷◌, ◌++◌, length, Contains, Option, Some, None, IfSome, slice_get, refl, sym, ap, subst, ◌∙◌, arith}
 use Rattle.std.proofs.lemmas.Option.{same_Some, slice_get_read}
 use Rattle.cha_board.specs.declared.men.Color.{Color}
 use Rattle.cha_board.specs.declared.men.Color.TheVariants.{White, Black}
@@ -9,8 +8,6 @@ use Rattle.cha_board.specs.Board.{Board}
 use Rattle.cha_limits.specs.Bounds.{Bounds}
 use Rattle.cha_moves.specs.Step.{Move}
 use Rattle.cha_moves.specs.Moves.{after, legal}
-use Rattle.cha_moves.specs.Ends.{IsUnwinnable}
-use Rattle.cha_moves.specs.Dead.{IsDead, ArePlayed}
 use Rattle.cha_moves.specs.Lines.{LeadTo}
 use Rattle.mob_law.specs.Explored.{IsExplored}
 use Rattle.cha_cert.proofs.Bounded.{valid_is_unwinnable}
@@ -19,17 +16,15 @@ use Rattle.cha_verdict.specs.declared.verdicts.Verdict.TheVariants.{Winnable, Un
 use Rattle.cha_verdict.specs.declared.decisions.Decision.{Decision}
 use Rattle.cha_verdict.specs.declared.scans.Scan.{Scan}
 use Rattle.cha_verdict.specs.declared.scans.EarlierCerts.{EarlierCerts}
-use Rattle.cha_verdict.specs.Verdicts.{is_winnable, is_unwinnable, is_skipped, are_dead}
+use Rattle.cha_verdict.specs.Verdicts.{is_winnable, is_skipped}
 use Rattle.cha_verdict.specs.Sound.{IsTrueOf, IsSound, verdict_on}
-use Rattle.cha_verdict.specs.Scans.{IsEarlier, HasScan}
-use Rattle.cha_verdict.proofs.Scanned.{shows}
+use Rattle.cha_verdict.specs.Scans.{IsEarlier, HasScan, ShowsDead}
 use Rattle.cha_outcome.specs.declared.outcomes.Outcome.{Outcome}
 use Rattle.cha_outcome.specs.declared.outcomes.Outcome.TheVariants.{JudgedPosition, JudgedGame, ListedMates, RefusedLine, UnreadableGame, Replayed}
 use Rattle.cha_outcome.specs.declared.questions.FlaggedDraws.{FlaggedDraws}
 use Rattle.cha_outcome.specs.Outcomes.{HasSoundVerdicts}
 use Rattle.cha_outcome.specs.Rulings.{first_of}
 use Rattle.true_blocks.specs.Means.{AreTried, Says, Means, MeansDead, IsMeant}
-use Rattle.true_blocks.specs.Played.{IsPlayedThrough}
 
 -- one more move at the end of a line
 one_more : (q p r : Board) (ms : List Move) (m : Move) → LeadTo q ms p → Contains (legal p) m → after p m ≡ r → LeadTo q (ms ++ m ∷ []) r
@@ -79,35 +74,22 @@ means q first limits d sound = record {
   skips = skips first d sound.examined sound.other;
 }
 
--- verdicts that show a position dead
-side_dead : (q : Board) (w : Color) (limits : Bounds) (v : Verdict) → is_unwinnable v ≡ true → IsTrueOf q w limits v → IsUnwinnable q w
-side_dead q w limits (Winnable moves) is h = cc
-side_dead q w limits (Unwinnable cert) is h = valid_is_unwinnable q w cert h
-side_dead q w limits (Undecided units depth) is h = cc
-side_dead q w limits Skipped is h = cc
-
-both_dead : (q : Board) (first : Color) (limits : Bounds) (d : Decision) → IsSound q first limits d → are_dead d.white d.black ≡ true → IsDead q
-both_dead q first limits d sound dead White = side_dead q White limits d.white (and_parts (is_unwinnable d.white) (is_unwinnable d.black) dead).0 (sound.true_of White)
-both_dead q first limits d sound dead Black = side_dead q Black limits d.black (and_parts (is_unwinnable d.white) (is_unwinnable d.black) dead).1 (sound.true_of Black)
-
 -- the ply of a scan is one of the positions
 ply_inside : (qs : List Board) (ply : ℕ) (earlier : Option EarlierCerts) → IsEarlier qs ply earlier → ply < length qs
 ply_inside qs ply None last = omega (arith, last)
 ply_inside qs ply (Some certs) h = let inside = h.0 in omega (arith, inside)
 
-dead_from : (qs : List Board) (last : Board) (first : Color) (limits : Bounds) (d : Decision) (scan : Option Scan) → ArePlayed qs → slice_get qs (length qs - 1) ≡ Some last → IsSound last first limits d → HasScan qs first limits d scan → MeansDead qs d scan
-dead_from qs last first limits d None played there sound h = h
-dead_from qs last first limits d (Some scan) played there sound h =
-    let end : (q : Board) → slice_get qs (length qs - 1) ≡ Some q → IsDead q = λ q e. subst IsDead (same_Some last q (sym there ∙ e)) (both_dead last first limits d sound h.0) in
-    (ply_inside qs scan.ply scan.earlier h.1.earlier, shows qs first limits scan played end h.1)
+means_dead : (qs : List Board) (first : Color) (limits : Bounds) (d : Decision) (scan : Option Scan) → HasScan qs first limits d scan → IfSome scan (ShowsDead qs) → MeansDead qs d scan
+means_dead qs first limits d None h shown = h
+means_dead qs first limits d (Some scan) h shown = (ply_inside qs scan.ply scan.earlier h.1.earlier, shown)
 
--- what a sound outcome says, where its game was played to its final position
-pub meant : (limits : Bounds) (draws : FlaggedDraws) (o : Outcome) → IsPlayedThrough o → HasSoundVerdicts limits draws o → IsMeant limits draws o
-unfolding HasSoundVerdicts IsMeant IsPlayedThrough
-meant limits draws (JudgedPosition number q d status) played h = (means q White limits d h.0, h.1)
-meant limits draws (JudgedGame game d scan status judgment) played h =
-    (means game.last (first_of draws game) limits d h.0, dead_from game.positions game.last (first_of draws game) limits d scan played.0 played.1 h.0 h.1, h.2, h.3)
-meant limits draws (ListedMates number q depth found) played h = h
-meant limits draws (RefusedLine number fault) played h = tt
-meant limits draws (UnreadableGame span why) played h = tt
-meant limits draws (Replayed game) played h = h
+-- what a sound outcome says
+pub meant : (limits : Bounds) (draws : FlaggedDraws) (o : Outcome) → HasSoundVerdicts limits draws o → IsMeant limits draws o
+unfolding HasSoundVerdicts IsMeant
+meant limits draws (JudgedPosition number q d status) h = (means q White limits d h.0.sound, h.1)
+meant limits draws (JudgedGame game d scan status judgment) h =
+    (means game.last (first_of draws game) limits d h.0.sound, means_dead game.positions (first_of draws game) limits d scan h.1 h.5, h.2, h.3, h.4)
+meant limits draws (ListedMates number q depth found) h = h
+meant limits draws (RefusedLine number fault) h = tt
+meant limits draws (UnreadableGame span why) h = tt
+meant limits draws (Replayed game) h = h

@@ -1,4 +1,3 @@
 pub mod Means
 pub mod Plain
-pub mod Played
 pub mod Shown

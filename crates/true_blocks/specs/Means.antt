@@ -20,6 +20,7 @@ use Rattle.cha_verdict.specs.Scans.{ShowsDead}
 use Rattle.cha_outcome.specs.declared.outcomes.Outcome.{Outcome}
 use Rattle.cha_outcome.specs.declared.outcomes.Outcome.TheVariants.{JudgedPosition, JudgedGame, ListedMates, RefusedLine, UnreadableGame, Replayed}
 use Rattle.cha_outcome.specs.declared.questions.FlaggedDraws.{FlaggedDraws}
+use Rattle.cha_outcome.specs.PlayedOut.{IsPlayedOut}
 use Rattle.cha_outcome.specs.PositionStatuses.{status_of}
 use Rattle.cha_outcome.specs.Rulings.{judgment_of}
 
@@ -49,13 +50,14 @@ abbrev pub MeansDead : List Board → Decision → Option Scan → Type 0
 MeansDead qs d None = are_dead d.white d.black ≡ false
 MeansDead qs d (Some scan) = (scan.ply < length qs) × ShowsDead qs scan
 
--- What an outcome says: of a position both verdicts, and the status by them; of a game these of its final position, where it was dead, and
--- the result by all that. A line that is no position and a game that cannot be read have no verdicts.
+-- What an outcome says: of a position both verdicts, and the status by them; of a game, which was played to its final position by legal
+-- moves, these of that position, where it was dead, and the result by all that. A line that is no position and a game that cannot be read
+-- have no verdicts.
 unfoldable pub IsMeant : Bounds → FlaggedDraws → Outcome → Type 0
 IsMeant limits draws (JudgedPosition number q d status) = Means q limits d × (status ≡ status_of (standing_of q) d.white d.black)
 IsMeant limits draws (JudgedGame game d scan status judgment) =
     Means game.last limits d × MeansDead game.positions d scan × (status ≡ status_of (standing_of game.last) d.white d.black)
-    × (judgment ≡ judgment_of draws game d scan)
+    × (judgment ≡ judgment_of draws game d scan) × IsPlayedOut game
 IsMeant limits draws (RefusedLine number fault) = ⊤
 IsMeant limits draws (UnreadableGame span why) = ⊤
 IsMeant limits draws (ListedMates number q depth found) = ⊥

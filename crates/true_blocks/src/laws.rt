@@ -1,17 +1,14 @@
 //! Sound verdicts in the words of chess, and in those of a report.
 
-ghost use Rattle.std.specs.Prelude.{◌≡◌, ℕ, List, ◌++◌, map};
+ghost use Rattle.std.specs.Prelude.{ℕ};
 ghost use Rattle.cha_board.specs.declared.men.Color.{Color};
 ghost use Rattle.cha_board.specs.Board.{Board};
 ghost use Rattle.cha_limits.specs.Bounds.{Bounds};
 ghost use Rattle.cha_verdict.specs.declared.decisions.Decision.{Decision};
 ghost use Rattle.cha_verdict.specs.Sound.{IsSound};
-ghost use Rattle.pgn_lex.specs.declared.kinds.Placed.{Placed};
-ghost use Rattle.pgn_games.specs.Games.{placed_game_of};
 ghost use Rattle.cha_outcome.specs.declared.outcomes.Outcome.{Outcome};
 ghost use Rattle.cha_outcome.specs.declared.questions.FlaggedDraws.{FlaggedDraws};
-ghost use Rattle.cha_outcome.specs.Items.{line_item, game_item};
-ghost use Rattle.cha_outcome.specs.Outcomes.{item_of, HasSoundVerdicts};
+ghost use Rattle.cha_outcome.specs.Outcomes.{HasSoundVerdicts};
 ghost use Rattle.true_blocks.specs.Means.{Means};
 ghost use Rattle.true_blocks.specs.Shown.{ShowsTruth};
 
@@ -24,6 +21,5 @@ pub fn sound_decisions_mean()
 /// The law of one block: what stands behind the FEN that the block of a sound outcome shows is true of the position that this FEN is.
 /// Whoever sees the position need not believe how its game was read.
 pub fn a_block_is_true_of_its_fen()
-    ensures position { (limits : Bounds) (draws : FlaggedDraws) (number line : ℕ) (text : List ℕ) (o : Outcome) → item_of o ≡ line_item line text → HasSoundVerdicts limits draws o → ShowsTruth limits number o }
-    ensures game { (limits : Bounds) (draws : FlaggedDraws) (number : ℕ) (slice : List Placed) (o : Outcome) → item_of o ≡ game_item (placed_game_of slice) → HasSoundVerdicts limits draws o → ShowsTruth limits number o }
+    ensures { (limits : Bounds) (draws : FlaggedDraws) (number : ℕ) (o : Outcome) → HasSoundVerdicts limits draws o → ShowsTruth limits number o }
 {}

@@ -130,7 +130,7 @@ unfolding new_result item_of HasSoundVerdicts
 stays limits draws (outcomes.JudgedPosition number q d status) placed says e sound = refl
 stays limits draws (outcomes.JudgedGame game d scan status judgment) placed says e sound =
     let at = at_opening placed game says e in
-    let alive = alive_by limits d.black (subst (λ q. IsTrueOf q Black limits d.black) at.last (sound.0.true_of Black)) in
+    let alive = alive_by limits d.black (subst (λ q. IsTrueOf q Black limits d.black) at.last (sound.0.sound.true_of Black)) in
     rw (unchanged game.recorded judgment.mark (ap (λ j. j.mark) sound.3 ∙ same_mark draws game d scan at alive)) refl
 stays limits draws (outcomes.ListedMates number q depth found) placed says e sound = refl
 stays limits draws (outcomes.RefusedLine number fault) placed says e sound = refl

@@ -61,8 +61,8 @@ shortest_legal (suc k) n q winner =
 -- so are those of each sound outcome
 verdicts_legal : (limits : Bounds) (draws : FlaggedDraws) (o : Outcome) → HasSoundVerdicts limits draws o → HasLegalLines o
 unfolding HasSoundVerdicts
-verdicts_legal limits draws (JudgedPosition line q d status) h = (true_is_legal q White limits d.white (h.0.true_of White), true_is_legal q Black limits d.black (h.0.true_of Black))
-verdicts_legal limits draws (JudgedGame game d scan status judgment) h = (true_is_legal game.last White limits d.white (h.0.true_of White), true_is_legal game.last Black limits d.black (h.0.true_of Black))
+verdicts_legal limits draws (JudgedPosition line q d status) h = (true_is_legal q White limits d.white (h.0.sound.true_of White), true_is_legal q Black limits d.black (h.0.sound.true_of Black))
+verdicts_legal limits draws (JudgedGame game d scan status judgment) h = (true_is_legal game.last White limits d.white (h.0.sound.true_of White), true_is_legal game.last Black limits d.black (h.0.sound.true_of Black))
 verdicts_legal limits draws (ListedMates line q depth found) h = absurd h
 verdicts_legal limits draws (RefusedLine line fault) h = tt
 verdicts_legal limits draws (UnreadableGame span why) h = tt

@@ -6,8 +6,7 @@ use Rattle.cha_words.specs.declared.orders.Printing.{Printing}
 use Rattle.cha_words.specs.Language.{command_named, limits_in, order_by, order_of}
 use Rattle.cha_outcome.specs.declared.questions.FlaggedDraws.TheVariants.{Stand}
 use Rattle.flag_report.specs.declared.styles.Subject.TheVariants.{Games, Positions}
-use Rattle.text_lines.specs.Lines.{text_lines}
-use Rattle.true_blocks.proofs.Reports.{games_meant, lines_meant, true_report, games_show, lines_show, true_shown}
+use Rattle.true_blocks.proofs.Reports.{all_meant, all_show, true_report, true_shown}
 use Rattle.true_blocks.specs.Shown.{ShowsOnlyTruth}
 use Rattle.adjudicate.specs.declared.endings.Status.{Status}
 use Rattle.adjudicate.specs.declared.endings.Status.TheVariants.{Done}
@@ -52,25 +51,25 @@ module _ (left left' a a' : Option (List ℕ)) (f f' g g' : ℕ) (notes notes' :
   games_done run =
       let r = run.0.ended in
       let report = r.4.2 in
-      (r.0, r.1, r.2, (r.4.0, r.4.1, true_report usual Stand Games (game_items r.0) report.0 r.4.0 report.1 (games_meant usual Stand r.0 report.0 report.1 report.2) report.3))
+      (r.0, r.1, r.2, (r.4.0, r.4.1, true_report usual Stand Games (game_items r.0) report.0 r.4.0 report.1 (all_meant usual Stand report.0 report.2) report.3))
 
   positions_done : IsRun (JudgePositions usual usually) Done (outside left f a g) (outside left' f' a' g') notes notes' → ReportsTruth position_items Positions left left' a a'
   positions_done run =
       let r = run.0.ended in
       let report = r.4.2 in
-      (r.0, r.1, r.2, (r.4.0, r.4.1, true_report usual Stand Positions (position_items r.0) report.0 r.4.0 report.1 (lines_meant usual Stand (text_lines r.0) report.0 report.1 report.2) report.3))
+      (r.0, r.1, r.2, (r.4.0, r.4.1, true_report usual Stand Positions (position_items r.0) report.0 r.4.0 report.1 (all_meant usual Stand report.0 report.2) report.3))
 
   games_shown : IsRun (AdjudicateGames usual false usually) Done (outside left f a g) (outside left' f' a' g') notes notes' → Grew a a' (ShowsOnlyTruth usual)
   games_shown run =
       let r = run.0.ended in
       let report = r.4.2 in
-      (r.4.0, r.4.1, true_shown usual Stand Games report.0 r.4.0 (games_meant usual Stand r.0 report.0 report.1 report.2) (games_show usual Stand r.0 report.0 report.1 report.2) report.3)
+      (r.4.0, r.4.1, true_shown usual Stand Games report.0 r.4.0 (all_meant usual Stand report.0 report.2) (all_show usual Stand 1 report.0 report.2) report.3)
 
   positions_shown : IsRun (JudgePositions usual usually) Done (outside left f a g) (outside left' f' a' g') notes notes' → Grew a a' (ShowsOnlyTruth usual)
   positions_shown run =
       let r = run.0.ended in
       let report = r.4.2 in
-      (r.4.0, r.4.1, true_shown usual Stand Positions report.0 r.4.0 (lines_meant usual Stand (text_lines r.0) report.0 report.1 report.2) (lines_show usual Stand (text_lines r.0) report.0 report.1 report.2) report.3)
+      (r.4.0, r.4.1, true_shown usual Stand Positions report.0 r.4.0 (all_meant usual Stand report.0 report.2) (all_show usual Stand 1 report.0 report.2) report.3)
 
   abbrev Ran : Order → Status → Type 0
   Ran o s = IsRun o s (outside left f a g) (outside left' f' a' g') notes notes'

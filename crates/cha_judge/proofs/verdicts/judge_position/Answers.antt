@@ -5,5 +5,6 @@ use Rattle.cha_judge.proofs.verdicts.judge_position.Goals as goal
 pub returns-clause-answers : goal.returns-clause-answers
 unfolding item_of HasSoundVerdicts
 returns-clause-answers g c = λ draws. (
-  let decided = record { valid = c.known.ensures; sound = c.in-Ok.ensures.sound; complete = c.in-Ok.ensures.complete } in
-  (refl, (decided, rw c.state-standing.ensures.value at c.status_of-status.ensures)))
+  refl,
+  (record { valid = c.known.ensures; sound = c.in-Ok.ensures.sound; complete = c.in-Ok.ensures.complete }, rw c.state-standing.ensures.value at c.status_of-status.ensures),
+)

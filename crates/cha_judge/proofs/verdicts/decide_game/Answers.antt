@@ -14,14 +14,13 @@ returns-clause-sound g c =
     let first = first_of c.args.draws game in
     let sound : IsSound game.last first limits c.in_ok-decision.decision = rw (c.first_examined-first.ensures, c.claim_of-claim.ensures) at c.in_ok-decision.ensures.sound in
     let scanned : HasScan game.positions first limits c.in_ok-decision.decision c.in_ok-scan.scan =
-    rw (c.first_examined-first.ensures, c.claim_of-claim.ensures, c.items.ensures) at c.in_ok-scan.ensures.scan in
-    (
-    record { valid = c.known.ensures; sound = sound; complete = c.in_ok-decision.ensures.complete },
-    scanned,
-    rw c.state-standing.ensures.value at c.status_of-status.ensures,
-    c.judgment_of-judgment.ensures c.args.draws c.claim_of-claim.ensures,
-    c.requires.played,
-    scan_shows game first limits c.in_ok-decision.decision c.in_ok-scan.scan c.requires.played sound scanned,
+    rw (c.first_examined-first.ensures, c.claim_of-claim.ensures, c.items.ensures) at c.in_ok-scan.ensures.scan in (
+      record { valid = c.known.ensures; sound = sound; complete = c.in_ok-decision.ensures.complete },
+      scanned,
+      rw c.state-standing.ensures.value at c.status_of-status.ensures,
+      c.judgment_of-judgment.ensures c.args.draws c.claim_of-claim.ensures,
+      c.requires.played,
+      scan_shows game first limits c.in_ok-decision.decision c.in_ok-scan.scan c.requires.played sound scanned,
     )
 
 pub returns-clause-calls : goal.returns-clause-calls

@@ -1,5 +1,4 @@
 use Rattle.std.proofs.Common.{arith}
-use Rattle.cha_outcome.specs.declared.items.PlayedGame.{PlayedGame}
 use Rattle.cha_outcome.proofs.PlayedThrough.{last_of, played_through}
 use Rattle.cha_outcome.proofs.items.played_out.Goals as goal
 

@@ -4,7 +4,8 @@
     tools/refused-memory.py [PROGRAM]
 
 Each run ends with its usual output, or with status 5 and whole blocks or games of it, or, where a store or a thread went without memory, with
-status 0 and a whole sound report. The status of this script is 0 where all do. It wants a C compiler.
+status 0 and a whole sound report. Where games or positions are judged side by side, each allocation of each thread is refused in turn. The
+status of this script is 0 where all do. It wants a C compiler.
 """
 import os
 import subprocess
@@ -23,9 +24,21 @@ RUNS = [
     (["gen", "7", "3", "--budget", "500", "--depth", "2"], ""),
 ]
 
+#: as many items as are worth threads: a mate on the board, moves that lead to one, a dead ending, a game that cannot be read, an open one
+GAMES = ["1. f3 e5 2. g4 Qh4# 0-1", "1. e4 e5 2. Bc4 Nc6 3. Qh5 Nf6 1-0", '[FEN "4k3/8/8/8/8/8/8/4K3 w - -"]\n\n*', "1. e5 *",
+         '[FEN "6k1/5ppp/8/8/8/8/5PPP/3R2K1 b - -"]\n[Termination "time forfeit"]\n\n1-0']
+LINES = ["8/8/8/4k3/8/8/8/4KR2 w - -", "no position", "8/8/8/4k3/3q4/8/8/4KN2 w - -", "8/8/4k3/8/8/4K3/8/8 w - -"]
+IN_THREADS = [
+    (["adjudicate", "--workers=4"], "\n\n".join(GAMES * 3) + "\n"),
+    (["position", "--workers=4", "--depth=3"], "\n".join(LINES * 4) + "\n"),
+]
+THREADS = 4
 
-def run(program, library, words, text, number, told):
+
+def run(program, library, words, text, number, told, thread=None):
     room = {**os.environ, "LD_PRELOAD": library, "REFUSE_AT": str(number), "REFUSE_TELLS": told}
+    if thread is not None:
+        room["REFUSE_THREAD"] = str(thread)
     done = subprocess.run([program, *words], input=text.encode(), stdout=subprocess.PIPE, stderr=subprocess.DEVNULL, env=room, timeout=60)
     with open(told) as file:
         return done.returncode, done.stdout.decode(), int(file.read())
@@ -44,31 +57,40 @@ def word_of_summary(words):
     return {"adjudicate": "games: ", "position": "positions: "}.get(words[0], "\0")
 
 
+def ends_of(program, library, words, text, told, thread):
+    """How often runs ended in which way, with each allocation refused in turn: all of the run, or those of one thread."""
+    usual = run(program, library, words, text, 0, told)
+    ends, number = {}, 0
+    while True:
+        number += 1
+        status, out, calls = run(program, library, words, text, number, told, thread)
+        if calls < number:
+            return ends
+        if (status, out) == usual[:2]:
+            end = "as usual"
+        elif status == 5 and is_front(words, out, usual[1]):
+            end = "status 5"
+        elif status == 0 and len(out.splitlines()) >= 1 and out.splitlines()[-1].split(":")[0] == usual[1].splitlines()[-1].split(":")[0]:
+            end = "another whole report"
+        else:
+            end = f"WRONG: status {status}"
+            print(f"{' '.join(words)}, allocation {number}: status {status}, output {out!r}")
+        ends[end] = ends.get(end, 0) + 1
+
+
 def main():
     program = os.path.abspath(sys.argv[1] if len(sys.argv) > 1 else os.path.join(HERE, "..", "cha"))
     bad = 0
     with tempfile.TemporaryDirectory() as folder:
         library, told = f"{folder}/refuse.so", f"{folder}/told"
         subprocess.run([os.environ.get("CC", "cc"), "-O1", "-shared", "-fPIC", "-o", library, f"{HERE}/refuse.c", "-ldl"], check=True)
-        for words, text in RUNS:
-            usual = run(program, library, words, text, 0, told)
-            ends, number = {}, 0
-            while True:
-                number += 1
-                status, out, calls = run(program, library, words, text, number, told)
-                if calls < number:
-                    break
-                if (status, out) == usual[:2]:
-                    end = "as usual"
-                elif status == 5 and is_front(words, out, usual[1]):
-                    end = "status 5"
-                elif status == 0 and len(out.splitlines()) >= 1 and out.splitlines()[-1].split(":")[0] == usual[1].splitlines()[-1].split(":")[0]:
-                    end = "another whole report"
-                else:
-                    end, bad = f"WRONG: status {status}", bad + 1
-                    print(f"{' '.join(words)}, allocation {number}: status {status}, output {out!r}")
-                ends[end] = ends.get(end, 0) + 1
-            print(f"{' '.join(words)}: {number - 1} allocations; " + ", ".join(f"{end}: {count}" for end, count in sorted(ends.items())), flush=True)
+        cases = [(*case, None) for case in RUNS] + [(*case, thread) for case in IN_THREADS for thread in range(THREADS)]
+        for words, text, thread in cases:
+            ends = ends_of(program, library, words, text, told, thread)
+            bad += sum(count for end, count in ends.items() if end.startswith("WRONG"))
+            place = "" if thread is None else f", thread {thread}"
+            counts = ", ".join(f"{end}: {count}" for end, count in sorted(ends.items()))
+            print(f"{' '.join(words)}{place}: {sum(ends.values())} allocations; {counts}", flush=True)
     return 1 if bad else 0
 
 

@@ -1,9 +1,9 @@
 #!/usr/bin/env python3
-"""Measures how much faster more workers are, and compares their reports byte by byte.
+"""Measures how much faster more workers are, and compares what they write byte by byte.
 
     tools/workers.py PROGRAM FILE [--bytes N] [--numbers 1,2,4,8,16] [--rounds N] [--pieces 1,777,4096] [WORD ..]
 
-The words are `adjudicate` where none are given. The input is copies of FILE, of N bytes in all or a little less; the file itself where
+The words are `adjudicate` where none are given; `correct`, `correct --changed` and `position` are others. The input is copies of FILE, of N bytes in all or a little less; the file itself where
 `--bytes` is left out. Each number of workers has its turn in each round; printed are, of its fastest run, the time by the clock, the
 processor time and the peak of memory. With `--pieces` the report is compared once more where the input comes through a pipe in pieces of
 so many bytes. It ends with status 1 where two reports differ.

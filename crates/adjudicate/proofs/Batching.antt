@@ -179,3 +179,17 @@ worked_back question items first old view new len size is work same goes =
     let long : length new ≡ length old = same ∙ ap length is in
     let back : take len (new ++ drop (length new) old) ≡ new = ap (λ n. take n (new ++ drop (length new) old)) (size ∙ sym long) ∙ take-append_seam new (drop (length new) old) in
     subst (λ b. AreWorkFrom question items first b) (sym back) (worked_on question items first old new work long (subst (λ v. AllGoOn question v new) is goes))
+
+-- where a game was written, nothing of what is queued changes
+pub same_queue : (reader reader' : ItemReader) (question : Question) (queue : List Progress) (failed : Bool) → IsQueued reader question queue failed → kind_of reader' ≡ kind_of reader → taken_by reader' ≡ taken_by reader → given_by reader' ≡ given_by reader → has_ended reader' ≡ has_ended reader → (failed ≡ false → CanGoOn reader')
+    → IsQueued reader' question queue failed
+same_queue reader reader' question queue failed h kind taken given ended goes_on = record {
+  asked = subst (λ k. IsAskedOf k question) (sym kind) h.asked;
+  few = omega (arith, h.few, given);
+  work = subst (λ k. AreWorkFrom question (items_by k (taken_by reader')) (given_by reader' - length queue) queue) (sym kind)
+      (subst (λ t. AreWorkFrom question (items_by (kind_of reader) t) (given_by reader' - length queue) queue) (sym taken) (subst (λ n. AreWorkFrom question (items_by (kind_of reader) (taken_by reader)) (n - length queue) queue) (sym given) h.work));
+  goes_on = goes_on;
+  most = λ f. (let was = h.most f in omega (arith, was, given));
+  settled = λ f more_comes. subst (λ k. given_by reader' ≤ settled_by k (taken_by reader')) (sym kind)
+      (subst (λ t. given_by reader' ≤ settled_by (kind_of reader) t) (sym taken) (subst (λ n. n ≤ settled_by (kind_of reader) (taken_by reader)) (sym given) (h.settled f (sym ended ∙ more_comes))));
+}

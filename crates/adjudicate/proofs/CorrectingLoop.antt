@@ -1,5 +1,5 @@
 -- The loop over games whose results may be corrected: what was judged and written so far, and how a run ends.
-use Rattle.std.proofs.Common.{◌≡◌, ◌≢◌, ◌↔◌, ◌⊎◌, inl, inr, ℕ, zero, suc, ◌+◌, ◌^◌, ◌<◌, ◌≤◌, Bool, true, false, List, [], ◌∷◌, ◌++◌, length, map, take, drop, Option, Some, slice_get, refl, sym, ap, ◌∙◌, arith, subst, take-append-drop, append_assoc, append-nil, length-append}
+use Rattle.std.proofs.Common.{◌≡◌, ◌≢◌, ◌↔◌, ◌⊎◌, inl, inr, ℕ, zero, suc, ◌+◌, ◌-◌, ◌^◌, ◌<◌, ◌≤◌, Bool, true, false, if◌then◌else◌, List, [], ◌∷◌, ◌++◌, length, map, take, drop, Option, Some, None, Result, Ok, Err, nat_lt, slice_get, refl, sym, ap, ◌∙◌, arith, subst, take-append-drop, append_assoc, append-nil, length-append}
 use Rattle.std.specs.Io.KnownBytes.{Appends, Consumes, IsAtEnd}
 use Rattle.std.proofs.lemmas.List.{length-map, map-append, drop_all}
 use Rattle.std.proofs.lemmas.List.Sums.{count_by-le-length}
@@ -8,22 +8,29 @@ use Rattle.cha_outside.proofs.Gathered.{gathered_front}
 use Rattle.cha_outside.specs.Faults.{Rose}
 use Rattle.cha_outside.specs.declared.gathering.ReadEnd.{ReadEnd}
 use Rattle.cha_outside.specs.declared.gathering.ReadEnd.TheVariants as ends
+use Rattle.pgn_games.specs.declared.faults.GameFault.{GameFault}
+use Rattle.pgn_games.specs.declared.played.Game.{Game}
 use Rattle.pgn_games.specs.declared.played.PlacedGame.{PlacedGame}
+use Rattle.pgn_games.specs.declared.played.Span.{Span}
 use Rattle.pgn_games.specs.Games.{placed_games, is_closed}
 use Rattle.pgn_games.specs.Settling.{settled_games}
 use Rattle.pgn_games.proofs.InOrder.{placed_games_order}
 use Rattle.pgn_games.proofs.Settled.{settled_grow}
 use Rattle.pgn_results.specs.Correcting.{end_of}
-use Rattle.pgn_results.proofs.GameByGame.{end_more, stands_behind}
-use Rattle.cha_limits.specs.Bounds.{Bounds}
+use Rattle.pgn_results.proofs.GameByGame.{same_first, end_more, stands_behind}
+use Rattle.cha_board.specs.Board.{Board}
+use Rattle.cha_san.specs.declared.faults.PlayFault.{PlayFault}
+use Rattle.cha_san.specs.Playing.{positions}
 use Rattle.cha_outcome.specs.declared.items.Item.{Item}
+use Rattle.cha_outcome.specs.declared.items.Item.TheVariants.{UnreadableGame}
+use Rattle.cha_outcome.specs.declared.items.TheConstants.{MOST_GAME_BYTES}
+use Rattle.cha_outcome.specs.declared.unreadable.Unreadable.TheVariants.{TooLong as TooLongGame}
 use Rattle.cha_outcome.specs.declared.outcomes.Outcome.{Outcome}
-use Rattle.cha_outcome.specs.declared.questions.FlaggedDraws.{FlaggedDraws}
 use Rattle.cha_outcome.specs.declared.questions.Question.{Question}
 use Rattle.cha_outcome.specs.declared.questions.Question.TheVariants.{Verdicts, Mates, Plies}
 use Rattle.cha_outcome.specs.declared.totals.Totals.{Totals}
-use Rattle.cha_outcome.specs.Items.{kept_item}
-use Rattle.cha_outcome.specs.Outcomes.{item_of, new_result, Answers, AllSound, CanBeAsked, is_refused, is_dead_position, is_changed_game, is_open, has_mates}
+use Rattle.cha_outcome.specs.Items.{played_item, item_unless, game_item, kept_item}
+use Rattle.cha_outcome.specs.Outcomes.{item_of, new_result, Answers, AllSound, is_refused, is_dead_position, is_changed_game, is_open, has_mates}
 use Rattle.cha_outcome.specs.Totals.{totals_of, counted, HasRoom}
 use Rattle.flag_report.specs.declared.styles.Style.TheVariants.{SummaryAlone}
 use Rattle.flag_report.specs.declared.styles.Subject.TheVariants.{Games}
@@ -36,8 +43,8 @@ use Rattle.adjudicate.specs.Report.{IsFront}
 use Rattle.adjudicate.specs.Runs.{Grew, outside}
 use Rattle.adjudicate.specs.Corrections.{Correction, corrected_text, corrected_front, Noted, HasAll, HasFirst, WritesWhole, EndedCorrecting}
 use Rattle.adjudicate.specs.Orders.{IsCorrecting}
-use Rattle.adjudicate.specs.Readers.{GameItems, IsAskedOf}
-use Rattle.adjudicate.specs.Steps.{game_piece, end_piece, IsEnded}
+use Rattle.adjudicate.specs.Readers.{ItemKind, GameItems, KeptItems, items_by, IsAskedOf}
+use Rattle.adjudicate.specs.Steps.{game_piece, end_piece, place_of, IsEnded}
 use Rattle.adjudicate.proofs.Fronts.{front_of_none, front_settled, front_more}
 use Rattle.adjudicate.proofs.CorrectedGames.{corrected_whole}
 use Rattle.adjudicate.proofs.GivenGames.{item_at, items_first}
@@ -57,14 +64,42 @@ pub record IsAt (q : Question) (changed : Bool) (old now : Option (List ℕ)) (t
   pub judged : IsJudged q taken given written s os
   pub text : Appends old now (corrected_front changed taken os)
 
--- a question about games can be asked of one
-pub asked_of : (q : Question) (item : Item) → IsAskedOf GameItems q → ((limits : Bounds) → (draws : FlaggedDraws) → CanBeAsked (Verdicts limits draws) item) → CanBeAsked q item
-asked_of (Verdicts limits draws) item asked h = h limits draws
-asked_of (Mates side depth) item asked h = absurd asked
-asked_of Plies item asked h = absurd asked
+-- where a game stands, by its item
+place_played : (span : Span) (game : Game) (r : Result (List Board) PlayFault) → place_of (played_item span game r) ≡ Some span
+place_played span game (Ok qs) = refl
+place_played span game (Err stop) = refl
 
-pub still_asked_of : (q q' : Question) → q' ≡ q → IsAskedOf GameItems q → IsAskedOf GameItems q'
-still_asked_of q q' e asked = subst (λ x. IsAskedOf GameItems x) (sym e) asked
+place_unless : (fault : Option GameFault) (span : Span) (game : Game) → place_of (item_unless fault span game) ≡ Some span
+place_unless None span game = place_played span game (positions game.start game.words)
+place_unless (Some fault) span game = refl
+
+place_if : (long : Bool) (fault : Option GameFault) (span : Span) (game : Game) → place_of (if long then UnreadableGame span TooLongGame else item_unless fault span game) ≡ Some span
+place_if true fault span game = refl
+place_if false fault span game = place_unless fault span game
+
+place_kept : (game : PlacedGame) → place_of (kept_item game) ≡ Some game.span
+unfolding kept_item game_item
+place_kept game = place_if (nat_lt MOST_GAME_BYTES (game.span.end - game.span.start)) game.game.fault game.span game.game
+
+-- and by an outcome that answers about it
+pub placed_by : (q : Question) (game : PlacedGame) (o : Outcome) → Answers q (kept_item game) o → place_of (item_of o) ≡ Some game.span
+placed_by q game o answers = ap place_of answers.0 ∙ place_kept game
+
+pub same_span : (found : Option Span) (a b : Span) → found ≡ Some a → found ≡ Some b → a ≡ b
+same_span found a b is also = let same : Some a ≡ Some b = sym is ∙ also in cc
+
+-- the game that an item is
+game_at : (games : List PlacedGame) (n : ℕ) (item : Item) → slice_get (map kept_item games) n ≡ Some item → (game : PlacedGame) × (slice_get games n ≡ Some game) × (item ≡ kept_item game)
+game_at [] n item e = cc
+game_at (game ∷ games) zero item e = (game, refl, cc)
+game_at (game ∷ games) (suc n) item e = game_at games n item e
+
+pub game_of_item : (kind : ItemKind) (taken : List ℕ) (n : ℕ) (item : Item) → kind ≡ KeptItems → slice_get (items_by kind taken) n ≡ Some item → (game : PlacedGame) × (slice_get (placed_games taken) n ≡ Some game) × (item ≡ kept_item game)
+game_of_item kind taken n item is e = game_at (placed_games taken) n item (subst (λ k. slice_get (items_by k taken) n ≡ Some item) is e)
+
+-- the outcome of work on an item is one of its game
+pub answers_game : (q q' : Question) (item : Item) (game : PlacedGame) (o : Outcome) → q' ≡ q → item ≡ kept_item game → Answers q' item o → Answers q (kept_item game) o
+answers_game q q' item game o same is answers = subst (λ x. Answers q x o) is (subst (λ x. Answers x item o) same answers)
 
 -- the first items with the one that follows
 take_more : (xs : List Item) (n : ℕ) (x : Item) → slice_get xs n ≡ Some x → take (n + 1) xs ≡ take n xs ++ x ∷ []
@@ -74,11 +109,6 @@ take_more (first ∷ xs) (suc n) x e = let more : suc n + 1 ≡ suc (n + 1) = om
 
 take_whole : (xs : List Item) (n : ℕ) → length xs ≤ n → take n xs ≡ xs
 take_whole xs n few = sym (append-nil (take n xs)) ∙ ap (λ ys. take n xs ++ ys) (sym (drop_all n xs few)) ∙ take-append-drop n xs
-
--- the source is at its end where it was before, or has come there
-pub ended_at : (was now : Bool) (a b : Option (List ℕ)) → (was ≡ true → IsAtEnd a) → (was ≡ true → b ≡ a) → (was ≡ false → now ≡ true → IsAtEnd b) → now ≡ true → IsAtEnd b
-ended_at true now a b before same come is = subst IsAtEnd (sym (same refl)) (before refl)
-ended_at false now a b before same come is = come refl is
 
 -- the end of a text was cut, or the summary behind it
 pub ended_cut : (text told piece : List ℕ) (old new : Option (List ℕ)) (f f' n : ℕ) (notes : Noted) → piece ≡ text → Appends old new (take n piece) → f ≤ f' → Rose f f' → IsEnded WriteFault text told old f new f' notes notes
@@ -104,6 +134,19 @@ ended_late text told piece shown old new f f' n notes notes' e added later same 
   notes_later = notes_later;
 }
 
+-- all was written
+pub ended_well : (text told piece shown : List ℕ) (old new : Option (List ℕ)) (f f' : ℕ) (notes notes' : Noted) → piece ≡ text → Appends old new piece → f ≤ f' → shown ≡ told → Appends notes.taken notes'.taken shown
+    → notes.faults ≤ notes'.faults → IsEnded Done text told old f new f' notes notes'
+ended_well text told piece shown old new f f' notes notes' e added later same said notes_later = record {
+  done = λ _. (subst (λ x. Appends old new x) e added, subst (λ x. Appends notes.taken notes'.taken x) same said);
+  cut = λ h. cc;
+  cause = λ h. cc;
+  no_memory = λ h. cc;
+  either = inl refl;
+  later = later;
+  notes_later = notes_later;
+}
+
 -- where the source has not ended, the games that were given are settled, and more bytes change nothing of that
 pub still_whole : (was now : Bool) (taken taken' more : List ℕ) (given : ℕ) (left : Option (List ℕ)) → taken' ≡ taken ++ more → (was ≡ false → given ≤ settled_games taken) → (was ≡ true → now ≡ true) → (now ≡ true → IsAtEnd left)
     → (given ≤ settled_games taken') ⊎ IsAtEnd left
@@ -124,19 +167,25 @@ front_same : (ended : Bool) (changed : Bool) (taken taken' more : List ℕ) (os 
 front_same true changed taken taken' more os e still due = ap (λ b. corrected_front changed b os) (still refl)
 front_same false changed taken taken' more os e still due = ap (λ b. corrected_front changed b os) e ∙ front_settled changed taken more os (due refl)
 
+games_first : (ended : Bool) (taken taken' more : List ℕ) (given : ℕ) → taken' ≡ taken ++ more → (ended ≡ true → taken' ≡ taken) → (ended ≡ false → given ≤ settled_games taken) → take given (placed_games taken') ≡ take given (placed_games taken)
+games_first true taken taken' more given e still due = ap (λ b. take given (placed_games b)) (still refl)
+games_first false taken taken' more given e still due = ap (λ b. take given (placed_games b)) e ∙ same_first taken more given (due refl)
+
 pub retook : (q : Question) (changed ended : Bool) (old now : Option (List ℕ)) (taken taken' more : List ℕ) (given written written' : ℕ) (s : Totals) → IsAt q changed old now taken given written s → taken' ≡ taken ++ more
-    → (ended ≡ true → taken' ≡ taken) → (ended ≡ false → given ≤ settled_games taken) → take given (placed_games taken') ≡ take given (placed_games taken) → written' ≡ written → IsAt q changed old now taken' given written' s
-retook q changed ended old now taken taken' more given written written' s at e still due same w = record {
-  os = at.os;
-  judged = record {
-    first = items_first kept_item given taken' taken same ∙ at.judged.first;
-    number = at.judged.number;
-    sound = at.judged.sound;
-    totals = at.judged.totals;
-    place = w ∙ at.judged.place ∙ ap (end_of 0) (sym same);
-  };
-  text = subst (λ x. Appends old now x) (sym (front_same ended changed taken taken' more at.os e still (λ f. omega (arith, due f, at.judged.number)))) at.text;
-}
+    → (ended ≡ true → taken' ≡ taken) → (ended ≡ false → given ≤ settled_games taken) → written' ≡ written → IsAt q changed old now taken' given written' s
+retook q changed ended old now taken taken' more given written written' s at e still due w =
+    let same = games_first ended taken taken' more given e still due in
+    record {
+      os = at.os;
+      judged = record {
+        first = items_first kept_item given taken' taken same ∙ at.judged.first;
+        number = at.judged.number;
+        sound = at.judged.sound;
+        totals = at.judged.totals;
+        place = w ∙ at.judged.place ∙ ap (end_of 0) (sym same);
+      };
+      text = subst (λ x. Appends old now x) (sym (front_same ended changed taken taken' more at.os e still (λ f. omega (arith, due f, at.judged.number)))) at.text;
+    }
 
 -- one game more is judged
 judged_more : (q : Question) (taken : List ℕ) (given given' written written' : ℕ) (s : Totals) (os : List Outcome) (o : Outcome) (game : PlacedGame) → IsJudged q taken given written s os → slice_get (placed_games taken) given ≡ Some game

@@ -8,14 +8,25 @@ use Rattle.cha_outcome.specs.declared.questions.Question.TheVariants.{Verdicts, 
 use Rattle.cha_outcome.specs.Items.{line_item}
 use Rattle.pgn_games.specs.declared.played.PlacedGame.{PlacedGame}
 use Rattle.side_by_side.specs.Cuts.{IsAskedAbout}
-use Rattle.side_by_side.specs.declared.cuts.Cut.TheVariants.{Game, Replay, Line}
-use Rattle.adjudicate.specs.Readers.{GameItems, LineItems, ReplayItems, IsAskedOf}
+use Rattle.side_by_side.specs.declared.cuts.Cut.TheVariants.{Game, KeptGame, Replay, Line}
+use Rattle.adjudicate.specs.Readers.{GameItems, KeptItems, LineItems, ReplayItems, IsAskedOf}
 
 -- games are asked about for verdicts alone
 pub games_about : (question : Question) (placed : PlacedGame) → IsAskedOf GameItems question → IsAskedAbout question (Game placed)
 games_about (Verdicts limits draws) placed asked = tt
 games_about (Mates side depth) placed asked = absurd asked
 games_about Plies placed asked = absurd asked
+
+-- and so are games whose results may be corrected
+pub kept_about : (question : Question) (placed : PlacedGame) → IsAskedOf KeptItems question → IsAskedAbout question (KeptGame placed)
+kept_about (Verdicts limits draws) placed asked = tt
+kept_about (Mates side depth) placed asked = absurd asked
+kept_about Plies placed asked = absurd asked
+
+pub kept_asked : (question : Question) → IsAskedOf GameItems question → IsAskedOf KeptItems question
+kept_asked (Verdicts limits draws) asked = tt
+kept_asked (Mates side depth) asked = absurd asked
+kept_asked Plies asked = absurd asked
 
 -- lines for anything but moves
 pub lines_about : (question : Question) (line : TextLine) → IsAskedOf LineItems question → IsAskedAbout question (Line line)

@@ -8,7 +8,7 @@ use Rattle.text_lines.specs.Lines.{line_if, without_return, settled_lines}
 use Rattle.text_lines.specs.Holding.{IsGone}
 use Rattle.text_lines.proofs.Given.{gone_line, none_gone, settled_given, given_settled}
 use Rattle.pgn_games.proofs.Settled.{settled_grow}
-use Rattle.adjudicate.specs.Readers.{ItemKind, GameItems, LineItems, ReplayItems, settled_by}
+use Rattle.adjudicate.specs.Readers.{ItemKind, GameItems, KeptItems, LineItems, ReplayItems, settled_by}
 
 -- a run is no longer than its text
 run_step : (v : Bool) (n size : ℕ) → n ≤ size → (if v then 1 + n else 0) ≤ suc size
@@ -57,5 +57,6 @@ lines_from (suc fuel) gone rest more number given h enough =
 
 pub settled_more : (k : ItemKind) (bytes more : List ℕ) → settled_by k bytes ≤ settled_by k (bytes ++ more)
 settled_more GameItems bytes more = settled_grow bytes more
+settled_more KeptItems bytes more = settled_grow bytes more
 settled_more LineItems bytes more = lines_from (length bytes) [] bytes more 1 0 none_gone (omega arith)
 settled_more ReplayItems bytes more = settled_grow bytes more

@@ -22,12 +22,13 @@ IsWorkAt question items number progress = (item : Item) × (slice_get items numb
 unfoldable pub AreWorkFrom : Question → List Item → ℕ → List Progress → Type 0
 AreWorkFrom question items first queue = (i : ℕ) (progress : Progress) → slice_get queue i ≡ Some progress → IsWorkAt question items (first + i) progress
 
--- What contracts see of a queue: the kind of its items and what is asked about them, the bytes taken, how many items were given, whether
--- the source has ended, and whether a call failed.
+-- What contracts see of a queue: the kind of its items and what is asked about them, the bytes taken, how many of them were written, how
+-- many items were given, whether the source has ended, and whether a call failed.
 pub record BatchesState : Type 0 where
   pub kind : ItemKind
   pub question : Question
   pub taken : List ℕ
+  pub written : ℕ
   pub given : ℕ
   pub ended : Bool
   pub failed : Bool

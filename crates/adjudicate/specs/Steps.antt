@@ -1,9 +1,11 @@
 -- What the writing of an answer gives.
-use Rattle.std.specs.Prelude.{◌≡◌, ◌≢◌, ℕ, ◌≤◌, ◌⊎◌, Bool, true, false, if◌then◌else◌, List, [], Option}
+use Rattle.std.specs.Prelude.{◌≡◌, ◌≢◌, ℕ, ◌≤◌, ◌⊎◌, Bool, true, false, if◌then◌else◌, List, [], Option, Some, None}
 use Rattle.std.specs.Io.KnownBytes.{Appends}
 use Rattle.cha_outside.specs.Faults.{Rose}
 use Rattle.pgn_games.specs.declared.marks.ResultMark.{ResultMark}
 use Rattle.pgn_games.specs.declared.played.Span.{Span}
+use Rattle.cha_outcome.specs.declared.items.Item.{Item}
+use Rattle.cha_outcome.specs.declared.items.Item.TheVariants.{Position, RefusedLine, Played, UnreadableGame, Replayed}
 use Rattle.pgn_results.specs.Keeping.{piece_of, changed_piece, rest_of}
 use Rattle.adjudicate.specs.declared.endings.Status.{Status}
 use Rattle.adjudicate.specs.declared.endings.Status.TheVariants.{Done, Usage, ReadFault, WriteFault, TooLong, NoMemory, NotAccepted}
@@ -33,6 +35,14 @@ pub record IsWritten (d : Demand) (bytes : List ℕ) (status : Status) (old : Op
   pub no_memory : status ≡ NoMemory → new ≡ old
   pub no_other : (status ≢ Usage) × (status ≢ ReadFault) × (status ≢ TooLong)
   pub later : faults ≤ faults'
+
+-- where the game that an item is stands in its text
+abbrev pub place_of : Item → Option Span
+place_of (Position number q) = None
+place_of (RefusedLine number fault) = None
+place_of (Played game) = Some game.span
+place_of (UnreadableGame span why) = Some span
+place_of (Replayed game) = Some game.span
 
 -- what is written of a game, with what stands before it from a place on, or of a game that changes alone
 abbrev pub game_piece : Bool → List ℕ → ℕ → Span → Option ResultMark → List ℕ

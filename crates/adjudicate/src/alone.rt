@@ -90,7 +90,7 @@ pub fn run_alone<S: Source, K: Sink, N: Sink>(
     match parse(words) {
         Some(order) => match order.limits() {
             Some(limits) => by_itself(alloc, &order, &limits, source, sink, notes),
-            None => carry_out_plain(alloc, &order, InTurn, &OneThread, source, sink),
+            None => { carry_out_plain(alloc, &order, &OneByOne, InTurn, &OneThread, source, sink) }
         },
         None => Status::Usage,
     }

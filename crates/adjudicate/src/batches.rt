@@ -6,14 +6,16 @@ ghost use Rattle.std.specs.declared.option.Option.TheVariants.{None};
 ghost use Rattle.std.specs.Io.KnownBytes.{IsAtEnd};
 ghost use Rattle.cha_outside.specs.Faults.{Rose};
 ghost use Rattle.cha_outside.specs.Gathering.{Gathers};
-ghost use Rattle.adjudicate.specs.Readers.{kind_of, taken_by, given_by, has_ended, items_by, settled_by, closed_by, CanGoOn, IsAskedOf};
+ghost use Rattle.adjudicate.specs.Readers.{KeptItems, kind_of, taken_by, written_by, given_by, has_ended, items_by, settled_by, closed_by, CanGoOn, IsAskedOf};
 ghost use Rattle.adjudicate.specs.Batches.{IsCutAt, IsWorkAt, AreWorkFrom};
 ghost use Rattle.adjudicate.specs.Runs.{most_bytes};
+ghost use Rattle.adjudicate.specs.Steps.{game_piece, end_piece};
 
 use crate::readers::ItemReader;
-use cha_list::NoMemory;
+use cha_list::{NoMemory, Text};
 use cha_outcome::Question;
 use cha_outside::{ReadEnd, Source};
+use pgn_games::{ResultMark, Span};
 use side_by_side::{Cut, Hands, Progress};
 use std::alloc::Global;
 use std::collections::VecDeque;
@@ -30,16 +32,16 @@ pub struct Batches<'a, H: Hands> {
     failed: bool,
 }
 
-/// Contracts see the kind of the items and what is asked about them, the bytes taken, how many items were given, whether the source has
-/// ended, and whether a call failed.
+/// Contracts see the kind of the items and what is asked about them, the bytes taken, how many of them were written, how many items were
+/// given, whether the source has ended, and whether a call failed.
 impl<'a, H: Hands> Model for Batches<'a, H> {
     ghost use Rattle.std.specs.Prelude.{◌-◌, length};
-    ghost use Rattle.adjudicate.specs.Readers.{kind_of, taken_by, given_by, has_ended};
+    ghost use Rattle.adjudicate.specs.Readers.{kind_of, taken_by, written_by, given_by, has_ended};
     ghost use Rattle.adjudicate.specs.Batches.{BatchesState, IsQueued};
 
     ghost Value = { BatchesState };
 
-    ghost view = { λ s. record { kind = kind_of s.reader; question = s.question; taken = taken_by s.reader; given = given_by s.reader - length s.queue.items; ended = has_ended s.reader; failed = s.failed } };
+    ghost view = { λ s. record { kind = kind_of s.reader; question = s.question; taken = taken_by s.reader; written = written_by s.reader; given = given_by s.reader - length s.queue.items; ended = has_ended s.reader; failed = s.failed } };
 
     ghost invariant = { λ s. H.ready s.hands.now × IsQueued s.reader s.question s.queue.items s.failed };
 }
@@ -61,6 +63,7 @@ fn batch_of<H: Hands>(
     requires settled { has_ended reader.old ≡ false → given_by reader.old ≤ settled_by (kind_of reader.old) (taken_by reader.old) }
     ensures kind { kind_of reader.new ≡ kind_of reader.old }
     ensures same { (taken_by reader.new ≡ taken_by reader.old) × (has_ended reader.new ≡ has_ended reader.old) }
+    ensures written { written_by reader.new ≡ written_by reader.old }
     ensures goes_on { OnOk result (CanGoOn reader.new) }
     ensures most { OnOk result (given_by reader.new ≤ 2 ^ 62) }
     ensures settled { OnOk result (has_ended reader.new ≡ false → given_by reader.new ≤ settled_by (kind_of reader.old) (taken_by reader.old)) }
@@ -97,7 +100,7 @@ impl<'a, H: Hands> Batches<'a, H> {
         requires goes_on { CanGoOn reader }
         requires asked { IsAskedOf (kind_of reader) question }
         requires first { given_by reader ≡ 0 }
-        ensures { result ≡ record { kind = kind_of reader; question = question; taken = taken_by reader; given = 0; ended = has_ended reader; failed = false } }
+        ensures { result ≡ record { kind = kind_of reader; question = question; taken = taken_by reader; written = written_by reader; given = 0; ended = has_ended reader; failed = false } }
     {
         Batches {
             hands,
@@ -110,7 +113,7 @@ impl<'a, H: Hands> Batches<'a, H> {
 
     /// Whether the text is closed, once its source has ended; a text of lines always is.
     pub fn is_closed(&self) -> bool
-        ensures { self.now.ended ≡ true → result ≡ closed_by self.now.kind self.now.taken }
+        ensures { self.now.ended ≡ true → self.now.failed ≡ false → result ≡ closed_by self.now.kind self.now.taken }
     {
         self.reader.is_closed()
     }
@@ -124,9 +127,11 @@ impl<'a, H: Hands> Batches<'a, H> {
     ) -> Result<Option<Progress>, ReadEnd>
         requires goes_on { self.old.failed ≡ false }
         ensures kind { (self.new.kind ≡ self.old.kind) × (self.new.question ≡ self.old.question) }
+        ensures written { self.new.written ≡ self.old.written }
         ensures bytes { Gathers (S.left source.old) (S.left source.new) self.old.taken self.new.taken }
         ensures work { IfOk result (λ found. IfSome found (IsWorkAt self.old.question (items_by self.old.kind self.new.taken) self.old.given)) }
         ensures given { IfOk result (λ found. IfSome found (λ progress. (self.new.given ≡ self.old.given + 1) × (self.old.given < 2 ^ 62))) }
+        ensures still { self.old.ended ≡ true → self.new.taken ≡ self.old.taken }
         ensures still_ended { self.old.ended ≡ true → self.new.ended ≡ true }
         ensures before_end { self.new.ended ≡ false → IfOk result (λ found. IfSome found (λ progress. self.old.given < settled_by self.old.kind self.new.taken)) }
         ensures none { result ≡ Ok None → (self.new.ended ≡ true) × (length (items_by self.old.kind self.new.taken) ≤ self.old.given) }
@@ -160,5 +165,33 @@ impl<'a, H: Hands> Batches<'a, H> {
                 Err(ReadEnd::NoMemory)
             }
         }
+    }
+
+    /// What is written of the next game that was not written, where games may be corrected: with `changed` of those that change alone.
+    /// All up to its end counts as written.
+    pub fn text_of_game(
+        &mut self,
+        changed: bool,
+        span: Span,
+        mark: Option<ResultMark>,
+    ) -> Result<Text, NoMemory>
+        requires kept { self.old.kind ≡ KeptItems }
+        requires goes_on { self.old.failed ≡ false }
+        requires place { (self.old.written ≤ span.start) × (span.start ≤ span.end) × (span.end ≤ length self.old.taken) }
+        ensures text { IfOk result (λ text. text ≡ game_piece changed self.old.taken self.old.written span mark) }
+        ensures written { OnOk result (self.new.written ≡ span.end) }
+        ensures kind { (self.new.kind ≡ self.old.kind) × (self.new.question ≡ self.old.question) }
+        ensures same { (self.new.taken ≡ self.old.taken) × (self.new.given ≡ self.old.given) × (self.new.ended ≡ self.old.ended) × (self.new.failed ≡ self.old.failed) }
+    {
+        self.reader.text_of_game(changed, span, mark)
+    }
+
+    /// What is written of the text behind its last game, where games may be corrected; with `changed` nothing.
+    pub fn behind(&self, changed: bool) -> &[u8]
+        requires kept { self.now.kind ≡ KeptItems }
+        requires goes_on { self.now.failed ≡ false }
+        ensures { result.now ≡ end_piece changed self.now.taken self.now.written }
+    {
+        self.reader.behind(changed)
     }
 }

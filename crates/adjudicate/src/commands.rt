@@ -27,7 +27,7 @@ use flag_report::{BlockForm, Notation, Style, Subject};
 use helpmate_list::Spread;
 use json_report::Extras;
 use root_workers::Crew;
-use side_by_side::{Hands, OneByOne};
+use side_by_side::Hands;
 use std::alloc::Global;
 
 /// What becomes of drawn games whose flag fell.
@@ -103,7 +103,7 @@ pub fn carry_out<H: Hands, C: Crew, S: Source, K: Sink, N: Sink>(
                 draws: draws_of(*flagged_draws),
                 crew,
             };
-            correct_games(alloc, *changed, &mut judge, source, sink, notes)
+            correct_games(alloc, *changed, hands, &mut judge, source, sink, notes)
         }
         Order::JudgePositions { limits, printing } => {
             let mut judge = VerdictsJudge {
@@ -137,14 +137,16 @@ pub fn carry_out<H: Hands, C: Crew, S: Source, K: Sink, N: Sink>(
 
 /// Reads a source to its end, and writes what an order asks for that needs no search for verdicts: the answer on a certificate,
 /// the shortest mates of each line, or the moves of each game.
-pub fn carry_out_plain<P: Spread + Drop, C: Checker, S: Source, K: Sink>(
+pub fn carry_out_plain<H: Hands, P: Spread + Drop, C: Checker, S: Source, K: Sink>(
     alloc: Global,
     order: &Order,
+    hands: &H,
     spread: P,
     checker: &C,
     source: &mut S,
     sink: &mut K,
 ) -> Status
+    requires hands { H.ready hands.now }
     requires ready { P.ready spread }
     requires checks { C.ready checker.now }
     requires no_search { limits_in order.now ≡ None }
@@ -169,13 +171,13 @@ pub fn carry_out_plain<P: Spread + Drop, C: Checker, S: Source, K: Sink>(
                 style: style_of(*printing),
                 subject: Subject::Mates,
             };
-            report_lines(alloc, form, &OneByOne, &mut judge, source, sink)
+            report_lines(alloc, form, hands, &mut judge, source, sink)
         }
         Order::ReplayGames { printing } => {
             report_replays(
                 alloc,
                 style_of(*printing),
-                &OneByOne,
+                hands,
                 &mut PliesJudge,
                 source,
                 sink,

@@ -103,6 +103,7 @@ pub fn run<R: Threads + Wait + Sync, S: Source, K: Sink, N: Sink>(
             None => carry_out_plain(
                 alloc,
                 &order,
+                &Threaded::new(rt, threads_for(&order)),
                 InThreads::new(rt),
                 &SeveralThreads::new(rt),
                 source,
@@ -110,6 +111,21 @@ pub fn run<R: Threads + Wait + Sync, S: Source, K: Sink, N: Sink>(
             ),
         },
         None => Status::Usage,
+    }
+}
+
+/// How many threads may work on an order that needs no search for verdicts. Moves are told by one.
+fn threads_for(order: &Order) -> u32
+    ensures { 1 ≤ result }
+{
+    match order {
+        Order::ListMates { workers, .. } => (*workers).max(1),
+        Order::ReplayGames { .. } => 1,
+        Order::CheckCert => 1,
+        Order::AdjudicateGames { .. } => 1,
+        Order::CorrectGames { .. } => 1,
+        Order::JudgePositions { .. } => 1,
+        Order::GenGames { .. } => 1,
     }
 }
 

@@ -1,5 +1,6 @@
 //! Games and positions that are judged side by side: the bytes are those of one worker.
 
+use crate::corrections::ROWS;
 use crate::known::TABLES;
 use crate::running::{InPieces, Ran, run_in_pieces, run_on};
 use adjudicate::Status;
@@ -13,12 +14,15 @@ const GAMES: &[&str] = &[
     "adjudicate --budget 300 --depth 2",
     "adjudicate --budget 1 --depth 2 --json --certs",
     "correct --budget 300 --depth 2",
+    "correct --budget 300 --depth 2 --changed",
 ];
 
 const POSITIONS: &[&str] = &[
     "position --budget 300 --depth 2 --certs",
     "position --budget 1 --depth 2 --san",
 ];
+
+const MATES: &[&str] = &["mates w --depth 2", "mates b --depth 3 --san"];
 
 /// The first positions of each table, one on each line, with a line that is none in the middle.
 fn positions(alloc: Global) -> Result<String, Fail> {
@@ -104,10 +108,84 @@ fn more_workers_change_no_byte_of_games(rt: HostRuntime) -> Result<(), Fail> {
     Ok(())
 }
 
+/// A text so many times, each with a line feed behind it or not.
+fn repeated(alloc: Global, text: &str, feeds: bool) -> Result<String, Fail> {
+    let mut whole = String::new(alloc);
+    for _ in 0..9 {
+        whole.push_str(text)?;
+        if feeds {
+            whole.push('\n')?;
+        }
+    }
+    Ok(whole)
+}
+
+/// Whether so many workers write this output, also where the input comes in pieces, and note what one worker does.
+fn all_write<R: Threads + Wait + Sync>(
+    rt: &R,
+    alloc: Global,
+    words: &str,
+    input: &str,
+    output: &str,
+) -> Result<bool, Fail> {
+    let one = with_workers(rt, alloc, words, 1, input)?;
+    let mut right = one.text() == output && one.status == Status::Done;
+    for workers in [2u32, 4] {
+        let whole = with_workers(rt, alloc, words, workers, input)?;
+        right = right && whole.status == Status::Done;
+        right = right && whole.text() == output && whole.noted == one.noted;
+        let line = format!(in alloc; "{words} --workers {workers}")?;
+        for size in [7u32, 777] {
+            let asked = InPieces {
+                line: line.as_str(),
+                input,
+                sizes: &[size],
+                read: 0,
+                room: 1_000_000,
+                write: 0,
+            };
+            let pieces = run_in_pieces(rt, alloc, &asked)?;
+            right = right && pieces.status == Status::Done;
+            right = right && pieces.text() == output && pieces.noted == one.noted;
+        }
+    }
+    Ok(right)
+}
+
+/// Each row of known corrections nine times, with a line feed behind each: so many games come together that threads judge them. With
+/// `--changed` the line feeds, which stand between the games, are not written.
+#[test]
+fn games_that_come_together_get_the_right_results(rt: HostRuntime) -> Result<(), Fail> {
+    let alloc = rt.alloc();
+    for (words, input, output, _) in ROWS {
+        let input = repeated(alloc, input, true)?;
+        let output = repeated(alloc, output, !words.ends_with("--changed"))?;
+        assert_eq!(rt;
+            all_write(&rt, alloc, words, input.as_str(), output.as_str())?,
+            true,
+            "{words}: {input}"
+        );
+    }
+    Ok(())
+}
+
 #[test]
 fn more_workers_change_no_byte_of_positions(rt: HostRuntime) -> Result<(), Fail> {
     let input = positions(rt.alloc())?;
     for words in POSITIONS {
+        assert_eq!(rt;
+            all_alike(&rt, rt.alloc(), words, input.as_str())?,
+            true,
+            "{words}"
+        );
+    }
+    Ok(())
+}
+
+#[test]
+fn more_workers_change_no_byte_of_mates(rt: HostRuntime) -> Result<(), Fail> {
+    let input = positions(rt.alloc())?;
+    for words in MATES {
         assert_eq!(rt;
             all_alike(&rt, rt.alloc(), words, input.as_str())?,
             true,

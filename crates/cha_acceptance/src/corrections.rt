@@ -10,7 +10,7 @@ use std::thread::Threads;
 
 /// Words, an input, the whole output, and the summary. Each game was judged by hand: fool's mate is won by Black (Laws of Chess,
 /// Article 5.1.1), two kings are a draw (Article 5.2.2), and a bare king cannot win on time (Article 6.9).
-const ROWS: &[(&str, &str, &str, &str)] = &[
+pub const ROWS: &[(&str, &str, &str, &str)] = &[
     // The result as a token alone, with the tag, and with the tag alone: nothing is added.
     (
         "correct",

@@ -1,5 +1,5 @@
 -- What is known of the work on an item, by how far it has come.
-use Rattle.std.proofs.Common.{◌≡◌, ◌∙◌, Result, Ok, Err, IfOk, sym, subst}
+use Rattle.std.proofs.Common.{◌≡◌, ◌∙◌, Result, Ok, Err, Option, IfOk, sym, subst}
 use Rattle.cha_list.specs.declared.memory.NoMemory.{NoMemory}
 use Rattle.cha_outcome.specs.declared.items.Item.{Item}
 use Rattle.cha_outcome.specs.declared.outcomes.Outcome.{Outcome}
@@ -57,13 +57,13 @@ read_answers q p i result is answers item of =
     subst A (subst P is of).0 answers
 
 -- of what is judged
-pub judged_answers : (q : Question) (p : Progress) (o : Outcome) → p ≡ Judged o → (item : Item) → IsOf q item p → Answers q item o
-judged_answers q p o is item of =
+pub judged_answers : (q : Question) (p : Progress) (o : Outcome) (cut : Option Cut) → p ≡ Judged o cut → (item : Item) → IsOf q item p → Answers q item o
+judged_answers q p o cut is item of =
     let P : Progress → Type 0 = λ x. IsOf q item x in
     (subst P is of).0
 
-pub judged_printable : (q : Question) (p : Progress) (o : Outcome) → p ≡ Judged o → IsAsked q p → IsPrintableOutcome o
-judged_printable q p o is asked =
+pub judged_printable : (q : Question) (p : Progress) (o : Outcome) (cut : Option Cut) → p ≡ Judged o cut → IsAsked q p → IsPrintableOutcome o
+judged_printable q p o cut is asked =
     let P : Progress → Type 0 = λ x. IsAsked q x in
     (subst P is asked).1.1
 

@@ -12,7 +12,7 @@ use Rattle.side_by_side.specs.Cuts.{item_of_cut, IsReadable, IsAskedAbout}
 abbrev pub IsOf : Question → Item → Progress → Type 0
 IsOf question item (OnlyCut cut) = (item_of_cut cut ≡ item) × IsReadable cut × IsAskedAbout question cut
 IsOf question item (Read i) = (i ≡ item) × CanBeAsked question item
-IsOf question item (Judged o) = Answers question item o × IsPrintableOutcome o
+IsOf question item (Judged o cut) = Answers question item o × IsPrintableOutcome o
 
 -- it is the work on some item about which the question is asked
 abbrev pub IsAsked : Question → Progress → Type 0

@@ -17,8 +17,9 @@ pub enum Progress {
     Cut(Cut),
     /// It is read.
     Read(Item),
-    /// It is judged.
-    Judged(Outcome),
+    /// It is judged. What it was cut as goes with the outcome, so that its memory is given back where it was taken: threads that give
+    /// back what another one took wait for one another at the heap.
+    Judged { outcome: Outcome, cut: Option<Cut> },
 }
 
 /// What a judge finds about an item.
@@ -57,6 +58,6 @@ pub fn finish<J: Judge>(
             judged(alloc, judge, item)
         }
         Progress::Read(item) => judged(alloc, judge, item),
-        Progress::Judged(outcome) => Ok(outcome),
+        Progress::Judged { outcome, cut: _ } => Ok(outcome),
     }
 }

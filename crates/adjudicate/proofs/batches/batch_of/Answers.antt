@@ -15,6 +15,7 @@ loop-reader-init g c =
     rw (c.in-Ok.ensures.items, c.new-batch.ensures.items) (record {
       kind = refl;
       same = refl;
+      written = refl;
       ended = refl;
       goes_on = c.requires.goes_on;
       most = c.requires.most;
@@ -39,6 +40,7 @@ loop-reader-preserved g c =
     rw c.in-Ok-push.ensures.items (record {
       kind = e.kind ∙ i.kind;
       same = e.same.0 ∙ i.same;
+      written = e.written ∙ i.written;
       ended = e.same.1 ∙ i.ended;
       goes_on = c.in_ok-cut.ensures.goes_on;
       most = omega (arith, given.0, given.1);

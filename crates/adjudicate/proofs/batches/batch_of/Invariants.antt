@@ -1,5 +1,5 @@
 use Rattle.std.proofs.Common.{◌≡◌, ◌+◌, ◌-◌, ◌^◌, ◌≤◌, false, length}
-use Rattle.adjudicate.specs.Readers.{kind_of, taken_by, given_by, has_ended, items_by, settled_by, CanGoOn}
+use Rattle.adjudicate.specs.Readers.{kind_of, taken_by, written_by, given_by, has_ended, items_by, settled_by, CanGoOn}
 use Rattle.adjudicate.specs.Batches.{AreWorkFrom}
 use Rattle.adjudicate.proofs.batches.batch_of.Given as goal
 
@@ -8,6 +8,7 @@ abbrev pub invariant-loop-reader : goal.invariant-loop-reader
 invariant-loop-reader g l = record {
   kind : kind_of l.reader ≡ kind_of l.fn.reader;
   same : taken_by l.reader ≡ taken_by l.fn.reader;
+  written : written_by l.reader ≡ written_by l.fn.reader;
   ended : has_ended l.reader ≡ has_ended l.fn.reader;
   goes_on : CanGoOn l.reader;
   most : given_by l.reader ≤ 2 ^ 62;

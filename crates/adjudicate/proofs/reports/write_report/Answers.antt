@@ -44,7 +44,7 @@ returns-in_default-clause-run g c = λ left faults consumed before. (
     let few = not_more _ 268435456 (λ long. let f = sym c.in-Ok.is ∙ e.too_long.1 long in cc) in
     let none = e.none (c.in-Ok.is ∙ ap Ok c.in_default.is) in
     let last = c.end_report.ensures in
-    let shut = same_closed _ _ _ _ (e.kind.0 ∙ i.kind) (c.is_closed.ensures none.0) in
+    let shut = same_closed _ _ _ _ (e.kind.0 ∙ i.kind) (c.is_closed.ensures none.0 (rw c.in-Ok.is at e.failed)) in
     all_judged _ _ _ _ _ _ _ _ _ _ at _ _ _ _ all (omega (arith, before, i.source_later, e.later)) _ _ _ shut (omega (arith, last.later, i.sink_later)) few (same_count _ _ _ _ i.kind none.1) (e.end i.end none.0)
     last.whole last.cut last.no_memory (λ is. rose_in _ _ _ i.sink_later (last.cause is)) last.either)
 

@@ -76,6 +76,11 @@ export interface RefusedPosition {
     refused: "shape" | "kings" | "pawn rank" | "opponent in check";
 }
 
+/** A position's shortest mates, from `mates`: up to 200 lines, with `more` where there are others; or no mate within `depth` plies. */
+export type Mates =
+    | { position: number; line: number; fen: string; plies: number; lines: { moves: string[]; san: string[] }[]; more: boolean }
+    | { position: number; line: number; fen: string; plies: null; depth: number };
+
 /** A game's plies, from `replay`: of an unreadable game those before its first fault. */
 export interface Replay {
     game: number;
@@ -89,4 +94,4 @@ export interface Replay {
 /** The last line. */
 export type Summary = Record<string, number | boolean>;
 
-export type Line = Game | UnreadableGame | Position | RefusedPosition | Replay | Summary;
+export type Line = Game | UnreadableGame | Position | RefusedPosition | Mates | Replay | Summary;

@@ -1,5 +1,5 @@
 -- A queue of work on items: how it grows, how it is worked on, and how its first goes.
-use Rattle.std.proofs.Common.{IfSome, ◌≡◌, ℕ, zero, suc, ◌+◌, ◌-◌, ◌^◌, ◌<◌, ◌≤◌, ◌⊎◌, inl, inr, Bool, true, false, List, [], ◌∷◌, ◌++◌, length, Option, Some, None, slice_get, slice_index_or, take, drop, option_to_list, refl, sym, ap, ◌∙◌, arith, subst}
+use Rattle.std.proofs.Common.{IfSome, ◌≡◌, ℕ, zero, suc, ◌+◌, ◌-◌, ◌^◌, ◌<◌, ◌≤◌, ◌⊎◌, inl, inr, Bool, true, false, List, [], ◌∷◌, ◌++◌, length, Option, Some, None, slice_get, slice_index_or, take, drop, option_to_list, length-append, refl, sym, ap, ◌∙◌, arith, subst}
 use Rattle.std.proofs.Math.Seq.{take-append_seam}
 use Rattle.cha_outcome.specs.declared.items.Item.{Item}
 use Rattle.cha_outcome.specs.declared.questions.Question.{Question}
@@ -46,6 +46,24 @@ unfolding AreWorkFrom
 pushed question items first queue p work one = λ i x e. elim (in_front queue p i x e) [
   | inl before ↦ work i x before
   | inr end ↦ subst (λ n. IsWorkAt question items (first + n) x) (sym end.0) (subst (λ y. IsWorkAt question items (first + length queue) y) (sym end.1) one)
+]
+
+in_either : (xs ys : List Progress) (i : ℕ) (p : Progress) → slice_get (xs ++ ys) i ≡ Some p → (slice_get xs i ≡ Some p) ⊎ ((k : ℕ) × (i ≡ length xs + k) × (slice_get ys k ≡ Some p))
+in_either [] ys i p e = inr (i, refl, e)
+in_either (x ∷ xs) ys zero p e = inl e
+in_either (x ∷ xs) ys (suc i) p e = elim (in_either xs ys i p e) [
+  | inl more ↦ inl more
+  | inr end ↦ inr (end.0, ap suc end.1, end.2)
+]
+
+-- more behind them
+appended : (question : Question) (items : List Item) (first : ℕ) (xs ys : List Progress) → AreWorkFrom question items first xs → AreWorkFrom question items (first + length xs) ys → AreWorkFrom question items first (xs ++ ys)
+unfolding AreWorkFrom
+appended question items first xs ys work behind = λ i x e. elim (in_either xs ys i x e) [
+  | inl before ↦ work i x before
+  | inr end ↦ (
+      let place : first + length xs + end.0 ≡ first + i = omega (arith, end.1) in
+      subst (λ n. IsWorkAt question items n x) place (behind end.0 x end.2))
 ]
 
 -- each is asked about
@@ -110,24 +128,24 @@ popped reader question p queue failed h =
     }
 
 -- its work
-pub first_work : (reader : ItemReader) (question : Question) (p : Progress) (queue all : List Progress) (failed : Bool) → all ≡ p ∷ queue → IsQueued reader question all failed
-    → IsWorkAt question (items_by (kind_of reader) (taken_by reader)) (given_by reader - length all) p
-first_work reader question p queue all failed e h =
+pub first_work : (reader : ItemReader) (question : Question) (p : Progress) (queue all behind : List Progress) (failed : Bool) → all ≡ p ∷ queue → IsQueued reader question (all ++ behind) failed
+    → IsWorkAt question (items_by (kind_of reader) (taken_by reader)) (given_by reader - length (all ++ behind)) p
+first_work reader question p queue all behind failed e h =
     let items = items_by (kind_of reader) (taken_by reader) in
-    let n = given_by reader - length all in
-    first_of question items n p queue (subst (λ q. AreWorkFrom question items n q) e h.work)
+    let n = given_by reader - length (all ++ behind) in
+    first_of question items n p (queue ++ behind) (subst (λ q. AreWorkFrom question items n (q ++ behind)) e h.work)
 
 -- whatever is taken from the front
-pub popped_any : (reader : ItemReader) (question : Question) (found : Option Progress) (all queue : List Progress) (failed : Bool) → all ≡ option_to_list found ++ queue → IsQueued reader question all failed → IsQueued reader question queue failed
-popped_any reader question None all queue failed e h = subst (λ q. IsQueued reader question q failed) e h
-popped_any reader question (Some p) all queue failed e h = popped reader question p queue failed (subst (λ q. IsQueued reader question q failed) e h)
+pub popped_any : (reader : ItemReader) (question : Question) (found : Option Progress) (all queue behind : List Progress) (failed : Bool) → all ≡ option_to_list found ++ queue → IsQueued reader question (all ++ behind) failed → IsQueued reader question (queue ++ behind) failed
+popped_any reader question None all queue behind failed e h = subst (λ q. IsQueued reader question (q ++ behind) failed) e h
+popped_any reader question (Some p) all queue behind failed e h = popped reader question p (queue ++ behind) failed (subst (λ q. IsQueued reader question (q ++ behind) failed) e h)
 
 -- it is work on the item with the first number
-pub first_found : (question : Question) (found : Option Progress) (all queue : List Progress) (k k' : ItemKind) (t t' : List ℕ) (n n' : ℕ) → k' ≡ k → t' ≡ t → n' ≡ n → all ≡ option_to_list found ++ queue → AreWorkFrom question (items_by k t) n all
+pub first_found : (question : Question) (found : Option Progress) (all queue behind : List Progress) (k k' : ItemKind) (t t' : List ℕ) (n n' : ℕ) → k' ≡ k → t' ≡ t → n' ≡ n → all ≡ option_to_list found ++ queue → AreWorkFrom question (items_by k t) n (all ++ behind)
     → IfSome found (IsWorkAt question (items_by k' t') n')
-first_found question None all queue k k' t t' n n' kind taken number e work = tt
-first_found question (Some p) all queue k k' t t' n n' kind taken number e work =
-    let one = first_of question (items_by k t) n p queue (subst (λ q. AreWorkFrom question (items_by k t) n q) e work) in
+first_found question None all queue behind k k' t t' n n' kind taken number e work = tt
+first_found question (Some p) all queue behind k k' t t' n n' kind taken number e work =
+    let one = first_of question (items_by k t) n p (queue ++ behind) (subst (λ q. AreWorkFrom question (items_by k t) n (q ++ behind)) e work) in
     subst (λ x. IsWorkAt question (items_by x t') n' p) (sym kind) (subst (λ x. IsWorkAt question (items_by k x) n' p) (sym taken) (subst (λ x. IsWorkAt question (items_by k t) x p) (sym number) one))
 
 -- a queue without an element, by its length
@@ -151,26 +169,67 @@ none_left reader reader' question old queue failed h none kind given goes_on end
 pub failed_queue : (reader reader' : ItemReader) (question : Question) (old queue : List Progress) (failed : Bool) → IsQueued reader question old failed → queue ≡ [] → kind_of reader' ≡ kind_of reader → IsQueued reader' question queue true
 failed_queue reader reader' question old queue failed h none kind = subst (λ q. IsQueued reader' question q true) (sym none) (no_queue reader' question (subst (λ k. IsAskedOf k question) (sym kind) h.asked))
 
--- where a batch was read
-pub new_queue : (reader reader' : ItemReader) (question : Question) (batch : List Progress) (failed : Bool) → IsAskedOf (kind_of reader) question → kind_of reader' ≡ kind_of reader → taken_by reader' ≡ taken_by reader → CanGoOn reader' → given_by reader' ≤ 2 ^ 62
-    → (has_ended reader' ≡ false → given_by reader' ≤ settled_by (kind_of reader) (taken_by reader)) → given_by reader' + 1 ≡ given_by reader + length batch → 1 ≤ given_by reader
-    → AreWorkFrom question (items_by (kind_of reader) (taken_by reader)) (given_by reader - 1) batch → IsQueued reader' question batch failed
-new_queue reader reader' question batch failed asked kind taken goes_on most settled count some work =
-    let first : given_by reader - 1 ≡ given_by reader' - length batch = omega (arith, count, some) in
+-- work on the items of these bytes that were given last
+queued : (reader : ItemReader) (question : Question) (k : ItemKind) (t : List ℕ) (first : ℕ) (queue : List Progress) → kind_of reader ≡ k → taken_by reader ≡ t → given_by reader ≡ first + length queue → IsAskedOf k question → CanGoOn reader → given_by reader ≤ 2 ^ 62
+    → (has_ended reader ≡ false → given_by reader ≤ settled_by k t) → AreWorkFrom question (items_by k t) first queue → IsQueued reader question queue false
+queued reader question k t first queue kind taken given asked goes_on most settled work =
+    let start : first ≡ given_by reader - length queue = omega (arith, given) in
     record {
-      asked = subst (λ k. IsAskedOf k question) (sym kind) asked;
-      few = omega (arith, count, some);
-      work = subst (λ k. AreWorkFrom question (items_by k (taken_by reader')) (given_by reader' - length batch) batch) (sym kind)
-          (subst (λ t. AreWorkFrom question (items_by (kind_of reader) t) (given_by reader' - length batch) batch) (sym taken) (subst (λ n. AreWorkFrom question (items_by (kind_of reader) (taken_by reader)) n batch) first work));
+      asked = subst (λ x. IsAskedOf x question) (sym kind) asked;
+      few = omega (arith, given);
+      work = subst (λ x. AreWorkFrom question (items_by x (taken_by reader)) (given_by reader - length queue) queue) (sym kind)
+          (subst (λ x. AreWorkFrom question (items_by k x) (given_by reader - length queue) queue) (sym taken) (subst (λ n. AreWorkFrom question (items_by k t) n queue) start work));
       goes_on = λ _. goes_on;
       most = λ _. most;
-      settled = λ _ more_comes. subst (λ k. given_by reader' ≤ settled_by k (taken_by reader')) (sym kind) (subst (λ t. given_by reader' ≤ settled_by (kind_of reader) t) (sym taken) (settled more_comes));
+      settled = λ _ more_comes. subst (λ x. given_by reader ≤ settled_by x (taken_by reader)) (sym kind) (subst (λ x. given_by reader ≤ settled_by k x) (sym taken) (settled more_comes));
     }
 
+-- an item that has come
+pub come : (reader reader' : ItemReader) (question : Question) (cut : Cut) → IsAskedOf (kind_of reader) question → kind_of reader' ≡ kind_of reader → CanGoOn reader' → given_by reader' ≡ given_by reader + 1 → given_by reader < 2 ^ 62
+    → (has_ended reader' ≡ false → given_by reader < settled_by (kind_of reader) (taken_by reader')) → IsCutAt (kind_of reader) (taken_by reader') (given_by reader) cut → IsQueued reader' question (OnlyCut cut ∷ []) false
+come reader reader' question cut asked kind goes_on given few settled at =
+    let n = given_by reader in
+    let items = items_by (kind_of reader) (taken_by reader') in
+    let none : n + 0 ≡ n = omega arith in
+    let one = subst (λ m. IsWorkAt question items m (OnlyCut cut)) (sym none) (cut_is_work question (kind_of reader) (taken_by reader') n cut asked at) in
+    queued reader' question (kind_of reader) (taken_by reader') n (OnlyCut cut ∷ []) kind refl given asked goes_on (omega (arith, given, few)) (λ more_comes. (let s = settled more_comes in omega (arith, given, s)))
+    (pushed question items n [] (OnlyCut cut) (no_work question items n) one)
+
 -- one more is cut
-pub one_more : (question : Question) (k k' : ItemKind) (t t' : List ℕ) (n n' : ℕ) (cut : Cut) → IsAskedOf k question → k' ≡ k → t' ≡ t → n' ≡ n → IsCutAt k' t' n' cut → IsWorkAt question (items_by k t) n (OnlyCut cut)
-one_more question k k' t t' n n' cut asked kind taken place at =
-    cut_is_work question k t n cut asked (subst (λ x. IsCutAt x t n cut) kind (subst (λ x. IsCutAt k' x n cut) taken (subst (λ x. IsCutAt k' t' x cut) place at)))
+pub one_more : (reader reader' : ItemReader) (question : Question) (queue : List Progress) (cut : Cut) → IsQueued reader question queue false → kind_of reader' ≡ kind_of reader → taken_by reader' ≡ taken_by reader → CanGoOn reader' → given_by reader' ≡ given_by reader + 1 → given_by reader < 2 ^ 62
+    → given_by reader < settled_by (kind_of reader) (taken_by reader) → IsCutAt (kind_of reader) (taken_by reader) (given_by reader) cut → IsQueued reader' question (queue ++ OnlyCut cut ∷ []) false
+one_more reader reader' question queue cut h kind taken goes_on given few settled at =
+    let items = items_by (kind_of reader) (taken_by reader) in
+    let size : length (queue ++ OnlyCut cut ∷ []) ≡ length queue + 1 = length-append queue (OnlyCut cut ∷ []) in
+    let first = given_by reader - length queue in
+    let place : given_by reader ≡ first + length queue = omega (arith, h.few) in
+    let one = subst (λ n. IsWorkAt question items n (OnlyCut cut)) place (cut_is_work question (kind_of reader) (taken_by reader) (given_by reader) cut h.asked at) in
+    queued reader' question (kind_of reader) (taken_by reader) first (queue ++ OnlyCut cut ∷ []) kind taken (omega (arith, size, given, place)) h.asked goes_on (omega (arith, given, few)) (λ _. omega (arith, given, settled))
+    (pushed question items first queue (OnlyCut cut) h.work one)
+
+-- nothing behind what is queued
+pub none_behind : (reader : ItemReader) (question : Question) (queue : List Progress) (failed : Bool) → IsQueued reader question queue failed → IsQueued reader question [] failed
+none_behind reader question queue failed h = record {
+  asked = h.asked;
+  few = omega arith;
+  work = no_work question (items_by (kind_of reader) (taken_by reader)) (given_by reader - 0);
+  goes_on = h.goes_on;
+  most = h.most;
+  settled = h.settled;
+}
+
+-- what was worked on, and what was cut behind it meanwhile
+pub joined : (reader reader' : ItemReader) (question : Question) (batch worked cut : List Progress) → IsQueued reader question batch false → kind_of reader' ≡ kind_of reader → taken_by reader' ≡ taken_by reader → given_by reader' ≡ given_by reader + length cut → length worked ≡ length batch
+    → AreWorkFrom question (items_by (kind_of reader) (taken_by reader)) (given_by reader - length batch) worked → IsQueued reader' question cut false → IsQueued reader' question (worked ++ cut) false
+joined reader reader' question batch worked cut h kind taken given size work behind =
+    let k = kind_of reader' in
+    let t = taken_by reader' in
+    let first = given_by reader - length batch in
+    let both : length (worked ++ cut) ≡ length worked + length cut = length-append worked cut in
+    let place : given_by reader' - length cut ≡ first + length worked = omega (arith, h.few, given, size) in
+    let before = subst (λ x. AreWorkFrom question (items_by x t) first worked) (sym kind) (subst (λ x. AreWorkFrom question (items_by (kind_of reader) x) first worked) (sym taken) work) in
+    let rest = subst (λ n. AreWorkFrom question (items_by k t) n cut) place behind.work in
+    queued reader' question k t first (worked ++ cut) refl refl (omega (arith, both, size, given, h.few)) behind.asked (behind.goes_on refl) (behind.most refl) (behind.settled refl) (appended question (items_by k t) first worked cut before rest)
 
 -- what was worked on stands in its list again
 pub worked_back : (question : Question) (items : List Item) (first : ℕ) (old view new : List Progress) (len : ℕ) → len ≡ length old → view ≡ old → AreWorkFrom question items first old → length new ≡ length view → AllGoOn question view new

@@ -29,7 +29,6 @@ ghost use Rattle.adjudicate.specs.Truth.{usual, ReportsTruth};
 use crate::commands::{carry_out, carry_out_plain};
 use crate::correcting::corrected_games_stay;
 use crate::endings::Status;
-use cert_par::OneThread;
 use cha_limits::Limits;
 use cha_outcome::found_results_stay;
 use cha_outside::{MOST_BYTES, Sink, Source};
@@ -90,7 +89,7 @@ pub fn run_alone<S: Source, K: Sink, N: Sink>(
     match parse(words) {
         Some(order) => match order.limits() {
             Some(limits) => by_itself(alloc, &order, &limits, source, sink, notes),
-            None => { carry_out_plain(alloc, &order, &OneByOne, InTurn, &OneThread, source, sink) }
+            None => carry_out_plain(alloc, &order, &OneByOne, InTurn, source, sink)
         },
         None => Status::Usage,
     }

@@ -1,13 +1,15 @@
 //! Items that have come whole are worked on together.
 
-ghost use Rattle.std.specs.Prelude.{◌≡◌, ◌≤◌, ◌<◌, ◌+◌, ◌-◌, ◌^◌, ◌↔◌, [], true, false, length, take, is_err, IfOk, IfSome, OnOk};
+ghost use Rattle.std.specs.Prelude.{◌≡◌, ◌≤◌, ◌<◌, ◌+◌, ◌-◌, ◌^◌, ◌↔◌, [], ◌∷◌, ◌++◌, true, false, length, take, is_err, IfOk, IfSome, OnOk};
 ghost use Rattle.std.specs.declared.result.Result.TheVariants.{Ok, Err};
 ghost use Rattle.std.specs.declared.option.Option.TheVariants.{None};
 ghost use Rattle.std.specs.Io.KnownBytes.{IsAtEnd};
 ghost use Rattle.cha_outside.specs.Faults.{Rose};
 ghost use Rattle.cha_outside.specs.Gathering.{Gathers};
 ghost use Rattle.adjudicate.specs.Readers.{KeptItems, kind_of, taken_by, written_by, given_by, has_ended, items_by, settled_by, closed_by, CanGoOn, IsAskedOf};
-ghost use Rattle.adjudicate.specs.Batches.{IsCutAt, IsWorkAt, AreWorkFrom};
+ghost use Rattle.cha_outcome.specs.declared.questions.Question.{Question as Asked};
+ghost use Rattle.side_by_side.specs.declared.progress.Progress.TheVariants.{Cut as OnlyCut};
+ghost use Rattle.adjudicate.specs.Batches.{IsCutAt, IsWorkAt, IsQueued};
 ghost use Rattle.adjudicate.specs.Runs.{most_bytes};
 ghost use Rattle.adjudicate.specs.Steps.{game_piece, end_piece};
 
@@ -20,72 +22,142 @@ use side_by_side::{Cut, Hands, Progress};
 use std::alloc::Global;
 use std::collections::VecDeque;
 use std::marker::Model;
+use std::mem;
+
+/// What is queued: items that were worked on, and behind them items that are only cut, for the next batch.
+#[derive(Drop)]
+struct Queue {
+    worked: VecDeque<Progress>,
+    cut: Vec<Progress>,
+}
 
 /// Gives the items of a reader one at a time, in order. Those that are whole in what was read are worked on together before the first
-/// of them is given, as far as that needs no search by a crew.
+/// of them is given, as far as that needs no search by a crew; while some are worked on, those behind them are cut.
 #[derive(Drop)]
 pub struct Batches<'a, H: Hands> {
     hands: &'a H,
     reader: ItemReader,
     question: Question,
-    queue: VecDeque<Progress>,
+    queue: Queue,
     failed: bool,
 }
 
 /// Contracts see the kind of the items and what is asked about them, the bytes taken, how many of them were written, how many items were
 /// given, whether the source has ended, and whether a call failed.
 impl<'a, H: Hands> Model for Batches<'a, H> {
-    ghost use Rattle.std.specs.Prelude.{◌-◌, length};
+    ghost use Rattle.std.specs.Prelude.{◌-◌, ◌++◌, length};
     ghost use Rattle.adjudicate.specs.Readers.{kind_of, taken_by, written_by, given_by, has_ended};
     ghost use Rattle.adjudicate.specs.Batches.{BatchesState, IsQueued};
 
     ghost Value = { BatchesState };
 
-    ghost view = { λ s. record { kind = kind_of s.reader; question = s.question; taken = taken_by s.reader; written = written_by s.reader; given = given_by s.reader - length s.queue.items; ended = has_ended s.reader; failed = s.failed } };
+    ghost view = { λ s. record { kind = kind_of s.reader; question = s.question; taken = taken_by s.reader; written = written_by s.reader; given = given_by s.reader - length (s.queue.worked.items ++ s.queue.cut.items); ended = has_ended s.reader; failed = s.failed } };
 
-    ghost invariant = { λ s. H.ready s.hands.now × IsQueued s.reader s.question s.queue.items s.failed };
+    ghost invariant = { λ s. H.ready s.hands.now × IsQueued s.reader s.question (s.queue.worked.items ++ s.queue.cut.items) s.failed };
 }
 
-/// A batch: an item that has come, and those behind it that are whole in what was taken, at most so many. They are worked on together.
-fn batch_of<H: Hands>(
-    alloc: Global,
-    hands: &H,
-    question: &Question,
-    first: Cut,
+/// Cuts items that are whole in what was taken, and puts them behind others, at most so many in all.
+fn cut_ready(
+    most: usize,
+    cut: Vec<Progress>,
     reader: &mut ItemReader,
 ) -> Result<Vec<Progress>, NoMemory>
-    requires ready { H.ready hands.now }
     requires goes_on { CanGoOn reader.old }
-    requires asked { IsAskedOf (kind_of reader.old) question.now }
-    requires some { 1 ≤ given_by reader.old }
-    requires most { given_by reader.old ≤ 2 ^ 62 }
-    requires first { IsCutAt (kind_of reader.old) (taken_by reader.old) (given_by reader.old - 1) first }
-    requires settled { has_ended reader.old ≡ false → given_by reader.old ≤ settled_by (kind_of reader.old) (taken_by reader.old) }
     ensures kind { kind_of reader.new ≡ kind_of reader.old }
     ensures same { (taken_by reader.new ≡ taken_by reader.old) × (has_ended reader.new ≡ has_ended reader.old) }
     ensures written { written_by reader.new ≡ written_by reader.old }
     ensures goes_on { OnOk result (CanGoOn reader.new) }
-    ensures most { OnOk result (given_by reader.new ≤ 2 ^ 62) }
-    ensures settled { OnOk result (has_ended reader.new ≡ false → given_by reader.new ≤ settled_by (kind_of reader.old) (taken_by reader.old)) }
+    ensures count { IfOk result (λ more. given_by reader.new + length cut.items ≡ given_by reader.old + length more.items) }
+    ensures longer { IfOk result (λ more. length cut.items ≤ length more.items) }
+    ensures queued { (question : Asked) → IsQueued reader.old question cut.items false → IfOk result (λ more. IsQueued reader.new question more.items false) }
+{
+    let mut more = cut;
+    while more.len() < most {
+        let Some(cut) = reader.ready()? else {
+            break;
+        };
+        let Ok(()) = more.push(Progress::Cut(cut)) else {
+            return Err(NoMemory);
+        };
+    }
+    Ok(more)
+}
+
+/// A batch: an item that has come, and those behind it that are whole in what was taken, at most so many.
+fn batch_of(
+    alloc: Global,
+    most: usize,
+    first: Cut,
+    reader: &mut ItemReader,
+) -> Result<Vec<Progress>, NoMemory>
+    requires goes_on { CanGoOn reader.old }
+    ensures kind { kind_of reader.new ≡ kind_of reader.old }
+    ensures same { (taken_by reader.new ≡ taken_by reader.old) × (has_ended reader.new ≡ has_ended reader.old) }
+    ensures written { written_by reader.new ≡ written_by reader.old }
+    ensures goes_on { OnOk result (CanGoOn reader.new) }
     ensures count { IfOk result (λ batch. given_by reader.new + 1 ≡ given_by reader.old + length batch.items) }
     ensures some { IfOk result (λ batch. 1 ≤ length batch.items) }
-    ensures work { IfOk result (λ batch. AreWorkFrom question.now (items_by (kind_of reader.old) (taken_by reader.old)) (given_by reader.old - 1) batch.items) }
+    ensures queued { (question : Asked) → IsQueued reader.old question (OnlyCut first ∷ []) false → IfOk result (λ batch. IsQueued reader.new question batch.items false) }
 {
     let mut batch = Vec::new(alloc);
     let Ok(()) = batch.push(Progress::Cut(first)) else {
         return Err(NoMemory);
     };
-    let most = hands.most_items();
-    while batch.len() < most {
-        let Some(cut) = reader.ready()? else {
-            break;
-        };
-        let Ok(()) = batch.push(Progress::Cut(cut)) else {
-            return Err(NoMemory);
-        };
-    }
-    hands.work_ahead(alloc, question, batch.as_mut_slice());
-    Ok(batch)
+    cut_ready(most, batch, reader)
+}
+
+/// Works on a batch, and cuts meanwhile what is whole behind it.
+fn work_on<H: Hands>(
+    alloc: Global,
+    hands: &H,
+    question: &Question,
+    batch: Vec<Progress>,
+    reader: &mut ItemReader,
+) -> Result<Queue, NoMemory>
+    requires ready { H.ready hands.now }
+    requires queued { IsQueued reader.old question.now batch.items false }
+    ensures kind { kind_of reader.new ≡ kind_of reader.old }
+    ensures same { (taken_by reader.new ≡ taken_by reader.old) × (has_ended reader.new ≡ has_ended reader.old) }
+    ensures written { written_by reader.new ≡ written_by reader.old }
+    ensures count { IfOk result (λ queue. given_by reader.new ≡ given_by reader.old + length queue.cut.items) }
+    ensures size { IfOk result (λ queue. length queue.worked.items ≡ length batch.items) }
+    ensures queued { IfOk result (λ queue. IsQueued reader.new question.now (queue.worked.items ++ queue.cut.items) false) }
+{
+    let mut worked = batch;
+    let mut cut = Ok(Vec::new(alloc));
+    let most = hands.most_behind();
+    hands.work_ahead(
+        alloc,
+        question,
+        worked.as_mut_slice(),
+        &mut || cut = cut_ready(most, Vec::new(alloc), reader),
+    );
+    Ok(Queue {
+        worked: VecDeque::from(worked),
+        cut: cut?,
+    })
+}
+
+/// Works on a batch of which the first item has come, and cuts meanwhile what is whole behind it.
+fn read_on<H: Hands>(
+    alloc: Global,
+    hands: &H,
+    question: &Question,
+    first: Cut,
+    reader: &mut ItemReader,
+) -> Result<Queue, NoMemory>
+    requires ready { H.ready hands.now }
+    requires goes_on { CanGoOn reader.old }
+    requires queued { IsQueued reader.old question.now (OnlyCut first ∷ []) false }
+    ensures kind { kind_of reader.new ≡ kind_of reader.old }
+    ensures same { (taken_by reader.new ≡ taken_by reader.old) × (has_ended reader.new ≡ has_ended reader.old) }
+    ensures written { written_by reader.new ≡ written_by reader.old }
+    ensures count { IfOk result (λ queue. given_by reader.new + 1 ≡ given_by reader.old + length (queue.worked.items ++ queue.cut.items)) }
+    ensures some { IfOk result (λ queue. 1 ≤ length queue.worked.items) }
+    ensures queued { IfOk result (λ queue. IsQueued reader.new question.now (queue.worked.items ++ queue.cut.items) false) }
+{
+    let batch = batch_of(alloc, hands.most_items(), first, reader)?;
+    work_on(alloc, hands, question, batch, reader)
 }
 
 impl<'a, H: Hands> Batches<'a, H> {
@@ -106,7 +178,10 @@ impl<'a, H: Hands> Batches<'a, H> {
             hands,
             reader,
             question,
-            queue: VecDeque::new(alloc),
+            queue: Queue {
+                worked: VecDeque::new(alloc),
+                cut: Vec::new(alloc),
+            },
             failed: false,
         }
     }
@@ -144,8 +219,18 @@ impl<'a, H: Hands> Batches<'a, H> {
         ensures failed { self.new.failed ≡ is_err result }
         ensures later { S.faults source.old ≤ S.faults source.new }
     {
-        if let Some(progress) = self.queue.pop_front() {
+        if let Some(progress) = self.queue.worked.pop_front() {
             return Ok(Some(progress));
+        }
+        if !self.queue.cut.is_empty() {
+            let batch = mem::replace(&mut self.queue.cut, Vec::new(alloc));
+            let Ok(queue) = work_on(alloc, self.hands, &self.question, batch, &mut self.reader)
+            else {
+                self.failed = true;
+                return Err(ReadEnd::NoMemory);
+            };
+            self.queue = queue;
+            return Ok(self.queue.worked.pop_front());
         }
         let first = match self.reader.next(source) {
             Ok(Some(first)) => first,
@@ -155,10 +240,10 @@ impl<'a, H: Hands> Batches<'a, H> {
                 return Err(end);
             }
         };
-        match batch_of(alloc, self.hands, &self.question, first, &mut self.reader) {
-            Ok(batch) => {
-                self.queue = VecDeque::from(batch);
-                Ok(self.queue.pop_front())
+        match read_on(alloc, self.hands, &self.question, first, &mut self.reader) {
+            Ok(queue) => {
+                self.queue = queue;
+                Ok(self.queue.worked.pop_front())
             }
             Err(_) => {
                 self.failed = true;

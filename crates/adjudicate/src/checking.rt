@@ -11,42 +11,37 @@ ghost use Rattle.adjudicate.specs.Steps.{IsWritten, ended_by};
 
 use crate::endings::Status;
 use crate::writing::put;
-use cert_par::Checker;
 use cert_text::{CertKind, SharedCertificate, read_any};
 use cha_cert::Checked;
 use cha_list::{NoMemory, Text};
 use cha_outside::{MOST_BYTES, Sink, Source, Wrote, read_all};
 use flag_report::{accepted_line, failing_line, misfit_line};
+use side_by_side::Hands;
 use std::alloc::Global;
 
 /// Checks the certificate whose text a source gives, in either version, and writes the answer. It reads the whole source
 /// first.
-pub fn check_cert<C: Checker, S: Source, K: Sink>(
+pub fn check_cert<H: Hands, S: Source, K: Sink>(
     alloc: Global,
-    checker: &C,
+    hands: &H,
     source: &mut S,
     sink: &mut K,
 ) -> Status
-    requires ready { C.ready checker.now }
+    requires ready { H.ready hands.now }
     ensures { IsRunOf (demand CheckCert) result (outside (S.left source.old) (S.faults source.old) (K.written sink.old) (K.faults sink.old)) (outside (S.left source.new) (S.faults source.new) (K.written sink.new) (K.faults sink.new)) }
 {
     match read_all(alloc, source, MOST_BYTES) {
-        Ok(bytes) => write_answer(alloc, checker, bytes, sink),
+        Ok(bytes) => write_answer(alloc, hands, bytes, sink),
         Err(end) => Status::from(end),
     }
 }
 
 /// Checks the certificate of a text, and writes the answer.
-fn write_answer<C: Checker, K: Sink>(
-    alloc: Global,
-    checker: &C,
-    bytes: Vec<u8>,
-    sink: &mut K,
-) -> Status
-    requires ready { C.ready checker.now }
+fn write_answer<H: Hands, K: Sink>(alloc: Global, hands: &H, bytes: Vec<u8>, sink: &mut K) -> Status
+    requires ready { H.ready hands.now }
     ensures { IsWritten (demand CheckCert) bytes.items result (K.written sink.old) (K.faults sink.old) (K.written sink.new) (K.faults sink.new) }
 {
-    let Ok(answer) = answer_to(alloc, checker, bytes) else {
+    let Ok(answer) = answer_to(alloc, hands, bytes) else {
         return Status::NoMemory;
     };
     match put(sink, answer.line.items()) {
@@ -74,8 +69,8 @@ struct Answer {
 }
 
 /// What is answered on a text.
-fn answer_to<C: Checker>(alloc: Global, checker: &C, bytes: Vec<u8>) -> Result<Answer, NoMemory>
-    requires ready { C.ready checker.now }
+fn answer_to<H: Hands>(alloc: Global, hands: &H, bytes: Vec<u8>) -> Result<Answer, NoMemory>
+    requires ready { H.ready hands.now }
     ensures line { IfOk result (λ answer. IsAnswerTo (any_cert_of bytes.items) answer.line) }
     ensures accepted { IfOk result (λ answer. IsTrue answer.accepted ↔ IsReadAs IsValidAtFirst bytes.items) }
 {
@@ -83,7 +78,7 @@ fn answer_to<C: Checker>(alloc: Global, checker: &C, bytes: Vec<u8>) -> Result<A
     // The certificate is checked without its text, which may be as large.
     drop(bytes);
     match read {
-        Ok(certificate) => answer_on(alloc, checker, &certificate),
+        Ok(certificate) => answer_on(alloc, hands, &certificate),
         Err(fault) => {
             if fault.kind == CertKind::NoMemory {
                 return Err(NoMemory);
@@ -97,12 +92,12 @@ fn answer_to<C: Checker>(alloc: Global, checker: &C, bytes: Vec<u8>) -> Result<A
 }
 
 /// What is answered on a certificate: what its check answers, asked for the position of its first node.
-fn answer_on<C: Checker>(
+fn answer_on<H: Hands>(
     alloc: Global,
-    checker: &C,
+    hands: &H,
     certificate: &SharedCertificate,
 ) -> Result<Answer, NoMemory>
-    requires ready { C.ready checker.now }
+    requires ready { H.ready hands.now }
     requires some { 0 < length certificate.now.cert.nodes }
     requires few { length certificate.now.cert.nodes < 2 ^ 32 }
     ensures line { IfOk result (λ answer. IsAnswerTo (Ok (record { winner = certificate.now.winner; cert = expansion certificate.now.cert })) answer.line) }
@@ -110,7 +105,7 @@ fn answer_on<C: Checker>(
 {
     let first = certificate.cert.nodes()[0].position.position();
     let winner = certificate.winner;
-    match checker.check(alloc, &first, winner, &certificate.cert)? {
+    match hands.check(alloc, &first, winner, &certificate.cert)? {
         Checked::Accepted => Ok(Answer {
             accepted: true,
             line: accepted_line(alloc, winner)?,

@@ -18,7 +18,6 @@ use crate::correcting::correct_games;
 use crate::endings::Status;
 use crate::jobs::{report_games, report_lines, report_made, report_replays};
 use crate::reports::Form;
-use cert_par::Checker;
 use cha_judge::{MatesJudge, PliesJudge, VerdictsJudge};
 use cha_outcome::FlaggedDraws;
 use cha_outside::{Sink, Source};
@@ -137,24 +136,22 @@ pub fn carry_out<H: Hands, C: Crew, S: Source, K: Sink, N: Sink>(
 
 /// Reads a source to its end, and writes what an order asks for that needs no search for verdicts: the answer on a certificate,
 /// the shortest mates of each line, or the moves of each game.
-pub fn carry_out_plain<H: Hands, P: Spread + Drop, C: Checker, S: Source, K: Sink>(
+pub fn carry_out_plain<H: Hands, P: Spread + Drop, S: Source, K: Sink>(
     alloc: Global,
     order: &Order,
     hands: &H,
     spread: P,
-    checker: &C,
     source: &mut S,
     sink: &mut K,
 ) -> Status
     requires hands { H.ready hands.now }
     requires ready { P.ready spread }
-    requires checks { C.ready checker.now }
     requires no_search { limits_in order.now ≡ None }
     requires bounded { (side : Side) (workers depth : ℕ) (printing : Printed) → order.now ≡ ListMates side workers depth printing → ((1 ≤ workers) × (workers ≤ 16)) × ((1 ≤ depth) × (depth ≤ 6)) }
     ensures { IsRunOf (demand order.now) result (outside (S.left source.old) (S.faults source.old) (K.written sink.old) (K.faults sink.old)) (outside (S.left source.new) (S.faults source.new) (K.written sink.new) (K.faults sink.new)) }
 {
     match order {
-        Order::CheckCert => check_cert(alloc, checker, source, sink),
+        Order::CheckCert => check_cert(alloc, hands, source, sink),
         Order::ListMates {
             side,
             workers,

@@ -30,7 +30,6 @@ ghost use Rattle.adjudicate.specs.Truth.{usual, ReportsTruth};
 use crate::commands::{carry_out, carry_out_plain};
 use crate::correcting::corrected_games_stay;
 use crate::endings::Status;
-use cert_par::SeveralThreads;
 use cha_limits::Limits;
 use cha_outcome::found_results_stay;
 use cha_outside::{MOST_BYTES, Sink, Source};
@@ -105,7 +104,6 @@ pub fn run<R: Threads + Wait + Sync, S: Source, K: Sink, N: Sink>(
                 &order,
                 &Threaded::new(rt, threads_for(&order)),
                 InThreads::new(rt),
-                &SeveralThreads::new(rt),
                 source,
                 sink,
             ),

@@ -7,8 +7,12 @@ ghost use Rattle.cha_outside.specs.Faults.{Rose};
 
 use cha_outside::{Got, MOST_BYTES, ReadEnd, Source};
 
-/// How many bytes one read asks for, where so many may still be taken.
+/// How many bytes the first read asks for, where so many may still be taken.
 const PIECE: usize = 65_536;
+
+/// How many bytes a later read asks for at most. It asks for twice as many as the last one gave: a file comes in large pieces, whose
+/// games are judged side by side, and what comes bit by bit needs no more room than before.
+const MOST_PIECE: usize = 1_048_576;
 
 /// The most bytes that are taken of a source: 4,096 more than a text may have, by which it is seen to be too long.
 pub const MOST_TAKEN: usize = MOST_BYTES + 4096;
@@ -22,8 +26,8 @@ pub enum Filled {
     End,
 }
 
-/// Reads the next piece of a source, in place of the last one. It asks for `most` bytes, and for no more than 65,536. The room is
-/// what is read into; it grows once, and serves again.
+/// Reads the next piece of a source, in place of the last one. It asks for twice as many bytes as the last one has, but for 65,536 at
+/// least, 1,048,576 at most, and never for more than `most`. The room is what is read into; it grows, and serves again.
 pub fn fill<S: Source>(
     piece: &mut Vec<u8>,
     room: &mut Vec<u8>,
@@ -32,7 +36,7 @@ pub fn fill<S: Source>(
 ) -> Result<Filled, ReadEnd>
     requires { 0 < most }
     ensures bytes { Consumes (S.left source.old) (S.left source.new) piece.new.items }
-    ensures few { length piece.new.items ≤ 65536 }
+    ensures few { length piece.new.items ≤ 1048576 }
     ensures within { length piece.new.items ≤ most }
     ensures more { result ≡ Ok Filled.More → 0 < length piece.new.items }
     ensures end { result ≡ Ok Filled.End → IsAtEnd (S.left source.new) × (piece.new.items ≡ []) }
@@ -41,8 +45,8 @@ pub fn fill<S: Source>(
     ensures not_long { result ≡ Err ReadEnd.TooLong → ⊥ }
     ensures later { S.faults source.old ≤ S.faults source.new }
 {
+    let size = most.min((2 * piece.len()).max(PIECE).min(MOST_PIECE));
     piece.clear();
-    let size = most.min(PIECE);
     let (Ok(()), Ok(())) = (room.resize(size, 0), piece.try_reserve(size)) else {
         return Err(ReadEnd::NoMemory);
     };

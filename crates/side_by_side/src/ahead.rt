@@ -1,5 +1,6 @@
 //! The threads that work on a batch.
 
+ghost use denote.Param.Send.{IsSync};
 ghost use Rattle.std.specs.Prelude.{◌≡◌, ◌≤◌, length, None, IfOk, IfErr};
 ghost use Rattle.cha_outcome.specs.Outcomes.{CanBeAsked};
 ghost use Rattle.side_by_side.specs.Progresses.{IsOf, IsAsked, GoesOn, AreAsked, AllGoOn};
@@ -101,11 +102,42 @@ fn with_cut(judged: Progress, before: Progress) -> Progress
 }
 
 /// Reads each item of a batch, and judges it as far as that needs no crew, by at most so many threads. Where memory is refused or a crew
-/// is needed, an item stays as far as it has come. A batch of few items is left as it is.
+/// is needed, an item stays as far as it has come. A batch of few items is left as it is. `meanwhile` is called once, by the thread that
+/// asks, beside the others.
 ///
 /// What is found about an item depends on nothing but the item. Each thread takes one part of the batch, and the parts are of the same
 /// length.
-pub fn work_ahead<R: Threads + Sync>(
+pub fn work_ahead<R: Threads + Sync, F: FnMut()>(
+    rt: &R,
+    alloc: Global,
+    most: u32,
+    question: &Question,
+    batch: &mut [Progress],
+    meanwhile: &mut F,
+)
+    requires some { 1 ≤ most }
+    requires about { AreAsked question.now batch.old }
+    requires meanwhile { F.pre meanwhile.old }
+    ensures size { length batch.new ≡ length batch.old }
+    ensures same { AllGoOn question.now batch.old batch.new }
+    ensures meanwhile { F.step meanwhile.old tt meanwhile.new }
+{
+    if batch.len() < WORTH_THREADS {
+        meanwhile();
+        return;
+    }
+    thread::join_mut(
+        rt,
+        &mut ||
+            requires { IsSync R.row × (1 ≤ most) × AreAsked question.now batch.now }
+            ensures { (length batch.exit.now ≡ length batch.entry.now) × AllGoOn question.entry.now batch.entry.now batch.exit.now }
+        { judge_in_threads(rt, alloc, most, question, batch) },
+        meanwhile,
+    );
+}
+
+/// Reads and judges each item of a batch, by at most so many threads.
+fn judge_in_threads<R: Threads + Sync>(
     rt: &R,
     alloc: Global,
     most: u32,
@@ -117,9 +149,6 @@ pub fn work_ahead<R: Threads + Sync>(
     ensures size { length batch.new ≡ length batch.old }
     ensures same { AllGoOn question.now batch.old batch.new }
 {
-    if batch.len() < WORTH_THREADS {
-        return;
-    }
     thread::for_each_mut(
         rt,
         batch,

@@ -1,7 +1,7 @@
 //! Items that are judged side by side, by threads, as far as no crew is needed for them.
 //!
 //! `cuts` has what an input is made of before it is read, `progress` how far the work on one item has come and what finishes it, `ahead`
-//! the threads that work on a batch of items, and `hands` who works ahead: threads, or nobody.
+//! the threads that work on a batch of items, and `hands` who does such work, and checks certificates: threads, or the one that asks.
 #![tactic(auto)]
 
 mod ahead;

@@ -1,7 +1,7 @@
 use Rattle.std.proofs.Common.{sym, subst}
 use Rattle.side_by_side.specs.declared.progress.Progress.{Progress}
 use Rattle.side_by_side.specs.Progresses.{IsAsked}
-use Rattle.side_by_side.proofs.ahead.work_ahead.Goals as goal
+use Rattle.side_by_side.proofs.ahead.judge_in_threads.Goals as goal
 
 pub for_each_mut-requires-clause-accepts : goal.for_each_mut-requires-clause-accepts
 for_each_mut-requires-clause-accepts g c κs within = λ i p less same.

@@ -1,0 +1,21 @@
+use Rattle.std.proofs.Common.{◌≡◌, ◌+◌, ◌-◌, ◌≤◌, false, length}
+use Rattle.cha_outcome.specs.declared.questions.Question.{Question}
+use Rattle.adjudicate.specs.Readers.{kind_of, taken_by, written_by, given_by, has_ended, CanGoOn}
+use Rattle.adjudicate.specs.Batches.{IsQueued}
+use Rattle.adjudicate.proofs.batches.cut_ready.Given as goal
+
+-- what was cut so far stands behind the others
+abbrev pub invariant-loop-reader : goal.invariant-loop-reader
+invariant-loop-reader g l = record {
+  kind : kind_of l.reader ≡ kind_of l.fn.reader;
+  same : taken_by l.reader ≡ taken_by l.fn.reader;
+  written : written_by l.reader ≡ written_by l.fn.reader;
+  ended : has_ended l.reader ≡ has_ended l.fn.reader;
+  goes_on : CanGoOn l.reader;
+  count : given_by l.reader + length l.fn.cut.items ≡ given_by l.fn.reader + length l.more.items;
+  longer : length l.fn.cut.items ≤ length l.more.items;
+  queued : (question : Question) → IsQueued l.fn.reader question l.fn.cut.items false → IsQueued l.reader question l.more.items false;
+}
+
+abbrev pub decreases-loop-reader : goal.decreases-loop-reader
+decreases-loop-reader g l = l.most - length l.more.items

@@ -1,6 +1,7 @@
 -- A queue of work on items: how it grows, how it is worked on, and how its first goes.
-use Rattle.std.proofs.Common.{IfSome, ◌≡◌, ℕ, zero, suc, ◌+◌, ◌-◌, ◌^◌, ◌<◌, ◌≤◌, ◌⊎◌, inl, inr, Bool, true, false, List, [], ◌∷◌, ◌++◌, length, Option, Some, None, slice_get, slice_index_or, take, drop, option_to_list, length-append, refl, sym, ap, ◌∙◌, arith, subst}
+use Rattle.std.proofs.Common.{IfSome, IfOk, Result, Ok, Err, Vec, Global, ◌≡◌, ℕ, zero, suc, ◌+◌, ◌-◌, ◌^◌, ◌<◌, ◌≤◌, ◌⊎◌, inl, inr, Bool, true, false, List, [], ◌∷◌, ◌++◌, length, Option, Some, None, slice_get, slice_index_or, take, drop, option_to_list, length-append, refl, sym, ap, ◌∙◌, arith, subst}
 use Rattle.std.proofs.Math.Seq.{take-append_seam}
+use Rattle.cha_list.specs.declared.memory.NoMemory.{NoMemory}
 use Rattle.cha_outcome.specs.declared.items.Item.{Item}
 use Rattle.cha_outcome.specs.declared.questions.Question.{Question}
 use Rattle.side_by_side.specs.declared.cuts.Cut.{Cut}
@@ -10,7 +11,7 @@ use Rattle.side_by_side.specs.Cuts.{item_of_cut}
 use Rattle.side_by_side.specs.Progresses.{IsOf, AreAsked, AllGoOn}
 use Rattle.adjudicate.specs.declared.readers.ItemReader.{ItemReader}
 use Rattle.adjudicate.specs.Readers.{ItemKind, kind_of, taken_by, given_by, has_ended, items_by, settled_by, CanGoOn, IsAskedOf}
-use Rattle.adjudicate.specs.Batches.{IsCutAt, IsWorkAt, AreWorkFrom, IsQueued}
+use Rattle.adjudicate.specs.Batches.{IsCutAt, IsWorkAt, AreWorkFrom, IsQueued, StayQueued}
 
 -- an element by its index
 there : (ps : List Progress) (i : ℕ) (d : Progress) → i < length ps → slice_get ps i ≡ Some (slice_index_or ps i d)
@@ -49,11 +50,11 @@ pushed question items first queue p work one = λ i x e. elim (in_front queue p 
 ]
 
 in_either : (xs ys : List Progress) (i : ℕ) (p : Progress) → slice_get (xs ++ ys) i ≡ Some p → (slice_get xs i ≡ Some p) ⊎ ((k : ℕ) × (i ≡ length xs + k) × (slice_get ys k ≡ Some p))
-in_either [] ys i p e = inr (i, refl, e)
+in_either [] ys i p e = inr (i, omega arith, e)
 in_either (x ∷ xs) ys zero p e = inl e
 in_either (x ∷ xs) ys (suc i) p e = elim (in_either xs ys i p e) [
   | inl more ↦ inl more
-  | inr end ↦ inr (end.0, ap suc end.1, end.2)
+  | inr end ↦ inr (end.0, omega (arith, end.1), end.2)
 ]
 
 -- more behind them
@@ -73,7 +74,7 @@ all_asked question items first queue work = λ i d few. let at = work i (slice_i
 
 -- what was worked on is work on the same items
 pub worked_on : (question : Question) (items : List Item) (first : ℕ) (old new : List Progress) → AreWorkFrom question items first old → length new ≡ length old → AllGoOn question old new → AreWorkFrom question items first new
-unfolding AreWorkFrom
+unfolding AreWorkFrom AllGoOn
 worked_on question items first old new work size same = λ i p e. (
     let at = is_there new i p e in
     let few : i < length old = omega (arith, size, at.0) in
@@ -152,6 +153,9 @@ first_found question (Some p) all queue behind k k' t t' n n' kind taken number 
 pub empty_queue : (queue : List Progress) → length queue ≡ 0 → queue ≡ []
 empty_queue [] e = refl
 empty_queue (p ∷ queue) e = cc
+
+pub none_of : (xs ys : List Progress) → xs ≡ [] → ys ≡ [] → xs ++ ys ≡ []
+none_of xs ys e f = ap (λ x. x ++ ys) e ∙ f
 
 -- where no item is left
 pub none_left : (reader reader' : ItemReader) (question : Question) (old queue : List Progress) (failed : Bool) → IsQueued reader question old failed → queue ≡ [] → kind_of reader' ≡ kind_of reader → given_by reader' ≡ given_by reader → CanGoOn reader' → has_ended reader' ≡ true
@@ -252,3 +256,16 @@ same_queue reader reader' question queue failed h kind taken given ended goes_on
   settled = λ f more_comes. subst (λ k. given_by reader' ≤ settled_by k (taken_by reader')) (sym kind)
       (subst (λ t. given_by reader' ≤ settled_by (kind_of reader) t) (sym taken) (subst (λ n. n ≤ settled_by (kind_of reader) (taken_by reader)) (sym given) (h.settled f (sym ended ∙ more_comes))));
 }
+
+-- what is cut behind nothing, and behind what is worked on
+pub count_of : (queue : List Progress) (old new : ℕ) (result : Result (Vec Progress Global) NoMemory) → queue ≡ [] → IfOk result (λ more. new + length queue ≡ old + length more.items) → IfOk result (λ more. new ≡ old + length more.items)
+count_of queue old new (Ok more) none count = omega (arith, ap length none, count)
+count_of queue old new (Err refused) none count = tt
+
+pub stay_queued : (old new : ItemReader) (queue : List Progress) (result : Result (Vec Progress Global) NoMemory) → queue ≡ [] → ((question : Question) → IsQueued old question queue false → IfOk result (λ more. IsQueued new question more.items false)) → StayQueued old new [] result
+unfolding StayQueued
+stay_queued old new queue result none stays = λ question was. stays question (subst (λ q. IsQueued old question q false) (sym none) was)
+
+pub behind : (old new : ItemReader) (question : Question) (result : Result (Vec Progress Global) NoMemory) (more : Vec Progress Global) → result ≡ Ok more → StayQueued old new [] result → IsQueued old question [] false → IsQueued new question more.items false
+unfolding StayQueued
+behind old new question result more is stays was = subst (λ r. IfOk r (λ m. IsQueued new question m.items false)) is (stays question was)

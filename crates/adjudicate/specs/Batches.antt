@@ -1,5 +1,7 @@
 -- What a queue of items holds, of which threads may have done the work (this project).
-use Rattle.std.specs.Prelude.{◌≡◌, ℕ, ◌+◌, ◌-◌, ◌^◌, ◌≤◌, Bool, false, List, length, Some, slice_get}
+use Rattle.std.specs.Prelude.{◌≡◌, ℕ, ◌+◌, ◌-◌, ◌^◌, ◌≤◌, Bool, false, List, length, Some, Result, Vec, IfOk, slice_get}
+use Rattle.std.specs.declared.alloc.Global.{Global}
+use Rattle.cha_list.specs.declared.memory.NoMemory.{NoMemory}
 use Rattle.cha_outcome.specs.declared.items.Item.{Item}
 use Rattle.cha_outcome.specs.declared.questions.Question.{Question}
 use Rattle.side_by_side.specs.declared.cuts.Cut.{Cut}
@@ -41,3 +43,7 @@ pub record IsQueued (reader : ItemReader) (question : Question) (queue : List Pr
   pub goes_on : failed ≡ false → CanGoOn reader
   pub most : failed ≡ false → given_by reader ≤ 2 ^ 62
   pub settled : failed ≡ false → has_ended reader ≡ false → given_by reader ≤ settled_by (kind_of reader) (taken_by reader)
+
+-- What was queued is the front of what is queued now, or memory was refused.
+unfoldable pub StayQueued : ItemReader → ItemReader → List Progress → Result (Vec Progress Global) NoMemory → Type 0
+StayQueued old new queue result = (question : Question) → IsQueued old question queue false → IfOk result (λ more. IsQueued new question more.items false)

@@ -9,7 +9,7 @@ ghost use Rattle.cha_outside.specs.Gathering.{Gathers};
 ghost use Rattle.adjudicate.specs.Readers.{KeptItems, kind_of, taken_by, written_by, given_by, has_ended, items_by, settled_by, closed_by, CanGoOn, IsAskedOf};
 ghost use Rattle.cha_outcome.specs.declared.questions.Question.{Question as Asked};
 ghost use Rattle.side_by_side.specs.declared.progress.Progress.TheVariants.{Cut as OnlyCut};
-ghost use Rattle.adjudicate.specs.Batches.{IsCutAt, IsWorkAt, IsQueued};
+ghost use Rattle.adjudicate.specs.Batches.{IsWorkAt, IsQueued, StayQueued};
 ghost use Rattle.adjudicate.specs.Runs.{most_bytes};
 ghost use Rattle.adjudicate.specs.Steps.{game_piece, end_piece};
 
@@ -130,7 +130,14 @@ fn work_on<H: Hands>(
         alloc,
         question,
         worked.as_mut_slice(),
-        &mut || cut = cut_ready(most, Vec::new(alloc), reader),
+        &mut ||
+            requires { CanGoOn reader.now }
+            ensures kind { kind_of reader.exit.now ≡ kind_of reader.entry.now }
+            ensures same { (taken_by reader.exit.now ≡ taken_by reader.entry.now) × (has_ended reader.exit.now ≡ has_ended reader.entry.now) }
+            ensures written { written_by reader.exit.now ≡ written_by reader.entry.now }
+            ensures count { IfOk cut.exit (λ more. given_by reader.exit.now ≡ given_by reader.entry.now + length more.items) }
+            ensures queued { StayQueued reader.entry.now reader.exit.now [] cut.exit }
+        { cut = cut_ready(most, Vec::new(alloc), reader) },
     );
     Ok(Queue {
         worked: VecDeque::from(worked),

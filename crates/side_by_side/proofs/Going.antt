@@ -1,5 +1,5 @@
 -- What is known of the work on an item, by how far it has come.
-use Rattle.std.proofs.Common.{◌≡◌, ◌∙◌, Result, Ok, Err, Option, IfOk, sym, subst}
+use Rattle.std.proofs.Common.{◌≡◌, ◌∙◌, List, Result, Ok, Err, Option, IfOk, sym, subst}
 use Rattle.cha_list.specs.declared.memory.NoMemory.{NoMemory}
 use Rattle.cha_outcome.specs.declared.items.Item.{Item}
 use Rattle.cha_outcome.specs.declared.outcomes.Outcome.{Outcome}
@@ -14,7 +14,7 @@ use Rattle.side_by_side.specs.declared.cuts.Cut.TheVariants.{Game, KeptGame}
 use Rattle.side_by_side.specs.declared.progress.Progress.{Progress}
 use Rattle.side_by_side.specs.declared.progress.Progress.TheVariants.{Cut as OnlyCut, Read, Judged}
 use Rattle.side_by_side.specs.Cuts.{item_of_cut, IsReadable, IsAskedAbout}
-use Rattle.side_by_side.specs.Progresses.{IsOf, IsAsked, GoesOn}
+use Rattle.side_by_side.specs.Progresses.{IsOf, IsAsked, GoesOn, AllGoOn}
 
 -- of what is cut
 pub readable : (q : Question) (p : Progress) (cut : Cut) → p ≡ OnlyCut cut → IsAsked q p → IsReadable cut
@@ -84,3 +84,8 @@ pub kept_asked : (q : Question) (placed : PlacedGame) (result : Result Item NoMe
 kept_asked (Verdicts limits draws) placed result all about = decided limits draws result all
 kept_asked (Mates side depth) placed result all about = absurd about
 kept_asked Plies placed result all about = absurd about
+
+-- of what nobody works on
+pub all_stay : (q : Question) (batch : List Progress) → AllGoOn q batch batch
+unfolding AllGoOn
+all_stay q batch = λ i d few item of. of

@@ -27,5 +27,5 @@ abbrev pub AreAsked : Question → List Progress → Type 0
 AreAsked question batch = (i : ℕ) (d : Progress) → i < length batch → IsAsked question (slice_index_or batch i d)
 
 -- each of a batch goes on where it stands
-abbrev pub AllGoOn : Question → List Progress → List Progress → Type 0
+unfoldable pub AllGoOn : Question → List Progress → List Progress → Type 0
 AllGoOn question old new = (i : ℕ) (d : Progress) → i < length old → GoesOn question (slice_index_or old i d) (slice_index_or new i d)

@@ -4,14 +4,14 @@ use Rattle.adjudicate.proofs.Batching.{one_more}
 use Rattle.adjudicate.proofs.batches.cut_ready.Goals as goal
 
 pub loop-reader-preserved : goal.loop-reader-preserved
-loop-reader-preserved g c =
+loop-reader-preserved c =
     let i = c.loop-reader.invariant in
     let e = c.ready.ensures in
     let given = rw c.in-Some.is at c.in_ok-cut.ensures.given in
     let cut = rw c.in-Some.is at c.in_ok-cut.ensures.cut in
     let settled = rw c.in-Some.is at c.in_ok-cut.ensures.settled in
     let size = length-append c.loop-reader.more.items (OnlyCut c.in-Some.cut ∷ []) in
-    rw c.in-Ok-push.ensures.items (record {
+    rw c.in-Ok.ensures.items (record {
       kind = e.kind ∙ i.kind;
       same = e.same.0 ∙ i.same;
       written = e.written ∙ i.written;

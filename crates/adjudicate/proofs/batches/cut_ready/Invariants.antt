@@ -6,7 +6,7 @@ use Rattle.adjudicate.proofs.batches.cut_ready.Given as goal
 
 -- what was cut so far stands behind the others
 abbrev pub invariant-loop-reader : goal.invariant-loop-reader
-invariant-loop-reader g l = record {
+invariant-loop-reader l = record {
   kind : kind_of l.reader ≡ kind_of l.fn.reader;
   same : taken_by l.reader ≡ taken_by l.fn.reader;
   written : written_by l.reader ≡ written_by l.fn.reader;
@@ -18,4 +18,4 @@ invariant-loop-reader g l = record {
 }
 
 abbrev pub decreases-loop-reader : goal.decreases-loop-reader
-decreases-loop-reader g l = l.most - length l.more.items
+decreases-loop-reader l = l.most - length l.more.items

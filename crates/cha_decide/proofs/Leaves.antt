@@ -1,6 +1,7 @@
 -- Certificates of one node, and what is shown without a search.
-use Rattle.std.proofs.Common.{◌≡◌, zero, suc, List, [], ◌∷◌, sym, subst, refl, arith}
+use Rattle.std.proofs.Common.{◌≡◌, zero, suc, List, [], ◌∷◌, Result, Ok, Err, IfOk, sym, subst, refl, inr, arith}
 use Rattle.std.specs.List.{All}
+use Rattle.cha_list.specs.declared.memory.NoMemory.{NoMemory}
 use Rattle.cha_board.specs.declared.men.Color.{Color}
 use Rattle.cha_board.specs.Board.{Board, IsValid}
 use Rattle.mob_law.specs.Closed.{IsClosed}
@@ -9,11 +10,15 @@ use Rattle.mob_law.specs.Threats.{HasNoMate}
 use Rattle.mob_sets.specs.Rows.{SetRows, sets_of}
 use Rattle.cha_cert.specs.declared.nodes.Node.{Node}
 use Rattle.cha_cert.specs.declared.nodes.Part.{Part}
-use Rattle.cha_cert.specs.declared.nodes.Part.TheVariants.{Leaf, Small, Lone}
+use Rattle.cha_cert.specs.declared.nodes.Part.TheVariants.{Inner, Leaf, Small, Lone}
 use Rattle.cha_cert.specs.Certificates.{AllValid, PartHolds, NodeHolds, IsValidCert}
 use Rattle.mob_small.specs.Small.{IsSmallUnwinnable}
 use Rattle.mob_small.specs.Lone.{IsLoneUnwinnable}
+use Rattle.cha_limits.specs.Bounds.{Bounds}
+use Rattle.cha_verdict.specs.declared.verdicts.Verdict.TheVariants.{Unwinnable}
 use Rattle.cha_verdict.specs.AtOnce.{IsShownAtOnce, BySets, BySmallMaterial, ByLoneMen}
+use Rattle.forced_graph.specs.Outcomes.{HasExpandedInner}
+use Rattle.cha_decide.specs.Shown.{HasNoInner, IsShownUnwinnable, IsShownAlone, IsFound}
 
 module _ (q : Board) (w : Color) (part : Part) (valid : IsValid q) where
   abbrev pub node : Node
@@ -54,3 +59,25 @@ not_at_once q w static material (ByLoneMen shown) = material.1 shown
 -- what is not shown without a search is not shown by sets
 pub no_sets : (q : Board) (w : Color) → (IsShownAtOnce q w → ⊥) → IsStaticallyUnwinnable q w → ⊥
 no_sets q w unshown static = unshown (BySets static)
+
+-- a certificate of one node that is no inner one
+pub none_inner : (q : Board) (part : Part) → (part ≡ Inner → ⊥) → (cert : List Node) → cert ≡ record { position = q; part = part } ∷ [] → HasNoInner cert
+none_inner q part leaf cert is = subst HasNoInner (sym is) one
+  where
+    one : HasNoInner (record { position = q; part = part } ∷ [])
+    one zero d small = leaf
+    one (suc k) d small = absurd (omega (arith, small))
+
+-- a certificate that was accepted is the one that was checked
+pub shown_alone : (o : Result (List Node) NoMemory) (q : Board) (w : Color) (cert : List Node) → IfOk o (IsShownUnwinnable q w) → IfOk o (λ shown. shown ≡ cert) → HasNoInner cert → IfOk o (IsShownAlone q w)
+shown_alone (Err e) q w cert shown same outer = tt
+shown_alone (Ok nodes) q w cert shown same outer = record { valid = shown.valid; size = shown.size; outer = subst HasNoInner (sym same) outer }
+
+-- so what an exploration of an unshown position shows is found
+pub found_closed : (q : Board) (w : Color) (limits : Bounds) (cert shown : List Node) → (IsShownAtOnce q w → ⊥) → HasExpandedInner q w limits.budget cert → shown ≡ cert → IsShownUnwinnable q w shown → IsFound q w limits (Unwinnable shown)
+found_closed q w limits cert shown unshown inner same is = record {
+  holds = is.valid;
+  printable = is.size;
+  examined = refl;
+  expanded = inr (unshown, subst (HasExpandedInner q w limits.budget) (sym same) inner);
+}

@@ -4,7 +4,7 @@ ghost use Rattle.std.specs.Prelude.{◌≡◌, IfOk};
 ghost use Rattle.cha_board.specs.declared.men.Color.{Color as Side};
 ghost use Rattle.cha_verdict.specs.Verdicts.{is_winnable as can_mate, is_skipped, IsPrintable};
 ghost use Rattle.cha_verdict.specs.Sound.{IsTrueOf, IsSound, IsComplete, verdict_on};
-ghost use Rattle.cha_decide.specs.Shown.{Asked, AskedFor};
+ghost use Rattle.cha_decide.specs.Shown.{IsExpandedUnshown, Asked, AskedFor};
 
 use crate::sides::examine;
 use cha_board::{Color, Position};
@@ -42,6 +42,10 @@ pub fn decide_by<C: Crew>(
     // What the verdicts cannot miss.
     ensures complete { IfOk result (λ decision. (winner : Side) → IsComplete position.now winner limits.now (verdict_on decision winner)) }
 
+    // Where positions were expanded for a side, nothing shows without a search that it cannot mate in the first one, which is
+    // the position itself, nor in one that a capture or a pawn's move led to.
+    ensures expanded { IfOk result (λ decision. (winner : Side) → IsExpandedUnshown position.now winner limits.now (verdict_on decision winner)) }
+
     // Where a verdict comes of a search, the first worker asked its place of facts for the position.
     ensures calls { Asked C.made crew.old crew.new position.now result }
 {
@@ -74,6 +78,7 @@ fn examine_other<C: Crew>(
     ensures holds { IfOk result (λ verdict. IsTrueOf position.now side limits.now verdict) }
     ensures printable { IfOk result (λ verdict. IsPrintable verdict) }
     ensures skipped { IfOk result (λ verdict. is_skipped verdict ≡ can_mate first.now) }
+    ensures expanded { IfOk result (λ verdict. IsExpandedUnshown position.now side limits.now verdict) }
     ensures calls { AskedFor C.made crew.old crew.new position.now side result }
 {
     if is_winnable(first) {

@@ -7,6 +7,7 @@ ghost use Rattle.cha_moves.specs.Lines.{HasLines};
 ghost use Rattle.cha_verdict.specs.AtOnce.{IsShownAtOnce};
 ghost use Rattle.cha_verdict.specs.Sound.{IsUndecided};
 ghost use Rattle.cha_fact.specs.Entries.{MadeSome};
+ghost use Rattle.forced_graph.specs.Outcomes.{HasExpanded};
 ghost use Rattle.cha_decide.specs.Shown.{IsFound};
 
 use crate::nowhere::Nowhere;
@@ -45,6 +46,7 @@ fn hunted_last(
     depth: u8,
 ) -> Result<Verdict, NoMemory>
     requires undecided { IsUndecided position.now winner limits.now units depth }
+    requires expanded { HasExpanded position.now winner units }
     ensures found { IfOk result (IsFound position.now winner limits.now) }
 {
     match hunt(

@@ -9,7 +9,7 @@ ghost use Rattle.mob_sets.specs.Rows.{sets_of};
 ghost use Rattle.mob_small.specs.Small.{IsSmallUnwinnable};
 ghost use Rattle.mob_small.specs.Lone.{IsLoneUnwinnable};
 ghost use Rattle.cha_verdict.specs.AtOnce.{IsShownAtOnce};
-ghost use Rattle.cha_decide.specs.Shown.{IsShownUnwinnable};
+ghost use Rattle.cha_decide.specs.Shown.{IsShownUnwinnable, IsShownAlone};
 
 use cha_board::{Color, Position};
 use cha_cert::{Cert, Checked, Node, Part, check};
@@ -43,7 +43,7 @@ fn certified(
 ) -> Result<Cert, NoMemory>
     requires closed { IsClosed position.now (sets_of sets) }
     requires no_mate { HasNoMate position.now (sets_of sets) winner }
-    ensures { IfOk result (λ cert. IsShownUnwinnable position.now winner cert) }
+    ensures { IfOk result (λ cert. IsShownAlone position.now winner cert) }
 {
     position.known();
     let cert = single(alloc, position, Part::Leaf(sets))?;
@@ -54,7 +54,7 @@ fn certified(
 /// accepted it.
 fn certified_small(alloc: Global, position: &Position, winner: Color) -> Result<Cert, NoMemory>
     requires { IsSmallUnwinnable position.now winner }
-    ensures { IfOk result (λ cert. IsShownUnwinnable position.now winner cert) }
+    ensures { IfOk result (λ cert. IsShownAlone position.now winner cert) }
 {
     position.known();
     let cert = single(alloc, position, Part::Small)?;
@@ -65,7 +65,7 @@ fn certified_small(alloc: Global, position: &Position, winner: Color) -> Result<
 /// accepted it.
 fn certified_lone(alloc: Global, position: &Position, winner: Color) -> Result<Cert, NoMemory>
     requires { IsLoneUnwinnable position.now winner }
-    ensures { IfOk result (λ cert. IsShownUnwinnable position.now winner cert) }
+    ensures { IfOk result (λ cert. IsShownAlone position.now winner cert) }
 {
     position.known();
     let cert = single(alloc, position, Part::Lone)?;
@@ -81,7 +81,8 @@ pub fn checked(
 ) -> Result<Cert, NoMemory>
     requires valid { IsValidCert position.now winner cert }
     requires size { (1 ≤ length cert) × (length cert ≤ 4294967295) }
-    ensures { IfOk result (λ shown. IsShownUnwinnable position.now winner shown) }
+    ensures shown { IfOk result (λ shown. IsShownUnwinnable position.now winner shown) }
+    ensures same { IfOk result (λ shown. shown ≡ cert) }
 {
     match check(alloc, position, winner, &cert)? {
         Checked::Accepted => Ok(cert),
@@ -95,7 +96,7 @@ fn shown_by_sets(
     position: &Position,
     winner: Color,
 ) -> Result<Option<Cert>, NoMemory>
-    ensures { IfOk result (λ found. MatchOption found (IsStaticallyUnwinnable position.now winner → ⊥) (λ cert. IsShownUnwinnable position.now winner cert)) }
+    ensures { IfOk result (λ found. MatchOption found (IsStaticallyUnwinnable position.now winner → ⊥) (λ cert. IsShownAlone position.now winner cert)) }
 {
     match static_verdict(alloc, position, winner)? {
         Some(sets) => Ok(Some(certified(alloc, position, winner, sets)?)),
@@ -110,7 +111,7 @@ fn shown_by_material(
     position: &Position,
     winner: Color,
 ) -> Result<Option<Cert>, NoMemory>
-    ensures { IfOk result (λ found. MatchOption found ((IsSmallUnwinnable position.now winner → ⊥) × (IsLoneUnwinnable position.now winner → ⊥)) (λ cert. IsShownUnwinnable position.now winner cert)) }
+    ensures { IfOk result (λ found. MatchOption found ((IsSmallUnwinnable position.now winner → ⊥) × (IsLoneUnwinnable position.now winner → ⊥)) (λ cert. IsShownAlone position.now winner cert)) }
 {
     if small_verdict(position, winner) {
         return Ok(Some(certified_small(alloc, position, winner)?));
@@ -129,7 +130,7 @@ pub fn shown_at_once(
     position: &Position,
     winner: Color,
 ) -> Result<Option<Cert>, NoMemory>
-    ensures { IfOk result (λ found. MatchOption found (IsShownAtOnce position.now winner → ⊥) (λ cert. IsShownUnwinnable position.now winner cert)) }
+    ensures { IfOk result (λ found. MatchOption found (IsShownAtOnce position.now winner → ⊥) (λ cert. IsShownAlone position.now winner cert)) }
 {
     match shown_by_sets(alloc, position, winner)? {
         Some(cert) => Ok(Some(cert)),

@@ -5,7 +5,7 @@ ghost use Rattle.cha_board.specs.declared.men.Color.{Color as Side};
 ghost use Rattle.cha_verdict.specs.Verdicts.{IsPrintable};
 ghost use Rattle.cha_verdict.specs.Sound.{IsSound, IsComplete, verdict_on};
 ghost use Rattle.root_workers.specs.Crews.{IsCrew, AllKnowWell, CrewMakes};
-ghost use Rattle.cha_decide.specs.Shown.{Asked};
+ghost use Rattle.cha_decide.specs.Shown.{IsExpandedUnshown, Asked};
 
 use crate::deciding::decide_by;
 use cha_board::{Color, Position};
@@ -36,6 +36,7 @@ pub fn decide<'x, R: Threads + Wait + Sync>(
     ensures white_printable { IfOk result (λ decision. IsPrintable decision.white) }
     ensures black_printable { IfOk result (λ decision. IsPrintable decision.black) }
     ensures complete { IfOk result (λ decision. (winner : Side) → IsComplete position.now winner limits.now (verdict_on decision winner)) }
+    ensures expanded { IfOk result (λ decision. (winner : Side) → IsExpandedUnshown position.now winner limits.now (verdict_on decision winner)) }
     ensures calls { Asked (CrewMakes 0) crew.old.items crew.new.items position.now result }
 {
     let mut many = Many::new(rt, table, crew);

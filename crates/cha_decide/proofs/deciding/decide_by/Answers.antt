@@ -1,5 +1,6 @@
 use Rattle.cha_verdict.proofs.Complete.{complete}
-use Rattle.cha_decide.proofs.Both.{white_first, black_first}
+use Rattle.cha_decide.specs.Shown.{IsExpandedUnshown}
+use Rattle.cha_decide.proofs.Both.{each_white, each_black, white_first, black_first}
 use Rattle.cha_decide.proofs.Asking.{asked_none, asked_white, asked_black}
 use Rattle.cha_decide.proofs.deciding.decide_by.Goals as goal
 
@@ -16,6 +17,10 @@ returns-in-White-clause-sound g c =
 pub returns-in-White-clause-complete : goal.returns-in-White-clause-complete
 returns-in-White-clause-complete g c = complete c.args.position.now c.args.first c.args.limits.now _ c.known.ensures (returns-in-White-clause-sound g c)
 
+pub returns-in-White-clause-expanded : goal.returns-in-White-clause-expanded
+returns-in-White-clause-expanded g c =
+    each_white (λ w v. IsExpandedUnshown c.args.position.now w c.args.limits.now v) c.args.first c.other.result c.in_ok-examined.examined c.in_ok-other.other c.in-White.is c.other.ensures c.in_ok-examined.ensures.found.expanded c.in_ok-other.ensures.expanded
+
 pub returns-in-White-clause-calls : goal.returns-in-White-clause-calls
 returns-in-White-clause-calls g c =
     asked_white g.C.Facts.made g.met.C.Facts.both_made c.args.crew.now c.examine.new.crew c.examine_other.new.crew c.args.position.now c.args.first c.other.result c.in_ok-examined.examined c.in_ok-other.other c.in-White.is c.other.ensures
@@ -29,6 +34,10 @@ returns-in-Black-clause-sound g c =
 
 pub returns-in-Black-clause-complete : goal.returns-in-Black-clause-complete
 returns-in-Black-clause-complete g c = complete c.args.position.now c.args.first c.args.limits.now _ c.known.ensures (returns-in-Black-clause-sound g c)
+
+pub returns-in-Black-clause-expanded : goal.returns-in-Black-clause-expanded
+returns-in-Black-clause-expanded g c =
+    each_black (λ w v. IsExpandedUnshown c.args.position.now w c.args.limits.now v) c.args.first c.other.result c.in_ok-other.other c.in_ok-examined.examined c.in-Black.is c.other.ensures c.in_ok-examined.ensures.found.expanded c.in_ok-other.ensures.expanded
 
 pub returns-in-Black-clause-calls : goal.returns-in-Black-clause-calls
 returns-in-Black-clause-calls g c =

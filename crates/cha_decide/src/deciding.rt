@@ -4,6 +4,7 @@ ghost use Rattle.std.specs.Prelude.{◌≡◌, IfOk};
 ghost use Rattle.cha_board.specs.declared.men.Color.{Color as Side};
 ghost use Rattle.cha_verdict.specs.Verdicts.{is_winnable as can_mate, is_skipped, IsPrintable};
 ghost use Rattle.cha_verdict.specs.Sound.{IsTrueOf, IsSound, IsComplete, verdict_on};
+ghost use Rattle.root_workers.specs.Worked.{HasWorked};
 ghost use Rattle.cha_decide.specs.Shown.{IsExpandedUnshown, Asked, AskedFor};
 
 use crate::sides::examine;
@@ -48,6 +49,9 @@ pub fn decide_by<C: Crew>(
 
     // Where a verdict comes of a search, the first worker asked its place of facts for the position.
     ensures calls { Asked C.made crew.old crew.new position.now result }
+
+    // Whatever the answer is, the workers did nothing but calls, and know of the calls of all what a crew of their kind knows.
+    ensures worked { HasWorked C.made_by C.count C.knows crew.old crew.new }
 {
     position.known();
     let examined = examine(alloc, position, first, limits, crew)?;

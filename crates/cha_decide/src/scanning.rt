@@ -4,6 +4,7 @@ ghost use Rattle.std.specs.Prelude.{◌≡◌, ◌+◌, ◌<◌, ◌≤◌, leng
 ghost use Rattle.cha_verdict.specs.Verdicts.{is_winnable as can_mate};
 ghost use Rattle.cha_verdict.specs.Scans.{HasScan, IsPrintableScan};
 ghost use Rattle.cha_fact.specs.Entries.{MadeSome};
+ghost use Rattle.root_workers.specs.Worked.{HasWorked};
 ghost use Rattle.cha_decide.specs.Scanning.{IsFoundAt, IsShownAt, IsOpenAt, IsReached, IsScanFound, edge_by, certs_by};
 
 use crate::deciding::decide_by;
@@ -217,6 +218,9 @@ pub fn scan_by<C: Crew>(
     ensures scan { IfOk result (HasScan positions.now first limits.now last.now) }
     ensures printable { IfOk result (λ found. IfSome found (λ scan. IsPrintableScan scan.earlier)) }
     ensures calls { MadeSome C.made crew.old crew.new }
+
+    // Whatever the answer is, the workers did nothing but calls, and know of the calls of all what a crew of their kind knows.
+    ensures worked { HasWorked C.made_by C.count C.knows crew.old crew.new }
 {
     if !are_dead(&last.white, &last.black) {
         return Ok(None);

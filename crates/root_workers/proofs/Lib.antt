@@ -4,7 +4,7 @@ pub mod Gathering
 pub mod Going
 pub mod Ending
 pub mod Crewing
-pub mod Knowing
+pub mod Working
 pub mod Crossing
 mod PassesTaken
 pub mod Partaking

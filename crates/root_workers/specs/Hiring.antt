@@ -7,7 +7,7 @@ use Rattle.root_workers.specs.declared.work.Work.{Work}
 use Rattle.root_workers.specs.declared.work.Worker.{Worker}
 use Rattle.root_workers.specs.declared.hired.Hired.{Hired}
 use Rattle.root_workers.specs.declared.staff.Staff.{Staff}
-use Rattle.root_workers.specs.Crews.{IsCrew, CrewMakes, LeavesWork}
+use Rattle.root_workers.specs.Crews.{IsCrew, AllKnowWell, CrewMakes, LeavesWork}
 use Rattle.root_workers.specs.Histories.{EndsAsOne}
 
 -- So many workers at a table with so many rows for each shard, of which none was dismissed.
@@ -52,6 +52,11 @@ HiredLeave idle (Some hired) i work = LeavesWork hired.crew.items i work
 
 abbrev pub StaffLeaves : Staff → ℕ → Work → Type 0
 StaffLeaves staff i work = HiredLeave staff.idle staff.hired i work
+
+-- what each of those who are hired has seen at each shard is one legal history
+abbrev pub StaffKnows : Option Hired → Type 0
+StaffKnows None = ⊤
+StaffKnows (Some hired) = AllKnowWell hired.table hired.crew.items
 
 -- memory for a table and a crew was refused
 abbrev pub is_refused : Staff → Bool

@@ -6,7 +6,9 @@ pub mod Splits
 pub mod Gathers
 pub mod Histories
 pub mod Hiring
+pub mod Worked
 -- inside the crate
 pub mod Deepens
 pub mod Making
+pub mod Knowing
 pub mod Hirings

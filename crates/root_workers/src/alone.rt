@@ -64,6 +64,8 @@ impl<'a, F: Facts> Crew for Alone<'a, F> {
 
     ghost leaves = { λ s _ work. work ≡ s.work };
 
+    ghost knows = { λ s. F.ready s.place.now };
+
     ghost first_made = { λ a b xs made. made };
 
     ghost made_first = { λ a b xs made. made };
@@ -77,6 +79,8 @@ impl<'a, F: Facts> Crew for Alone<'a, F> {
     ghost some_workers = { λ s ready. one_some };
 
     ghost same_count = { λ _ a b xs made. refl };
+
+    ghost ready_knows = { λ s ready. ready };
 
     fn workers(&self) -> u32 {
         1

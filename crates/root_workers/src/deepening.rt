@@ -178,6 +178,7 @@ pub fn rounds_by<C: Crew>(
     ensures finds_in_two { IfOk result (λ end. (line : List Step) → IsMatingLine position.now winner line → length line ≤ 2 → IsMateEnd end) }
     ensures finds { IfOk result (λ end. (line : List Step) → IsAmple position.now limits.now → IsMatingLine position.now winner line → length line ≤ limits.now.depth → IsMateEnd end) }
     ensures none { IfOk result (λ end. IsAmple position.now limits.now → IsUnwinnable position.now winner → end ≡ RoundsEnd.NoneWithin limits.now.depth) }
+    ensures knows { C.knows crew.new }
 
     ensures calls { RoundsCalls C.made C.made_by (C.count crew.old) crew.old crew.new position.now winner limits.now result }
 {

@@ -186,14 +186,17 @@ impl<'a, R: Threads + Wait + Sync> Facts for Many<'a, R> {
 impl<'a, R: Threads + Wait + Sync> Crew for Many<'a, R> {
     ghost use Rattle.std.specs.Prelude.{refl, length, ◌<◌, slice_index_or};
     ghost use Rattle.std.proofs.Common.{◌∙◌};
-    ghost use Rattle.root_workers.specs.Crews.{CrewMakes, LeavesWork};
+    ghost use Rattle.root_workers.specs.Crews.{CrewMakes, LeavesWork, AllKnowWell};
     ghost use Rattle.root_workers.specs.Making.{crew_makes_none, crew_makes_both, crew_grows};
+    ghost use Rattle.root_workers.specs.Knowing.{all_know_well};
 
     ghost count = { λ s. length s.crew.now.items };
 
     ghost made_by = { λ i old entries new. (new.table.now ≡ old.table.now) × (new.crew.ghost_name ≡ old.crew.ghost_name) × CrewMakes i old.crew.now.items entries new.crew.now.items };
 
     ghost leaves = { λ s i work. LeavesWork s.crew.now.items i work };
+
+    ghost knows = { λ s. AllKnowWell s.table.now s.crew.now.items };
 
     ghost first_made = { λ a b xs made. made };
 
@@ -208,6 +211,8 @@ impl<'a, R: Threads + Wait + Sync> Crew for Many<'a, R> {
     ghost some_workers = { λ s ready. ready.1.some };
 
     ghost same_count = { λ i a b xs made. made.2.same };
+
+    ghost ready_knows = { λ s ready. all_know_well s.table.now s.crew.now.items ready.1 };
 
     fn workers(&self) -> u32 {
         self.crew.len() as u32

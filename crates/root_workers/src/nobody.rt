@@ -62,6 +62,8 @@ impl Crew for Nobody {
 
     ghost leaves = { λ s _ work. work ≡ s.work };
 
+    ghost knows = { λ _. Unit {0} };
+
     ghost first_made = { λ a b xs made. tt };
 
     ghost made_first = { λ a b xs made. tt };
@@ -75,6 +77,8 @@ impl Crew for Nobody {
     ghost some_workers = { λ s ready. one_some };
 
     ghost same_count = { λ _ a b xs made. refl };
+
+    ghost ready_knows = { λ s ready. tt };
 
     fn workers(&self) -> u32 {
         1

@@ -71,14 +71,17 @@ impl<'a, R: Threads + Wait + Sync> Facts for OnDemand<'a, R> {
 }
 
 impl<'a, R: Threads + Wait + Sync> Crew for OnDemand<'a, R> {
-    ghost use Rattle.root_workers.specs.Hiring.{StaffMakes, StaffLeaves, staff_count};
+    ghost use Rattle.root_workers.specs.Hiring.{StaffMakes, StaffLeaves, StaffKnows, staff_count};
     ghost use Rattle.root_workers.specs.Hirings.{staff_none, staff_both, staff_grows, staff_some};
+    ghost use Rattle.root_workers.specs.Knowing.{staff_knows};
 
     ghost count = { λ s. staff_count s.staff };
 
     ghost made_by = { λ i old entries new. StaffMakes i old.staff entries new.staff };
 
     ghost leaves = { λ s i work. StaffLeaves s.staff i work };
+
+    ghost knows = { λ s. StaffKnows s.staff.hired };
 
     ghost first_made = { λ a b xs made. made };
 
@@ -93,6 +96,8 @@ impl<'a, R: Threads + Wait + Sync> Crew for OnDemand<'a, R> {
     ghost some_workers = { λ s ready. staff_some s.staff ready.1 };
 
     ghost same_count = { λ i a b xs made. made.count };
+
+    ghost ready_knows = { λ s ready. staff_knows s.staff ready.1 };
 
     fn workers(&self) -> u32 {
         self.staff.workers()

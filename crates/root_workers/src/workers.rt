@@ -16,8 +16,8 @@ use std::alloc::Global;
 /// Workers that share out the root moves of a round, each with a place of its own that keeps facts. As a place of facts a crew
 /// is that of its first worker.
 ///
-/// Contracts see how many workers there are, which entries each of them made from one state of the crew to a later one, and
-/// what each left of the last round.
+/// Contracts see how many workers there are, which entries each of them made from one state of the crew to a later one, what
+/// each left of the last round, and what they know.
 pub trait Crew: Facts {
     ghost use Rattle.root_workers.specs.declared.work.Work.{Work};
 
@@ -29,6 +29,10 @@ pub trait Crew: Facts {
 
     /// The worker with this number left this work.
     ghost leaves: { Self → ℕ → Work → Type 0 };
+
+    /// What the workers know of the calls of all. Of a crew at a table: what each worker has seen at each shard is one legal
+    /// history, in which the entries under the number of its pass are those that it made.
+    ghost knows: { Self → Type 0 };
 
     /// How many workers there are, from 1 to 16.
     fn workers(&self) -> u32
@@ -77,4 +81,7 @@ pub trait Crew: Facts {
 
     /// The workers stay as many.
     ghost same_count: { (i : ℕ) (a b : Self) (xs : List Entry) → made_by i a xs b → count b ≡ count a };
+
+    /// The workers know it at any time, after a call that was refused memory too.
+    ghost ready_knows: { (s : Self) → Self.ready s → knows s };
 }

@@ -1,8 +1,7 @@
 use Rattle.std.proofs.Common.{◌≡◌, ◌∙◌, List, subst, rules}
 use Rattle.shard_table.specs.declared.table.Table.{Table}
 use Rattle.root_workers.specs.declared.work.Worker.{Worker}
-use Rattle.root_workers.specs.Crews.{IsCrew, AllKnowWell}
-use Rattle.root_workers.proofs.Knowing.{all_know_well}
+use Rattle.root_workers.specs.Crews.{AllKnowWell}
 use Rattle.cha_decide.proofs.table_deciding.decide.Goals as goal
 
 pub returns-clause-knows : goal.returns-clause-knows
@@ -11,5 +10,5 @@ returns-clause-knows g c =
     let same = made.0 ∙ c.new-many.ensures.table in
     let lent : c.decide_by.new.crew.crew.ghost_name ≡ c.new-many.result.crew.ghost_name = made.1 in
     let P : List Worker → Type 0 = λ new. AllKnowWell c.args.table.now new in
-    let known = all_know_well c.args.table.now c.decide_by.new.crew.crew.now.items (subst (λ (t : Table). IsCrew t c.decide_by.new.crew.crew.now.items) same c.decide_by.ensures.stays_ready.1) in
+    let known = subst (λ (t : Table). AllKnowWell t c.decide_by.new.crew.crew.now.items) same c.decide_by.ensures.worked.known in
     subst P (search rules) known

@@ -1,10 +1,9 @@
 use Rattle.std.proofs.Common.{◌≡◌, ◌∙◌, List, length, ap, subst, rules, Vec, Global}
 use Rattle.shard_table.specs.declared.table.Table.{Table}
 use Rattle.root_workers.specs.declared.work.Worker.{Worker}
-use Rattle.root_workers.specs.Crews.{IsCrew, AllKnowWell, CrewMakes}
+use Rattle.root_workers.specs.Crews.{AllKnowWell, CrewMakes}
 use Rattle.root_workers.specs.RoundAnswers.{RoundsCalls}
 use Rattle.root_workers.proofs.Crewing.{rounds_seen}
-use Rattle.root_workers.proofs.Knowing.{all_know_well}
 use Rattle.root_workers.proofs.table_rounds.rounds.Goals as goal
 
 pub returns-clause-calls : goal.returns-clause-calls
@@ -19,9 +18,9 @@ returns-clause-calls g c =
 
 pub returns-clause-knows : goal.returns-clause-knows
 returns-clause-knows g c =
-    let calls = c.rounds_by.ensures.calls in
-    let same = calls.entered.0 ∙ c.new-many.ensures.table in
-    let lent : c.rounds_by.new.crew.crew.ghost_name ≡ c.new-many.result.crew.ghost_name = calls.entered.1 in
+    let entered = c.rounds_by.ensures.calls.entered in
+    let same = entered.0 ∙ c.new-many.ensures.table in
+    let lent : c.rounds_by.new.crew.crew.ghost_name ≡ c.new-many.result.crew.ghost_name = entered.1 in
     let P : List Worker → Type 0 = λ new. AllKnowWell c.args.table.now new in
-    let known = all_know_well c.args.table.now c.rounds_by.new.crew.crew.now.items (subst (λ (t : Table). IsCrew t c.rounds_by.new.crew.crew.now.items) same c.rounds_by.ensures.stays_ready.1) in
+    let known = subst (λ (t : Table). AllKnowWell t c.rounds_by.new.crew.crew.now.items) same c.rounds_by.ensures.knows in
     subst P (search rules) known

@@ -25,5 +25,6 @@ pub fn corner_guide(position: &Position, winner: Color) -> u8
     }
     let men = LOSERS_MAN * u32::from(other.others().len());
     let force = want_of_force(&own, &other, position.occupied());
-    FARTHEST.min(men + force + least_corner(&own, &other)) as u8
+    let near = FARTHEST.min(men + force);
+    FARTHEST.min(near + least_corner(&own, &other, FARTHEST - near)) as u8
 }

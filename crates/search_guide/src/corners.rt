@@ -133,40 +133,65 @@ fn kings_from_corners(own: &Army, other: &Army) -> u32
     first.min(last)
 }
 
-/// How far minor pieces, where the winner has no others, are from where they stand in a mate in a corner. Where one of them or
-/// bishops of one colour are alone, a man of the loser has to stand beside the corner.
-fn minor_away(own: &Army, other: &Army, corner: Square) -> u32
-    ensures { result ≤ FARTHEST + NO_BLOCKER }
-{
-    let knights = knights_away(own.knights, corner);
-    if own.is_lone() {
-        knights + least_blocker(own, other, corner)
-    } else {
-        knights
-    }
-}
-
-/// How far the loser's king is from a mate in some corner by minor pieces, where the winner has no others.
-fn least_corner_of_minor(own: &Army, other: &Army) -> u32
+/// How far a mate in a corner is for minor pieces, where the winner has no others, or `least` where it is no nearer. Where one of
+/// them or bishops of one colour are alone, a man of the loser has to stand beside the corner.
+// What counts most is asked for last, and only where what is known already is less.
+fn corner_of_minor(own: &Army, other: &Army, corner: Square, least: u32) -> u32
+    requires { least ≤ FARTHEST }
     ensures { result ≤ FARTHEST }
 {
-    let mut least = FARTHEST;
-    let mut left = corners(own);
+    let kings = kings_away(own, other, corner.file(), corner.rank());
+    if kings >= least {
+        return least;
+    }
+    let men = kings + knights_away(own.knights, corner);
+    if men >= least || !own.is_lone() {
+        return least.min(men);
+    }
+    least.min(men + least_blocker(own, other, corner))
+}
+
+/// The corner that is nearest to a square.
+fn nearest_corner(at: Square) -> Square {
+    let file = if at.file() < 4 { 0 } else { LAST };
+    let rank = if at.rank() < 4 { 0 } else { LAST };
+    Square::on(file, rank)
+}
+
+/// How far a mate in some of these corners is for minor pieces, where the winner has no others, at most `most`.
+fn least_of_corners(own: &Army, other: &Army, corners: SquareSet, most: u32) -> u32
+    requires { most ≤ FARTHEST }
+    ensures { result ≤ FARTHEST }
+{
+    let mut least = most;
+    let mut left = corners;
     while let Some(corner) = left.first() {
-        let kings = kings_away(own, other, corner.file(), corner.rank());
-        least = least.min(kings + minor_away(own, other, corner));
+        least = corner_of_minor(own, other, corner, least);
         left = left.without(corner);
     }
     least
 }
 
-/// How far the loser's king is from a mate in some corner.
-pub fn least_corner(own: &Army, other: &Army) -> u32
+/// How far the loser's king is from a mate in some corner by minor pieces, where the winner has no others, at most `most`.
+// The nearest corner comes first: the others are seldom less.
+fn least_corner_of_minor(own: &Army, other: &Army, most: u32) -> u32
+    requires { most ≤ FARTHEST }
+    ensures { result ≤ FARTHEST }
+{
+    let all = corners(own);
+    let nearest = SquareSet::single(nearest_corner(other.king));
+    let least = least_of_corners(own, other, all.common(nearest), most);
+    least_of_corners(own, other, all.minus(nearest), least)
+}
+
+/// How far the loser's king is from a mate in some corner, at most `most`.
+pub fn least_corner(own: &Army, other: &Army, most: u32) -> u32
+    requires { most ≤ FARTHEST }
     ensures { result ≤ FARTHEST }
 {
     if own.is_minor() {
-        least_corner_of_minor(own, other)
+        least_corner_of_minor(own, other, most)
     } else {
-        kings_from_corners(own, other)
+        most.min(kings_from_corners(own, other))
     }
 }

@@ -27,6 +27,9 @@ pub fn reaches(from: Square, over: SquareSet, goals: SquareSet) -> bool {
 pub fn steps_to_nearest(from: Square, set: SquareSet) -> Option<u8>
     ensures { IfSome result (λ steps. steps < 8) }
 {
+    if set.is_empty() {
+        return None;
+    }
     let mut at = SquareSet::single(from);
     for steps in 0..8 {
         if !at.common(set).is_empty() {

@@ -23,15 +23,15 @@ pub const LONGEST_WAY: u32 = 40;
 pub fn ranks_to_promotion(side: Color, pawns: SquareSet) -> Option<u8>
     ensures { IfSome result (λ ranks. ranks < 8) }
 {
-    let last = SquareSet::of_rank(promotion_rank(side));
-    let mut moved = pawns;
-    for ranks in 0..8 {
-        if !moved.common(last).is_empty() {
-            return Some(ranks);
-        }
-        moved = moved.ahead(side);
+    if pawns.is_empty() {
+        return None;
     }
-    None
+    // The bit of the corner changes nothing: it only tells that there is a bit.
+    let squares = match side {
+        Color::White => (pawns.bits() | 1).leading_zeros(),
+        Color::Black => (pawns.bits() | 1 << 63).trailing_zeros(),
+    };
+    Some((squares / 8).min(7) as u8)
 }
 
 /// The squares in front of a pawn on its file.
@@ -81,14 +81,23 @@ fn blocked(own: &Army, other: &Army, pawn: Square, squares: SquareSet) -> u32
     }
 }
 
-/// What the way of a pawn to the last rank counts.
-fn way(own: &Army, other: &Army, occupied: SquareSet, pawn: Square) -> u32
-    ensures { result ≤ 412 }
+/// What the way of a pawn to the last rank counts, or `least` where it is no less.
+// What counts most is asked for last, and only where what is known already is less.
+fn way(own: &Army, other: &Army, occupied: SquareSet, pawn: Square, least: u32) -> u32
+    requires { least ≤ LONGEST_WAY }
+    ensures { result ≤ LONGEST_WAY }
 {
+    let ranks = u32::from(pawn.rank().abs_diff(promotion_rank(own.side)));
+    if RANK * ranks >= least {
+        return least;
+    }
     let squares = in_front(own.side, pawn);
-    let ranks = u32::from(squares.len());
     let men = u32::from(squares.common(occupied).len());
-    RANK * ranks + MAN_IN_FRONT * men + blocked(own, other, pawn, squares)
+    let open = RANK * ranks + MAN_IN_FRONT * men;
+    if open >= least {
+        return least;
+    }
+    least.min(open + blocked(own, other, pawn, squares))
 }
 
 /// What the way of a side's pawns to promotion counts: the least over its pawns, at most `LONGEST_WAY`.
@@ -98,7 +107,7 @@ pub fn least_way(own: &Army, other: &Army, occupied: SquareSet) -> u32
     let mut least = LONGEST_WAY;
     let mut left = own.pawns;
     while let Some(pawn) = left.first() {
-        least = least.min(way(own, other, occupied, pawn));
+        least = way(own, other, occupied, pawn, least);
         left = left.without(pawn);
     }
     least

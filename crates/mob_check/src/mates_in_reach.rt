@@ -3,7 +3,7 @@
 ghost use Rattle.std.specs.Prelude.{◌≡◌, ◌↔◌, ◌≤◌, IsTrue};
 ghost use Rattle.mob_law.specs.Threats.{HasNoMate};
 ghost use Rattle.mob_sets.specs.Rows.{sets_of};
-ghost use Rattle.mob_check.specs.MatesInReach.{left_squares, shuts_from, may_shut, mates_with_all, mates_as, mates_from, mates_with_one, mates_among, may_mate_on, may_mate};
+ghost use Rattle.mob_check.specs.MatesInReach.{left_squares, shuts_from, may_shut, ring_of_one, mates_with_all, mates_as, mates_from, mates_with_one, mates_among, may_mate_on, may_mate};
 ghost use Rattle.mob_check.specs.MatesInReach.{men_near as men_near_king};
 
 use crate::attacks::{check_as, some_check, struck};
@@ -119,12 +119,21 @@ fn mate_from(scene: &Scene, seen: SquareSet, men: u8, king: Square, from: Square
 }
 
 /// The same from a square, as a kind.
+// Most squares are out of reach as most kinds, which costs a test of one bit where no call is made for it.
+#[inline(always)]
 #[tactic(auto, unfolding(crate::specs::MatesInReach::mates_as))]
 fn mate_as(scene: &Scene, seen: SquareSet, men: u8, king: Square, from: Square, kind: Kind) -> bool
     ensures { result ≡ mates_as scene.now seen men king from kind }
 {
-    check_as(scene, king, from, kind)
-        && some_shut(scene, &ring_of(scene, seen, men, king, from, kind), king)
+    check_as(scene, king, from, kind) && shut_by(scene, seen, men, king, from, kind)
+}
+
+/// Whether the winner's king may stand so that, with its only man on a square as a kind, it keeps the other king in.
+#[inline(never)]
+fn shut_by(scene: &Scene, seen: SquareSet, men: u8, king: Square, from: Square, kind: Kind) -> bool
+    ensures { result ≡ may_shut scene.now (ring_of_one scene.now seen men king from kind) king }
+{
+    some_shut(scene, &ring_of(scene, seen, men, king, from, kind), king)
 }
 
 /// Whether the winner's king may stand so that with a ring it keeps the other king in.

@@ -4,16 +4,11 @@ ghost use Rattle.std.specs.Prelude.{◌+◌, ◌<◌, ◌≤◌};
 
 use crate::army::{Army, color_of};
 use crate::king_walks::steps_to_nearest;
+use crate::kings::{kings_away, kings_from_corners};
 use crate::pawns::ranks_to_promotion;
 use cha_board::{Color, Kind, Square, SquareSet, aims_alone, steps_between};
 
-/// What each king's step of the loser's king to the corner counts.
-const LOSERS_STEP: u32 = 2;
-
-/// What each king's step counts that the winner's king is too near to the corner or too far from it.
-const WINNERS_STEP: u32 = 3;
-
-/// How many king's steps from the corner the winner's king and its knights stand well.
+/// How many king's steps from the corner the winner's knights stand well.
 const WELL_PLACED: u8 = 2;
 
 /// What it counts that no man of the loser can stand beside the corner.
@@ -104,35 +99,6 @@ fn least_blocker(own: &Army, other: &Army, corner: Square) -> u32
     least
 }
 
-/// How many king's steps a square is from the corner on a file and a rank.
-fn steps_to(at: Square, file: u8, rank: u8) -> u8
-    requires file { file < 8 }
-    requires rank { rank < 8 }
-    ensures { result < 8 }
-{
-    at.file().abs_diff(file).max(at.rank().abs_diff(rank))
-}
-
-/// How far the kings are from where they stand in a mate in the corner on a file and a rank.
-fn kings_away(own: &Army, other: &Army, file: u8, rank: u8) -> u32
-    requires file { file < 8 }
-    requires rank { rank < 8 }
-    ensures { result ≤ 35 }
-{
-    let losers = u32::from(steps_to(other.king, file, rank));
-    let winners = u32::from(steps_to(own.king, file, rank).abs_diff(WELL_PLACED));
-    LOSERS_STEP * losers + WINNERS_STEP * winners
-}
-
-/// How far the kings are from where they stand in a mate in some corner.
-fn kings_from_corners(own: &Army, other: &Army) -> u32
-    ensures { result ≤ 35 }
-{
-    let first = kings_away(own, other, 0, 0).min(kings_away(own, other, LAST, 0));
-    let last = kings_away(own, other, 0, LAST).min(kings_away(own, other, LAST, LAST));
-    first.min(last)
-}
-
 /// How far a mate in a corner is for minor pieces, where the winner has no others, or `least` where it is no nearer. Where one of
 /// them or bishops of one colour are alone, a man of the loser has to stand beside the corner.
 // What counts most is asked for last, and only where what is known already is less.
@@ -140,7 +106,7 @@ fn corner_of_minor(own: &Army, other: &Army, corner: Square, least: u32) -> u32
     requires { least ≤ FARTHEST }
     ensures { result ≤ FARTHEST }
 {
-    let kings = kings_away(own, other, corner.file(), corner.rank());
+    let kings = kings_away(own, other, corner);
     if kings >= least {
         return least;
     }

@@ -6,7 +6,7 @@ use cha_moves::Move;
 use std::alloc::Global;
 
 /// How many slots there are at first.
-const FIRST_SLOTS: usize = 512;
+const FIRST_SLOTS: usize = 2048;
 
 /// How many times as many slots there are once half of them are taken.
 const GROWTH: usize = 4;

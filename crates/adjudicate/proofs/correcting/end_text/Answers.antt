@@ -12,8 +12,8 @@ returns-in-Failed g c =
     let cause = rw c.in-Failed.is at c.put.ensures.cause in
     ended_cut _ _ _ _ _ _ _ _ _ c.behind.ensures (rw c.in-Failed.is at c.put.ensures.bytes) cause.0 cause.1
 
-pub returns-in-All : goal.returns-in-All
-returns-in-All g c =
+pub returns-in-All-put : goal.returns-in-All-put
+returns-in-All-put g c =
     let shut = same_closed KeptItems _ _ _ c.requires.kept (c.is_closed.ensures c.requires.ended.1 c.requires.ended.0) in
     let told = c.items.ensures ∙ c.in-Ok.ensures ∙ ap (λ b. summary SummaryAlone Games b c.args.totals.now) shut in
     ended_well _ _ _ _ _ _ _ _ _ _ c.behind.ensures (rw c.in-All.is at c.put.ensures.bytes) (rw c.in-All.is at c.put.ensures.cause) told (rw c.in-All-put.is at c.put-2.ensures.bytes) (rw c.in-All-put.is at c.put-2.ensures.cause)

@@ -1,4 +1,4 @@
-use Rattle.std.proofs.Common.{◌≡◌, ◌≤◌, length, Some, IsSome, sym, ap, ◌∙◌, subst}
+use Rattle.std.proofs.Common.{◌≡◌, ◌≤◌, length, Some, IsSome, refl, sym, ap, ◌∙◌, subst}
 use Rattle.cha_outside.specs.Writing.{Takes}
 use Rattle.cha_outcome.specs.Outcomes.{new_result}
 use Rattle.adjudicate.specs.Steps.{game_piece}
@@ -6,7 +6,7 @@ use Rattle.adjudicate.proofs.CorrectingLoop.{same_span}
 use Rattle.adjudicate.proofs.correcting.write_game.Goals as goal
 
 pub span_of-span-requires : goal.span_of-span-requires
-span_of-span-requires g c = subst (λ p. IsSome p) (sym c.requires.place.1) tt
+span_of-span-requires g c = record { game = subst (λ p. IsSome p) (sym c.requires.place.1) refl }
 
 pub text_of_game-requires-clause-place : goal.text_of_game-requires-clause-place
 text_of_game-requires-clause-place g c =

@@ -5,6 +5,9 @@ use cha_list::NoMemory;
 use cha_moves::Move;
 use std::alloc::Global;
 
+/// For how many positions the way to one has room at first; most ways are shorter.
+const USUAL_PATH: usize = 64;
+
 /// How many slots there are at first.
 const FIRST_SLOTS: usize = 2048;
 
@@ -171,6 +174,9 @@ impl Nodes {
     /// The numbers of the positions on the way to one, from the first on.
     pub fn path(&self, alloc: Global, name: u32) -> Result<Vec<u32>, NoMemory> {
         let mut path = Vec::new(alloc);
+        let Ok(()) = path.try_reserve(USUAL_PATH) else {
+            return Err(NoMemory);
+        };
         let mut at = name;
         for _ in 0..self.nodes.len() {
             path.push(at)?;
@@ -192,6 +198,9 @@ impl Nodes {
     pub fn line(&self, alloc: Global, name: u32) -> Result<Vec<Move>, NoMemory> {
         let mut line = Vec::new(alloc);
         let path = self.path(alloc, name)?;
+        let Ok(()) = line.try_reserve(path.len()) else {
+            return Err(NoMemory);
+        };
         for at in &path {
             if let Some(origin) = self.origin(*at) {
                 line.push(origin.by)?;

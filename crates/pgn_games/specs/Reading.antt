@@ -19,7 +19,7 @@ Takes left left' taken taken' = Gathers left left' taken taken'
 -- What was taken is a front in which no more games are settled than so many, and one piece behind it: no piece was taken before it was needed
 -- for one game more.
 abbrev pub TookNoMore : List ℕ → List ℕ → ℕ → Type 0
-TookNoMore taken piece given = (front : List ℕ) × (taken ≡ front ++ piece) × (length piece ≤ 1048576) × (settled_games front ≤ given)
+TookNoMore taken piece given = (front : List ℕ) × (taken ≡ front ++ piece) × (length piece ≤ 8388608) × (settled_games front ≤ given)
 
 -- a game was given
 abbrev pub gives_game : Result (Option PlacedGame) ReadEnd → Bool

@@ -111,7 +111,7 @@ impl Cutter {
         ensures bytes { Takes (S.left source.old) (S.left source.new) (taken_by self.old) (taken_by self.new) }
         ensures same { (self.new.given ≡ self.old.given) × (self.new.lexer ≡ self.old.lexer) × (self.new.game ≡ self.old.game) × (self.new.behind ≡ self.old.behind) × (self.new.place ≡ self.old.place) }
         ensures open { OnOk result (IsOpenAt self.new) }
-        ensures piece { (taken_by self.new ≡ taken_by self.old ++ self.new.piece.items) × (length self.new.piece.items ≤ 1048576) }
+        ensures piece { (taken_by self.new ≡ taken_by self.old ++ self.new.piece.items) × (length self.new.piece.items ≤ 8388608) }
         ensures more { result ≡ Ok Filled.More → length (taken_by self.old) < length (taken_by self.new) }
         ensures end { result ≡ Ok Filled.End → IsAtEnd (S.left source.new) × (self.new.piece.items ≡ []) }
         ensures fault { result ≡ Err ReadEnd.ReadFault → Rose (S.faults source.old) (S.faults source.new) × (self.new.piece.items ≡ []) }

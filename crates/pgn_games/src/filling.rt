@@ -12,7 +12,7 @@ const PIECE: usize = 65_536;
 
 /// How many bytes a later read asks for at most. It asks for twice as many as the last one gave: a file comes in large pieces, whose
 /// games are judged side by side, and what comes bit by bit needs no more room than before.
-const MOST_PIECE: usize = 1_048_576;
+const MOST_PIECE: usize = 8_388_608;
 
 /// The most bytes that are taken of a source: 4,096 more than a text may have, by which it is seen to be too long.
 pub const MOST_TAKEN: usize = MOST_BYTES + 4096;
@@ -27,7 +27,7 @@ pub enum Filled {
 }
 
 /// Reads the next piece of a source, in place of the last one. It asks for twice as many bytes as the last one has, but for 65,536 at
-/// least, 1,048,576 at most, and never for more than `most`. The room is what is read into; it grows, and serves again.
+/// least, 8,388,608 at most, and never for more than `most`. The room is what is read into; it grows, and serves again.
 pub fn fill<S: Source>(
     piece: &mut Vec<u8>,
     room: &mut Vec<u8>,
@@ -36,7 +36,7 @@ pub fn fill<S: Source>(
 ) -> Result<Filled, ReadEnd>
     requires { 0 < most }
     ensures bytes { Consumes (S.left source.old) (S.left source.new) piece.new.items }
-    ensures few { length piece.new.items ≤ 1048576 }
+    ensures few { length piece.new.items ≤ 8388608 }
     ensures within { length piece.new.items ≤ most }
     ensures more { result ≡ Ok Filled.More → 0 < length piece.new.items }
     ensures end { result ≡ Ok Filled.End → IsAtEnd (S.left source.new) × (piece.new.items ≡ []) }

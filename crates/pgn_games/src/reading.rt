@@ -75,7 +75,7 @@ impl Reader {
 
     /// The next game of a source, or None where the source has ended and all its games were given.
     ///
-    /// A game whose tags tell no other position begins at the opening. It reads no further piece, of at most 1,048,576 bytes, than the
+    /// A game whose tags tell no other position begins at the opening. It reads no further piece, of at most 8,388,608 bytes, than the
     /// game needs: a game is given once the byte behind its last token was taken. The games given are the first games of the bytes
     /// taken, in order. `ReadFault` comes only where the source failed in this call, and each game that is settled in the bytes taken
     /// was given before; `TooLong` comes where the source gave more than 268,435,456 bytes (at most 4,096 more are taken), and

@@ -70,7 +70,7 @@ settled_of i h = omega (arith, h.settled refl, ap settled_games (arrived_is i h)
 -- a piece was kept and handed on
 pub open_more : (i j : Intake) (piece : List ℕ) → IsOpen i false → (j.games.failed ≡ false) × (j.games.ended ≡ false) → j.piece.items ≡ []
     → arrived j ≡ i.games.taken ++ piece → j.games.given ≡ i.games.given → j.kept ≡ drop i.written i.kept ++ piece → (j.start ≡ i.start + i.written) × (j.written ≡ 0)
-    → i.start + (length i.kept + length piece) ≤ MOST_BYTES → length piece ≤ 1048576 → settled_games i.games.taken ≤ i.games.given → IsOpen j false
+    → i.start + (length i.kept + length piece) ≤ MOST_BYTES → length piece ≤ 8388608 → settled_games i.games.taken ≤ i.games.given → IsOpen j false
 open_more i j piece h games handed_on now given kept start few short needed =
     let taken : j.games.taken ≡ i.games.taken ++ piece = sym (ap (λ xs. j.games.taken ++ xs) handed_on ∙ append-nil j.games.taken) ∙ now in
     let size = ap length taken ∙ length-append i.games.taken piece in

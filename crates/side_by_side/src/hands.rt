@@ -95,9 +95,9 @@ impl Hands for OneByOne {
     }
 }
 
-/// How many items of a batch there are at most for each thread: enough that the parts take about as long as one another, and few enough
-/// that a piece of a file has several batches, of which the next one is cut while one is worked on.
-const FOR_EACH: usize = 64;
+/// How many items a batch of threads has at most: so many that threads seldom begin and end, and so few that a piece of a file has
+/// several batches, of which the next one is cut while one is worked on.
+const MOST_ITEMS: usize = 2048;
 
 /// Threads work ahead, at most so many; where it is one, nobody does. A certificate of many nodes is checked by as many as the runtime
 /// gives.
@@ -124,15 +124,11 @@ impl<'a, R: Threads + Sync> Hands for Threaded<'a, R> {
     ghost ready = { λ s. IsSync R.row × (1 ≤ s.most) };
 
     fn most_items(&self) -> usize {
-        if self.most <= 1 {
-            1
-        } else {
-            FOR_EACH * self.most as usize
-        }
+        if self.most <= 1 { 1 } else { MOST_ITEMS }
     }
 
     fn most_behind(&self) -> usize {
-        if self.most <= 1 { 0 } else { self.most_items() }
+        if self.most <= 1 { 0 } else { MOST_ITEMS }
     }
 
     fn work_ahead<F: FnMut()>(

@@ -43,8 +43,8 @@ pub fn report_games<H: Hands, J: Judge, S: Source, K: Sink>(
         style,
         subject: Subject::Games,
     };
-    let items = Batches::new(alloc, hands, ItemReader::Games(reader), judge.question());
-    write_report(alloc, form, items, judge, source, sink)
+    let mut items = Batches::new(alloc, hands, ItemReader::Games(reader), judge.question());
+    write_report(alloc, form, &mut items, judge, source, sink)
 }
 
 /// Writes the report on the lines of a source that are not blank, each as soon as it has come.
@@ -64,8 +64,8 @@ pub fn report_lines<H: Hands, J: Judge, S: Source, K: Sink>(
     ensures run { IsRunOf (demand_by (Some (on_lines (J.question judge.old) form.style form.subject))) result (outside (S.left source.old) (S.faults source.old) (K.written sink.old) (K.faults sink.old)) (outside (S.left source.new) (S.faults source.new) (K.written sink.new) (K.faults sink.new)) }
 {
     let reader = LineReader::new(alloc);
-    let items = Batches::new(alloc, hands, ItemReader::Lines(reader), judge.question());
-    write_report(alloc, form, items, judge, source, sink)
+    let mut items = Batches::new(alloc, hands, ItemReader::Lines(reader), judge.question());
+    write_report(alloc, form, &mut items, judge, source, sink)
 }
 
 /// Writes the moves of the games of a source, of each as soon as it has come.
@@ -91,8 +91,8 @@ pub fn report_replays<H: Hands, J: Judge, S: Source, K: Sink>(
         style,
         subject: Subject::Plies,
     };
-    let items = Batches::new(alloc, hands, ItemReader::Replays(reader), judge.question());
-    write_report(alloc, form, items, judge, source, sink)
+    let mut items = Batches::new(alloc, hands, ItemReader::Replays(reader), judge.question());
+    write_report(alloc, form, &mut items, judge, source, sink)
 }
 
 /// Makes so many games of a seed, and writes the summary of the report on them alone. Nothing is read.

@@ -37,22 +37,21 @@ pub struct Form {
 pub fn write_report<H: Hands, J: Judge, S: Source, K: Sink>(
     alloc: Global,
     form: Form,
-    batches: Batches<H>,
+    items: &mut Batches<H>,
     judge: &mut J,
     source: &mut S,
     sink: &mut K,
 ) -> Status
     requires ready { J.ready judge.old }
-    requires asked { batches.question ≡ J.question judge.old }
-    requires goes_on { batches.failed ≡ false }
-    requires first { batches.given ≡ 0 }
-    requires few { length batches.taken ≤ most_bytes }
-    requires ended { batches.ended ≡ true → IsAtEnd (S.left source.old) }
+    requires asked { items.old.question ≡ J.question judge.old }
+    requires goes_on { items.old.failed ≡ false }
+    requires first { items.old.given ≡ 0 }
+    requires few { length items.old.taken ≤ most_bytes }
+    requires ended { items.old.ended ≡ true → IsAtEnd (S.left source.old) }
     ensures stays_ready { J.ready judge.new }
     ensures worked { J.worked judge.old judge.new }
-    ensures run { (left : Option (List ℕ)) (faults : ℕ) → Consumes left (S.left source.old) batches.entry.taken → faults ≤ S.faults source.old → IsRunOf (demand_by (Some (job_on batches.entry.kind (J.question judge.old) form))) result (outside left faults (K.written sink.old) (K.faults sink.old)) (outside (S.left source.new) (S.faults source.new) (K.written sink.new) (K.faults sink.new)) }
+    ensures run { (left : Option (List ℕ)) (faults : ℕ) → Consumes left (S.left source.old) items.old.taken → faults ≤ S.faults source.old → IsRunOf (demand_by (Some (job_on items.old.kind (J.question judge.old) form))) result (outside left faults (K.written sink.old) (K.faults sink.old)) (outside (S.left source.new) (S.faults source.new) (K.written sink.new) (K.faults sink.new)) }
 {
-    let mut items = batches;
     let mut totals = Totals::new();
     loop {
         let found = match items.next(alloc, source) {

@@ -8,13 +8,13 @@ use Rattle.adjudicate.proofs.reports.write_report.Given as goal
 -- the items given so far were judged, and what is printed of them was written
 abbrev pub invariant-loop-found : goal.invariant-loop-found
 invariant-loop-found g l = record {
-  at : IsAt (job_on l.fn.batches.kind (g.J.Judge.question l.fn.judge) l.form) (g.K.Sink.written l.fn.sink) (g.K.Sink.written l.sink) l.items.taken l.items.given l.totals;
-  kind : l.items.kind ≡ l.fn.batches.kind;
+  at : IsAt (job_on l.fn.items.kind (g.J.Judge.question l.fn.judge) l.form) (g.K.Sink.written l.fn.sink) (g.K.Sink.written l.sink) l.items.taken l.items.given l.totals;
+  kind : l.items.kind ≡ l.fn.items.kind;
   asked : l.items.question ≡ g.J.Judge.question l.fn.judge;
   question : g.J.Judge.question l.judge ≡ g.J.Judge.question l.fn.judge;
-  took : Gathers (g.S.Source.left l.fn.source) (g.S.Source.left l.source) l.fn.batches.taken l.items.taken;
+  took : Gathers (g.S.Source.left l.fn.source) (g.S.Source.left l.source) l.fn.items.taken l.items.taken;
   end : l.items.ended ≡ true → IsAtEnd (g.S.Source.left l.source);
-  due : l.items.ended ≡ false → l.items.given ≤ settled_by l.fn.batches.kind l.items.taken;
+  due : l.items.ended ≡ false → l.items.given ≤ settled_by l.fn.items.kind l.items.taken;
   goes_on : l.items.failed ≡ false;
   few : length l.items.taken ≤ 268435456;
   source_later : g.S.Source.faults l.fn.source ≤ g.S.Source.faults l.source;

@@ -15,7 +15,6 @@ use mob_small::small_verdict;
 use mob_solve::static_verdict;
 use shard_table::{Shard, Table};
 use std::alloc::Global;
-use std::sync::Wait;
 use std::test::Fail;
 
 /// A queen is taken by the only move, and a bare king is left to play against a pawn.
@@ -86,135 +85,104 @@ fn explored(
     Ok(explore_in(alloc, position, Color::White, budget, shard)?)
 }
 
-/// Explores for White by a new place, where it may begin.
-fn explored_anew(alloc: Global, position: &Position, budget: u32) -> Result<Explored, Fail> {
-    let mut shard = Shard::new(alloc, 16)?;
-    explored(alloc, position, budget, &mut shard)
-}
-
 #[test]
 fn a_graph_that_a_capture_ends_is_closed(rt: HostRuntime) -> Result<(), Fail> {
+    let alloc = rt.alloc();
     let position = place(QUEEN_TAKEN)?;
-    let left = place(BARE_KING)?;
-    let closed = explored_anew(rt.alloc(), &position, 1)?;
-    let second = second_node(rt.alloc(), &position, &closed)?;
-    assert!(rt; matches!(&second.part, Part::Leaf(_)));
-    assert!(rt; same_position(&second.position, &left));
-    Ok(())
-}
-
-/// Whether a node is a leaf of small material where its men are few enough for that, and else one of lone pieces.
-fn is_leaf_of_men(node: &Node) -> bool {
-    match &node.part {
-        Part::Small => small_verdict(&node.position, Color::White),
-        Part::Lone => !small_verdict(&node.position, Color::White),
-        _ => false,
-    }
-}
-
-/// Whether the graph of a position is closed by a leaf of these men, which their sets alone do not show.
-fn is_closed_by_men(alloc: Global, root: &str, left: &str) -> Result<bool, Fail> {
-    let position = place(root)?;
-    let left = place(left)?;
-    if static_verdict(alloc, &left, Color::White)?.is_some() {
-        return Ok(false);
-    }
-    let closed = explored_anew(alloc, &position, 1)?;
+    let mut shard = Shard::new(alloc, 16)?;
+    let closed = explored(alloc, &position, 1, &mut shard)?;
     let second = second_node(alloc, &position, &closed)?;
-    Ok(same_position(&second.position, &left) && is_leaf_of_men(second))
+    assert!(rt; matches!(&second.part, Part::Leaf(_)));
+    assert!(rt; same_position(&second.position, &place(BARE_KING)?));
+    Ok(())
 }
 
 // A queen beside her king takes a knight that gives check, so the knight never mates, and sets do not see that. Two queens
 // are not small material.
 #[test]
 fn a_graph_that_the_men_left_end_is_closed(rt: HostRuntime) -> Result<(), Fail> {
-    assert!(rt; is_closed_by_men(rt.alloc(), KNIGHT_LEFT, KNIGHT_AND_QUEEN)?);
-    assert!(rt; is_closed_by_men(rt.alloc(), LONE_KNIGHT_LEFT, KNIGHT_AND_QUEENS)?);
-    Ok(())
-}
-
-/// Whether an exploration ended with a mate by White that replays.
-fn is_mate_of(position: &Position, explored: &Explored) -> bool {
-    match explored {
-        Explored::Mate(moves) => replays(position, Color::White, moves.items()),
-        _ => false,
+    let alloc = rt.alloc();
+    for (root, left) in [
+        (KNIGHT_LEFT, KNIGHT_AND_QUEEN),
+        (LONE_KNIGHT_LEFT, KNIGHT_AND_QUEENS),
+    ] {
+        let position = place(root)?;
+        let left = place(left)?;
+        assert!(rt; static_verdict(alloc, &left, Color::White)?.is_none());
+        let mut shard = Shard::new(alloc, 16)?;
+        let closed = explored(alloc, &position, 1, &mut shard)?;
+        let second = second_node(alloc, &position, &closed)?;
+        assert!(rt; same_position(&second.position, &left));
+        match &second.part {
+            Part::Small => assert!(rt; small_verdict(&left, Color::White)),
+            Part::Lone => assert!(rt; !small_verdict(&left, Color::White)),
+            _ => Err("another leaf")?,
+        }
     }
+    Ok(())
 }
 
 #[test]
 fn a_mate_is_found_with_its_line(rt: HostRuntime) -> Result<(), Fail> {
+    let alloc = rt.alloc();
     let position = place(LAST_RANK)?;
-    let found = explored_anew(rt.alloc(), &position, 1000)?;
-    assert!(rt; is_mate_of(&position, &found));
-    Ok(())
-}
-
-/// How many positions an exploration expanded that spent its budget.
-fn spent(explored: &Explored) -> Option<u32> {
-    match explored {
-        Explored::Spent { count } => Some(*count),
-        _ => None,
+    let mut shard = Shard::new(alloc, 16)?;
+    match explored(alloc, &position, 1000, &mut shard)? {
+        Explored::Mate(moves) => {
+            assert!(rt; replays(&position, Color::White, moves.items()));
+        }
+        _ => Err("no mate")?,
     }
+    Ok(())
 }
 
 #[test]
 fn a_budget_is_spent_to_the_last(rt: HostRuntime) -> Result<(), Fail> {
+    let alloc = rt.alloc();
     let position = place(LONE_KNIGHT)?;
-    let found = explored_anew(rt.alloc(), &position, 50)?;
-    assert_eq!(rt; spent(&found), Some(50));
+    let mut shard = Shard::new(alloc, 16)?;
+    match explored(alloc, &position, 50, &mut shard)? {
+        Explored::Spent { count } => {
+            assert_eq!(rt; count, 50);
+        }
+        _ => Err("not spent")?,
+    }
     Ok(())
-}
-
-/// The mate of a position by one move.
-fn mate_by(position: &Position, by: Move) -> Result<Proved, Fail> {
-    let mut line = Line::new();
-    line.push(by);
-    if !replays(position, Color::White, line.moves()) {
-        Err("no mate")?;
-    }
-    Ok(Proved::mate(position, Color::White, line))
-}
-
-/// Whether an exploration ended with a mate by this move alone.
-fn is_mate_by(explored: &Explored, by: Move) -> bool {
-    match explored {
-        Explored::Mate(moves) => moves.items() == [by].as_slice(),
-        _ => false,
-    }
 }
 
 #[test]
 fn a_mate_that_a_place_knows_ends_it(rt: HostRuntime) -> Result<(), Fail> {
+    let alloc = rt.alloc();
     let position = place("7k/8/6K1/8/8/8/8/R7 w - -")?;
+    let mut shard = Shard::new(alloc, 16)?;
+    let mut line = Line::new();
     let first = Move {
         from: Square::new(0).ok_or("no square")?,
         to: Square::new(56).ok_or("no square")?,
         promotion: None,
     };
-    let mut shard = Shard::new(rt.alloc(), 16)?;
-    let _stored = shard.store(mate_by(&position, first)?);
-    let found = explored(rt.alloc(), &position, 1, &mut shard)?;
-    assert!(rt; is_mate_by(&found, first));
+    line.push(first);
+    if !replays(&position, Color::White, line.moves()) {
+        Err("no mate")?;
+    }
+    let _stored = shard.store(Proved::mate(&position, Color::White, line));
+    match explored(alloc, &position, 1, &mut shard)? {
+        Explored::Mate(moves) => {
+            assert!(rt; moves.items() == [first].as_slice());
+        }
+        _ => Err("no mate")?,
+    }
     Ok(())
-}
-
-/// Explores for White by a new table, with a budget of one.
-fn explored_by_table<R: Wait>(
-    rt: &R,
-    alloc: Global,
-    position: &Position,
-) -> Result<Explored, Fail> {
-    begins(alloc, position)?;
-    let (table, mut pass) = Table::new(alloc, 1024)?;
-    Ok(explore(rt, alloc, position, Color::White, 1, &table, &mut pass)?)
 }
 
 #[test]
 fn a_table_is_asked_too(rt: HostRuntime) -> Result<(), Fail> {
+    let alloc = rt.alloc();
     let position = place(QUEEN_TAKEN)?;
-    let left = place(BARE_KING)?;
-    let closed = explored_by_table(&rt, rt.alloc(), &position)?;
-    let second = second_node(rt.alloc(), &position, &closed)?;
-    assert!(rt; same_position(&second.position, &left));
+    let (table, mut pass) = Table::new(alloc, 1024)?;
+    begins(alloc, &position)?;
+    let closed = explore(&rt, alloc, &position, Color::White, 1, &table, &mut pass)?;
+    let second = second_node(alloc, &position, &closed)?;
+    assert!(rt; same_position(&second.position, &place(BARE_KING)?));
     Ok(())
 }

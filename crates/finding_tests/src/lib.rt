@@ -3,7 +3,7 @@
 //! `from_fen` reads positions. `least_sets` and `static_verdicts` have answers of the solver. `facts` has what is known
 //! of positions; `cells`, `shards` and `tables` have where it is kept, the first also beside the threads of `busy`. `rounds`,
 //! `crews` and `shortest` find the helpmates of `known_plies` and `known_counts`. `guides` and `hunts` have searches that
-//! are led, `stores` and `walks` the positions of an exploration, and `explored` explorations.
+//! are led, `stores` the positions of an exploration, and `explored` explorations.
 #![tactic(auto)]
 
 #[cfg(test)]
@@ -40,5 +40,3 @@ mod static_verdicts;
 mod stores;
 #[cfg(test)]
 mod tables;
-#[cfg(test)]
-mod walks;

@@ -7,7 +7,6 @@ use cha_board::{Color, Square};
 use cha_fact::{FactCall, FactReply, Facts, Key, Line, Probe, Proved, Stored};
 use cha_moves::{Move, replays};
 use shard_table::Shard;
-use std::process::Abort;
 use std::test::Fail;
 use turn_cell::Object;
 
@@ -77,52 +76,41 @@ fn given(shard: &mut Shard, row: Proved) -> Option<Stored> {
     }
 }
 
-/// Asserts the replies of a new shard of one row.
-fn replies_as_told(rt: &impl Abort, shard: &mut Shard) -> Result<(), Fail> {
-    let position = place(OPEN)?;
-    let key = Key::of(&position, Color::Black);
-    assert_eq!(rt; known(shard, &key), None);
-    assert_eq!(rt; given(shard, detour(1)?), Some(Stored::Added));
-    assert_eq!(rt; given(shard, detour(2)?), Some(Stored::Kept));
-    assert_eq!(rt; known(shard, &key), Some(994));
-    assert_eq!(rt; given(shard, detour(0)?), Some(Stored::Better));
-    assert_eq!(rt; known(shard, &key), Some(998));
-    assert_eq!(rt; known(shard, &Key::of(&position, Color::White)), None);
-    assert_eq!(rt; given(shard, mated()?), Some(Stored::Evicted(key)));
-    assert_eq!(rt; known(shard, &key), None);
-    Ok(())
-}
-
 #[test]
 fn a_shard_of_one_row_replies_as_told(rt: HostRuntime) -> Result<(), Fail> {
     let mut shard = Shard::new(rt.alloc(), 1)?;
-    replies_as_told(&rt, &mut shard)
-}
-
-/// The mate of the rook on the back rank.
-fn back_rank() -> Result<Proved, Fail> {
-    let position = place("6k1/5ppp/8/8/8/8/8/R3K3 w - -")?;
-    let mut line = Line::new();
-    add(&mut line, &[(0, 56)])?;
-    if !replays(&position, Color::White, line.moves()) {
-        return Err("no mate")?;
-    }
-    Ok(Proved::mate(&position, Color::White, line))
-}
-
-/// Asserts which row of a new shard of two rows goes.
-fn loses_the_oldest(rt: &impl Abort, shard: &mut Shard) -> Result<(), Fail> {
     let key = Key::of(&place(OPEN)?, Color::Black);
-    let last = Key::of(&place(MATED)?, Color::White);
-    assert_eq!(rt; shard.store(detour(0)?), Stored::Added);
-    assert_eq!(rt; shard.store(mated()?), Stored::Added);
-    assert_eq!(rt; known(shard, &key), Some(998));
-    assert_eq!(rt; shard.store(back_rank()?), Stored::Evicted(last));
+    assert_eq!(rt; known(&mut shard, &key), None);
+    assert_eq!(rt; given(&mut shard, detour(1)?), Some(Stored::Added));
+    assert_eq!(rt; given(&mut shard, detour(2)?), Some(Stored::Kept));
+    assert_eq!(rt; known(&mut shard, &key), Some(994));
+    assert_eq!(rt; given(&mut shard, detour(0)?), Some(Stored::Better));
+    assert_eq!(rt; known(&mut shard, &key), Some(998));
+    assert_eq!(rt;
+        known(&mut shard, &Key::of(&place(OPEN)?, Color::White)),
+        None
+    );
+    assert_eq!(rt; given(&mut shard, mated()?), Some(Stored::Evicted(key)));
+    assert_eq!(rt; known(&mut shard, &key), None);
     Ok(())
 }
 
 #[test]
 fn the_row_used_longest_ago_goes(rt: HostRuntime) -> Result<(), Fail> {
     let mut shard = Shard::new(rt.alloc(), 2)?;
-    loses_the_oldest(&rt, &mut shard)
+    let key = Key::of(&place(OPEN)?, Color::Black);
+    assert_eq!(rt; shard.store(detour(0)?), Stored::Added);
+    let first = mated()?;
+    let last = first.key();
+    assert_eq!(rt; shard.store(first), Stored::Added);
+    assert_eq!(rt; known(&mut shard, &key), Some(998));
+    let position = place("6k1/5ppp/8/8/8/8/8/R3K3 w - -")?;
+    let mut line = Line::new();
+    add(&mut line, &[(0, 56)])?;
+    if !replays(&position, Color::White, line.moves()) {
+        return Err("no mate")?;
+    }
+    let row = Proved::mate(&position, Color::White, line);
+    assert_eq!(rt; shard.store(row), Stored::Evicted(last));
+    Ok(())
 }

@@ -1,35 +1,26 @@
 //! Shortest mates of known positions, by crews of all sizes.
 
-ghost use Rattle.std.specs.Prelude.{◌≤◌};
-
 use crate::from_fen::place;
 use crate::known_counts::KNOWN;
 use cha_board::Color;
-use cha_moves::{Move, move_text};
+use cha_moves::move_text;
 use helpmate_list::{Lines, MOST_LINES, Shortest, least_mates, least_mates_alone};
-use std::alloc::{AllocError, Global};
+use std::alloc::Global;
 use std::test::Fail;
-use std::thread::Threads;
 
-/// Appends a line, each move's text between single spaces.
-fn push_line(line: &[Move], text: &mut String) -> Result<(), AllocError> {
-    for (index, m) in line.iter().enumerate() {
-        if 0 < index {
-            text.push_str(" ")?;
-        }
-        text.push_str(move_text(*m).as_str())?;
-    }
-    Ok(())
-}
-
-/// The lines, between commas.
-fn text_of(alloc: Global, lines: &Lines) -> Result<String, AllocError> {
+/// The lines, each move's text between single spaces and each line between commas.
+fn text_of(alloc: Global, lines: &Lines) -> Result<String, Fail> {
     let mut text = String::new(alloc);
     for line in lines.items() {
         if !text.as_str().is_empty() {
             text.push_str(", ")?;
         }
-        push_line(line.items(), &mut text)?;
+        for (index, m) in line.items().iter().enumerate() {
+            if 0 < index {
+                text.push_str(" ")?;
+            }
+            text.push_str(move_text(*m).as_str())?;
+        }
     }
     Ok(text)
 }
@@ -59,34 +50,17 @@ fn is_told(
     }
 }
 
-/// Whether so many workers find these lines.
-fn is_found<R: Threads + Sync>(
-    rt: &R,
-    alloc: Global,
-    row: &(&str, Color, u8, &str),
-    workers: u32,
-) -> Result<bool, Fail>
-    requires { (1 ≤ workers) × (workers ≤ 16) }
-{
-    let position = place(row.0)?;
-    let found = least_mates(rt, alloc, &position, row.1, 4, workers)?;
-    is_told(alloc, &found, row.2, row.3)
-}
-
-/// Whether one worker alone finds these lines.
-fn is_found_alone(alloc: Global, row: &(&str, Color, u8, &str)) -> Result<bool, Fail> {
-    let position = place(row.0)?;
-    let found = least_mates_alone(alloc, &position, row.1, 4)?;
-    is_told(alloc, &found, row.2, row.3)
-}
-
 #[test]
 fn all_shortest_lines_come_in_the_order_of_moves(rt: HostRuntime) -> Result<(), Fail> {
-    for row in LISTED {
+    let alloc = rt.alloc();
+    for (fen, winner, plies, lines) in LISTED {
+        let position = place(fen)?;
         for workers in [1, 2, 16] {
-            assert!(rt; is_found(&rt, rt.alloc(), row, workers)?, "{}", row.0);
+            let found = least_mates(&rt, alloc, &position, *winner, 4, workers)?;
+            assert!(rt; is_told(alloc, &found, *plies, lines)?, "{fen}");
         }
-        assert!(rt; is_found_alone(rt.alloc(), row)?, "{}", row.0);
+        let found = least_mates_alone(alloc, &position, *winner, 4)?;
+        assert!(rt; is_told(alloc, &found, *plies, lines)?, "{fen}");
     }
     Ok(())
 }
@@ -99,24 +73,13 @@ fn counts(shortest: &Shortest) -> Option<(u8, usize, bool)> {
     }
 }
 
-/// The same of the mates that two workers find within four plies.
-fn counts_by_two<R: Threads + Sync>(
-    rt: &R,
-    alloc: Global,
-    fen: &str,
-    winner: Color,
-) -> Result<Option<(u8, usize, bool)>, Fail> {
-    let position = place(fen)?;
-    let found = least_mates(rt, alloc, &position, winner, 4, 2)?;
-    Ok(counts(&found))
-}
-
 #[test]
 fn known_helpmates_are_as_many_as_a_plain_program_counts(rt: HostRuntime) -> Result<(), Fail> {
     for (fen, winner, plies, count) in KNOWN {
-        let found = counts_by_two(&rt, rt.alloc(), fen, *winner)?;
+        let position = place(fen)?;
+        let found = least_mates(&rt, rt.alloc(), &position, *winner, 4, 2)?;
         let wanted = Some((*plies, (*count).min(MOST_LINES), MOST_LINES < *count));
-        assert!(rt; found == wanted, "{fen}");
+        assert!(rt; counts(&found) == wanted, "{fen}");
     }
     Ok(())
 }

@@ -8,12 +8,11 @@ use cha_moves::{Move, after, is_legal, legal};
 use node_store::{Chains, Store};
 use std::alloc::Global;
 use std::marker::Brand;
-use std::process::Abort;
 use std::sync::ledger::{Blank, Ledger};
 use std::test::Fail;
 
 /// Adds the position after a move, unless it is there: one that waits in a list, or a leaf.
-pub fn add(store: &mut Store, parent: u32, by: Move, list: Option<u8>) -> Result<u32, Fail> {
+fn add(store: &mut Store, parent: u32, by: Move, list: Option<u8>) -> Result<u32, Fail> {
     if parent >= store.len() || store.len() > 1_000_000 {
         Err("no place")?;
     }
@@ -51,18 +50,15 @@ fn from_to(from: u8, to: u8) -> Result<Move, Fail> {
     })
 }
 
-/// Adds the position after a move without a promotion, which waits in a list.
-fn add_by(store: &mut Store, from: u8, to: u8, list: u8) -> Result<u32, Fail> {
-    let by = from_to(from, to)?;
-    add(store, 0, by, Some(list))
-}
-
-/// Asserts in which order three names of a new store come back.
-fn come_back(rt: &impl Abort, store: &mut Store) -> Result<(), Fail> {
+#[test]
+fn names_come_back_from_the_first_list_and_the_last_added_first(
+    rt: HostRuntime,
+) -> Result<(), Fail> {
+    let mut store = Store::new(rt.alloc(), &Position::start())?;
     assert!(rt; store.pop() == Some(0));
-    assert!(rt; add_by(store, 12, 28, 5)? == 1);
-    assert!(rt; add_by(store, 11, 27, 5)? == 2);
-    assert!(rt; add_by(store, 6, 21, 2)? == 3);
+    assert!(rt; add(&mut store, 0, from_to(12, 28)?, Some(5))? == 1);
+    assert!(rt; add(&mut store, 0, from_to(11, 27)?, Some(5))? == 2);
+    assert!(rt; add(&mut store, 0, from_to(6, 21)?, Some(2))? == 3);
     assert!(rt; store.pop() == Some(3));
     assert!(rt; store.pop() == Some(2));
     assert!(rt; store.pop() == Some(1));
@@ -70,67 +66,35 @@ fn come_back(rt: &impl Abort, store: &mut Store) -> Result<(), Fail> {
     Ok(())
 }
 
-#[test]
-fn names_come_back_from_the_first_list_and_the_last_added_first(
-    rt: HostRuntime,
-) -> Result<(), Fail> {
-    let mut store = Store::new(rt.alloc(), &Position::start())?;
-    come_back(&rt, &mut store)
-}
-
-/// Adds the positions of two plies to a new store of the opening.
-fn expand_two_plies(alloc: Global, store: &mut Store) -> Result<(), Fail> {
-    for turn in 0..21u8 {
-        let name = store.pop().ok_or("none waits")?;
-        let bucket = if turn == 0 { 7 } else { 63 };
-        expand(alloc, store, name, bucket)?;
-    }
-    Ok(())
-}
-
-/// How many plies of the first two lead to a name.
-fn plies_to(name: u32) -> usize {
-    if name == 0 {
-        0
-    } else if name <= 20 {
-        1
-    } else {
-        2
-    }
-}
-
-/// How many plies the line of a name has.
-fn plies_of(alloc: Global, store: &Store, name: u32) -> Result<usize, Fail> {
-    if name >= store.len() {
-        Err("no node")?;
-    }
-    Ok(store.path(alloc, name)?.items().len())
-}
-
-/// Whether each position is found again by its line, which has as many plies as the first two give it.
-fn are_of_two_plies(alloc: Global, store: &Store) -> Result<bool, Fail> {
-    for name in 0..store.len() {
-        if plies_of(alloc, store, name)? != plies_to(name)
-            || !is_found_by_its_line(alloc, store, name)?
-        {
-            return Ok(false);
-        }
-    }
-    Ok(true)
-}
-
 /// After two plies there are 400 positions, each reached by one pair of moves.
 #[test]
 fn the_positions_of_two_plies_are_found_again_by_their_lines(rt: HostRuntime) -> Result<(), Fail> {
-    let mut store = Store::new(rt.alloc(), &Position::start())?;
-    expand_two_plies(rt.alloc(), &mut store)?;
+    let alloc = rt.alloc();
+    let start = Position::start();
+    let mut store = Store::new(alloc, &start)?;
+    for turn in 0..21u8 {
+        let name = store.pop().ok_or("none waits")?;
+        let bucket = if turn == 0 { 7 } else { 63 };
+        expand(alloc, &mut store, name, bucket)?;
+    }
     assert_eq!(rt; store.len(), 421);
-    assert!(rt; are_of_two_plies(rt.alloc(), &store)?);
+    for name in 0..store.len() {
+        let line = store.path(alloc, name)?;
+        let plies = if name == 0 {
+            0
+        } else if name <= 20 {
+            1
+        } else {
+            2
+        };
+        assert!(rt; line.items().len() == plies);
+        assert!(rt; is_found_by_its_line(alloc, &store, name)?);
+    }
     Ok(())
 }
 
 /// Whether a position is found under its name, and the moves of its path lead there from the opening.
-pub fn is_found_by_its_line(alloc: Global, store: &Store, name: u32) -> Result<bool, Fail> {
+fn is_found_by_its_line(alloc: Global, store: &Store, name: u32) -> Result<bool, Fail> {
     if name >= store.len() {
         Err("no node")?;
     }
@@ -145,28 +109,63 @@ pub fn is_found_by_its_line(alloc: Global, store: &Store, name: u32) -> Result<b
     Ok(store.find(&position) == Some(name) && same_position(&now, &position))
 }
 
-/// The knights go out and back again; gives the last name.
-fn knights_return(store: &mut Store) -> Result<u32, Fail> {
+/// Walks from the opening by legal moves at random, back to the opening after each 60 plies, until 100,000 positions are
+/// added.
+fn walk(alloc: Global, store: &mut Store) -> Result<(), Fail> {
+    let mut random: u64 = 1;
     let mut name = 0;
-    for (from, to) in &[(6u8, 21u8), (62, 45), (21, 6), (45, 62)] {
-        let by = from_to(*from, *to)?;
-        name = add(store, name, by, Some(0))?;
+    for step in 0..400_000u32 {
+        if store.len() > 100_000 {
+            return Ok(());
+        }
+        if step % 60 == 0 || name >= store.len() {
+            name = 0;
+        }
+        if name < store.len() {
+            let moves = legal(alloc, &store.position(name))?;
+            random = random
+                .wrapping_mul(6_364_136_223_846_793_005)
+                .wrapping_add(1_442_695_040_888_963_407);
+            name = if moves.is_empty() {
+                0
+            } else {
+                let chosen = (random >> 33) as usize % moves.len();
+                add(store, name, moves[chosen], Some((step % 64) as u8))?
+            };
+        }
     }
-    Ok(name)
+    Ok(())
 }
 
 #[test]
+fn the_positions_of_a_walk_are_found_again_by_their_lines(rt: HostRuntime) -> Result<(), Fail> {
+    let alloc = rt.alloc();
+    let mut store = Store::new(alloc, &Position::start())?;
+    walk(alloc, &mut store)?;
+    assert_eq!(rt; store.len(), 100_001);
+    for name in 0..store.len() {
+        assert!(rt; is_found_by_its_line(alloc, &store, name)?);
+    }
+    Ok(())
+}
+
+/// The knights go out and back again.
+#[test]
 fn a_position_that_comes_again_has_its_first_name(rt: HostRuntime) -> Result<(), Fail> {
     let mut store = Store::new(rt.alloc(), &Position::start())?;
-    assert!(rt; knights_return(&mut store)? == 0);
+    let mut name = 0;
+    for (from, to) in &[(6u8, 21u8), (62, 45), (21, 6), (45, 62)] {
+        name = add(&mut store, name, from_to(*from, *to)?, Some(0))?;
+    }
+    assert!(rt; name == 0);
     assert_eq!(rt; store.len(), 4);
     Ok(())
 }
 
 #[test]
 fn a_leaf_does_not_wait(rt: HostRuntime) -> Result<(), Fail> {
-    let by = from_to(12, 28)?;
     let mut store = Store::new(rt.alloc(), &Position::start())?;
+    let by = from_to(12, 28)?;
     let name = add(&mut store, 0, by, None)?;
     assert!(rt; name == 1 && name < store.len() && store.is_leaf(name));
     if let Some(root) = store.pop() {

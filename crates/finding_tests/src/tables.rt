@@ -9,7 +9,6 @@ use cha_board::{Color, Kind, Man, Packed, Position, Rights};
 use cha_fact::{Facts, Key, Probe, Proved, Stored};
 use cha_moves::is_mate;
 use shard_table::{Shard, StillOut, Table, TableFacts, TablePass, shard_of};
-use std::process::Abort;
 use std::rt::HostRuntime;
 use std::sync::Wait;
 use std::test::Fail;
@@ -196,42 +195,24 @@ fn shards_have_their_numbers(rt: HostRuntime) {
     }
 }
 
-/// What is known of bare kings on these squares: no mate by White within so many plies.
-fn of_kings(white: usize, black: usize, depth: u8) -> Result<Proved, Fail>
-    requires white { white < 64 }
-    requires black { black < 64 }
-    requires depth { depth ≤ 1 }
-{
-    let position = kings(white, black).ok_or("no position")?;
-    Ok(no_mate(&position, depth).ok_or("mate")?)
-}
-
-/// Asserts which row of two with one shard a new table with one row for each shard keeps.
-fn keeps_the_last_key<R: Abort + Wait>(
-    rt: &R,
-    table: &Table,
-    pass: &mut TablePass,
-) -> Result<(), Fail>
-    requires { IsOfTable table.now pass.old }
-{
-    let row = of_kings(4, 60, 0)?;
-    let other = of_kings(4, 37, 0)?;
-    let key = row.key();
-    assert_eq!(rt; shard_of(&key), shard_of(&other.key()));
-    assert_eq!(rt; table.store(rt, pass, row.copy()), Stored::Added);
-    assert_eq!(rt; table.store(rt, pass, row), Stored::Kept);
-    assert_eq!(rt; known_at(rt, table, pass, &key), Some(0));
-    assert_eq!(rt; table.store(rt, pass, of_kings(4, 60, 1)?), Stored::Better);
-    assert_eq!(rt; known_at(rt, table, pass, &key), Some(1));
-    assert_eq!(rt; table.store(rt, pass, other), Stored::Evicted(key));
-    assert_eq!(rt; known_at(rt, table, pass, &key), None);
-    Ok(())
-}
-
 #[test]
 fn a_shard_of_one_row_keeps_the_last_key(rt: HostRuntime) -> Result<(), Fail> {
     let (table, mut pass) = Table::new(rt.alloc(), 1)?;
-    keeps_the_last_key(&rt, &table, &mut pass)
+    let home = kings(4, 60).ok_or("no position")?;
+    let out = kings(4, 37).ok_or("no position")?;
+    let key = Key::of(&home, Color::White);
+    assert_eq!(rt; shard_of(&key), shard_of(&Key::of(&out, Color::White)));
+    let row = no_mate(&home, 0).ok_or("mate")?;
+    assert_eq!(rt; table.store(&rt, &mut pass, row.copy()), Stored::Added);
+    assert_eq!(rt; table.store(&rt, &mut pass, row), Stored::Kept);
+    assert_eq!(rt; known_at(&rt, &table, &mut pass, &key), Some(0));
+    let more = no_mate(&home, 1).ok_or("mate")?;
+    assert_eq!(rt; table.store(&rt, &mut pass, more), Stored::Better);
+    assert_eq!(rt; known_at(&rt, &table, &mut pass, &key), Some(1));
+    let other = no_mate(&out, 0).ok_or("mate")?;
+    assert_eq!(rt; table.store(&rt, &mut pass, other), Stored::Evicted(key));
+    assert_eq!(rt; known_at(&rt, &table, &mut pass, &key), None);
+    Ok(())
 }
 
 #[test]

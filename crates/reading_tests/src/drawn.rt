@@ -28,45 +28,21 @@ fn position_count(alloc: Global, game: &Game) -> Result<usize, Fail> {
     Ok(play(alloc, game)?.items().len())
 }
 
-/// Appends how many positions the next game has, and whether it was forfeited on time; answers whether there is one.
-fn push_next(
-    alloc: Global,
-    reader: &mut Reader,
-    source: &mut Bytes,
-    found: &mut Vec<(usize, bool)>,
-) -> Result<bool, Fail> {
-    if reader.failed() {
-        return Ok(false);
-    }
-    let Some(placed) = reader.next(source)? else {
-        return Ok(false);
-    };
-    let count = position_count(alloc, &placed.game)?;
-    found.push((count, placed.game.forfeit))?;
-    Ok(true)
-}
-
-/// The same for the games of a source, ten at the most.
-fn push_all(
-    alloc: Global,
-    reader: &mut Reader,
-    source: &mut Bytes,
-    found: &mut Vec<(usize, bool)>,
-) -> Result<(), Fail> {
-    for _call in 0..10 {
-        if !push_next(alloc, reader, source, found)? {
-            return Ok(());
-        }
-    }
-    Ok(())
-}
-
 /// How many positions each game of a text has, and whether it was forfeited on time.
 fn lengths_in(alloc: Global, text: Text) -> Result<Vec<(usize, bool)>, Fail> {
     let mut source = Bytes::new(text.into_vec());
     let mut reader = Reader::new(alloc)?;
     let mut found = Vec::new(alloc);
-    push_all(alloc, &mut reader, &mut source, &mut found)?;
+    for _call in 0..10 {
+        if reader.failed() {
+            return Ok(found);
+        }
+        let Some(placed) = reader.next(&mut source)? else {
+            return Ok(found);
+        };
+        let game = &placed.game;
+        found.push((position_count(alloc, game)?, game.forfeit))?;
+    }
     Ok(found)
 }
 

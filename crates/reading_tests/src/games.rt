@@ -10,62 +10,33 @@ use cha_board::Position;
 use cha_fen::{FenFault, write};
 use cha_outside::Pieces;
 use long_texts::{LONG, Long};
-use pgn_games::{Game, GameFault, ReadEnd, Reader, ResultMark, Span};
+use pgn_games::{Game, GameFault, ReadEnd, Reader, ResultMark};
 use places::PLACES;
 use real_files::FILES;
 use small_texts::{BAD_TOKENS, ENDS, STARTS, TAGS, TWO_FAULTS, VARIATIONS};
-use std::alloc::{AllocError, Global};
+use std::alloc::Global;
 use std::process::Abort;
 use std::test::Fail;
 
 const OPENING: &[u8] = b"rnbqkbnr/pppppppp/8/8/8/8/PPPPPPPP/RNBQKBNR w KQkq -";
 
-/// A source that gives these bytes in pieces of a size.
-fn in_pieces_of(alloc: Global, bytes: &[u8], size: u32) -> Result<Pieces, Fail> {
-    let sizes = [size].to_vec(alloc)?;
-    Ok(Pieces::new(bytes.to_vec(alloc)?, sizes, Vec::new(alloc)))
-}
-
 /// The games of a text that comes in pieces of a size, as `e4 e5 1-0 | <4k3/8/8/8/8/8/4P3/4K3 w - -> e4 * time #BadToken 12`: the start where it is not the
 /// opening position, the move words, the result, `time` where the game was forfeited on time, and the fault.
 fn shown(alloc: Global, bytes: &[u8], size: u32) -> Result<Vec<u8>, Fail> {
-    let mut source = in_pieces_of(alloc, bytes, size)?;
+    let sizes = [size].to_vec(alloc)?;
+    let mut source = Pieces::new(bytes.to_vec(alloc)?, sizes, Vec::new(alloc));
     let mut reader = Reader::new(alloc)?;
     let mut text = Vec::new(alloc);
-    show_all(alloc, &mut reader, &mut source, &mut text)?;
-    Ok(text)
-}
-
-/// Appends the games of a source, a hundred at the most.
-fn show_all(
-    alloc: Global,
-    reader: &mut Reader,
-    source: &mut Pieces,
-    text: &mut Vec<u8>,
-) -> Result<(), Fail> {
     for _call in 0..100 {
-        if !show_next(alloc, reader, source, text)? {
-            return Ok(());
+        if reader.failed() {
+            return Ok(text);
         }
+        let Some(found) = reader.next(&mut source)? else {
+            return Ok(text);
+        };
+        show(alloc, &found.game, &mut text)?;
     }
-    Ok(())
-}
-
-/// Appends the next game, and answers whether there is one.
-fn show_next(
-    alloc: Global,
-    reader: &mut Reader,
-    source: &mut Pieces,
-    text: &mut Vec<u8>,
-) -> Result<bool, Fail> {
-    if reader.failed() {
-        return Ok(false);
-    }
-    let Some(found) = reader.next(source)? else {
-        return Ok(false);
-    };
-    show(alloc, &found.game, text)?;
-    Ok(true)
+    Ok(text)
 }
 
 fn show(alloc: Global, game: &Game, text: &mut Vec<u8>) -> Result<(), Fail> {
@@ -128,7 +99,8 @@ fn named(fault: GameFault) -> &'static str {
 /// Asserts the games of a text, whatever pieces it comes in.
 fn has_games(rt: &impl Abort, alloc: Global, text: &[u8], want: &[u8]) -> Result<(), Fail> {
     for size in [1, 2, 7, 4096] {
-        assert_eq!(rt; shown(alloc, text, size)?.as_slice(), want, "{text:?}");
+        let found = shown(alloc, text, size)?;
+        assert_eq!(rt; found.as_slice(), want, "{text:?}");
     }
     Ok(())
 }
@@ -148,102 +120,56 @@ fn texts_have_their_games(rt: HostRuntime) -> Result<(), Fail> {
 
 /// Where the games of a text stand that comes in pieces of a size, and whether it is closed, as `0-7:1 closed`.
 fn stands(alloc: Global, bytes: &[u8], size: u32) -> Result<Vec<u8>, Fail> {
-    let mut source = in_pieces_of(alloc, bytes, size)?;
+    let sizes = [size].to_vec(alloc)?;
+    let mut source = Pieces::new(bytes.to_vec(alloc)?, sizes, Vec::new(alloc));
     let mut reader = Reader::new(alloc)?;
     let mut text = Vec::new(alloc);
-    put_all(alloc, &mut reader, &mut source, &mut text)?;
-    Ok(text)
-}
-
-/// Appends the places of the games of a source, a hundred at the most, and how it ends.
-fn put_all(
-    alloc: Global,
-    reader: &mut Reader,
-    source: &mut Pieces,
-    text: &mut Vec<u8>,
-) -> Result<(), Fail> {
     for _call in 0..100 {
-        if !put_next(alloc, reader, source, text)? {
-            return Ok(());
+        if reader.failed() {
+            return Ok(text);
         }
+        let Some(found) = reader.next(&mut source)? else {
+            text.extend_from_slice(if reader.is_closed() {
+                b"closed"
+            } else {
+                b"open"
+            })?;
+            return Ok(text);
+        };
+        let span = found.span;
+        let place = format!(in alloc; "{}-{}:{} ", span.start, span.end, span.line)?;
+        text.extend_from_slice(place.as_bytes())?;
     }
-    Ok(())
-}
-
-/// Appends the place of the next game, or how the source ends where there is none, and answers whether there is one.
-fn put_next(
-    alloc: Global,
-    reader: &mut Reader,
-    source: &mut Pieces,
-    text: &mut Vec<u8>,
-) -> Result<bool, Fail> {
-    if reader.failed() {
-        return Ok(false);
-    }
-    match reader.next(source)? {
-        Some(found) => {
-            put_place(alloc, found.span, text)?;
-            Ok(true)
-        }
-        None => {
-            text.extend_from_slice(end_name(reader.is_closed()))?;
-            Ok(false)
-        }
-    }
-}
-
-/// Appends a place, as `0-7:1 `.
-fn put_place(alloc: Global, span: Span, text: &mut Vec<u8>) -> Result<(), Fail> {
-    let place = format!(in alloc; "{}-{}:{} ", span.start, span.end, span.line)?;
-    text.extend_from_slice(place.as_bytes())?;
-    Ok(())
-}
-
-fn end_name(is_closed: bool) -> &'static [u8] {
-    if is_closed { b"closed" } else { b"open" }
+    Ok(text)
 }
 
 #[test]
 fn games_stand_in_their_places(rt: HostRuntime) -> Result<(), Fail> {
     for (text, want) in PLACES {
         for size in [1, 2, 7, 4096] {
-            assert_eq!(rt;
-                stands(rt.alloc(), text, size)?.as_slice(),
-                want.as_bytes(),
-                "{text:?}"
-            );
+            let found = stands(rt.alloc(), text, size)?;
+            assert_eq!(rt; found.as_slice(), want.as_bytes(), "{text:?}");
         }
     }
     Ok(())
 }
 
-/// Appends a part so many times over.
-fn push_times(part: &str, count: usize, text: &mut Vec<u8>) -> Result<(), AllocError> {
-    for _part in 0..count {
-        text.extend_from_slice(part.as_bytes())?;
-    }
-    Ok(())
-}
-
-fn long_text(alloc: Global, long: Long) -> Result<Vec<u8>, AllocError> {
+fn long_text(alloc: Global, long: Long) -> Result<Vec<u8>, Fail> {
     let mut text = Vec::new(alloc);
     for (part, count) in long {
-        push_times(part, *count, &mut text)?;
+        for _part in 0..*count {
+            text.extend_from_slice(part.as_bytes())?;
+        }
     }
     Ok(text)
-}
-
-/// Asserts the games of a long text.
-fn has_long_games(rt: &impl Abort, alloc: Global, long: Long, want: Long) -> Result<(), Fail> {
-    let text = long_text(alloc, long)?;
-    let want = long_text(alloc, want)?;
-    has_games(rt, alloc, text.as_slice(), want.as_slice())
 }
 
 #[test]
 fn long_texts_have_their_games(rt: HostRuntime) -> Result<(), Fail> {
     for (long, want) in LONG {
-        has_long_games(&rt, rt.alloc(), long, want)?;
+        let text = long_text(rt.alloc(), long)?;
+        let want = long_text(rt.alloc(), want)?;
+        has_games(&rt, rt.alloc(), text.as_slice(), want.as_slice())?;
     }
     Ok(())
 }

@@ -3,7 +3,7 @@
 use cha_outside::{
     Bytes, Got, Kept, Pieces, ReadEnd, ReadFrom, Repeat, Sink, Source, WriteTo, Wrote, read_all,
 };
-use std::alloc::{AllocError, Global};
+use std::alloc::Global;
 use std::io::{self, Read, Write};
 use std::process::Abort;
 use std::test::Fail;
@@ -40,23 +40,16 @@ fn gives(rt: &impl Abort, mut source: Pieces, calls: Calls) {
     }
 }
 
-/// A source of these bytes, in pieces of these sizes, whose calls of these numbers fail.
-fn pieces_of(
-    alloc: Global,
-    bytes: &[u8],
-    sizes: &[u32],
-    fails: &[u32],
-) -> Result<Pieces, AllocError> {
-    let sizes = sizes.to_vec(alloc)?;
-    let fails = fails.to_vec(alloc)?;
-    Ok(Pieces::new(bytes.to_vec(alloc)?, sizes, fails))
-}
-
 #[test]
 fn pieces_are_cut_and_fail_as_asked(rt: HostRuntime) -> Result<(), Fail> {
-    let cut = pieces_of(rt.alloc(), b"abcdefghij", &[1, 0, 3, 9], &[2, 5])?;
-    gives(&rt, cut, CUT);
-    gives(&rt, pieces_of(rt.alloc(), b"ab", &[], &[])?, UNCUT);
+    let alloc = rt.alloc();
+    let fails = [2, 5].to_vec(alloc)?;
+    let sizes = [1, 0, 3, 9].to_vec(alloc)?;
+    let bytes = b"abcdefghij".to_vec(alloc)?;
+    gives(&rt, Pieces::new(bytes, sizes, fails), CUT);
+    let bytes = b"ab".to_vec(alloc)?;
+    let source = Pieces::new(bytes, Vec::new(alloc), Vec::new(alloc));
+    gives(&rt, source, UNCUT);
     Ok(())
 }
 
@@ -77,24 +70,10 @@ fn end_in_pieces(
     failing: u32,
 ) -> Result<Option<ReadEnd>, Fail> {
     let bytes = vec![in alloc; b' '; count]?;
-    let mut source = pieces_of(alloc, bytes.as_slice(), &[size], &[failing])?;
+    let sizes = [size].to_vec(alloc)?;
+    let fails = [failing].to_vec(alloc)?;
+    let mut source = Pieces::new(bytes, sizes, fails);
     Ok(read_all(alloc, &mut source, count).err())
-}
-
-/// Asserts that reading so many bytes in pieces fails at each call where it makes that call.
-fn fails_in_pieces(
-    rt: &impl Abort,
-    alloc: Global,
-    count: usize,
-    size: u32,
-    calls: u32,
-) -> Result<(), Fail> {
-    for failing in 1..calls.saturating_add(3) {
-        let end = end_in_pieces(alloc, count, size, failing)?;
-        assert_eq!(rt; end.is_some(), failing <= calls);
-        assert!(rt; end.is_none() || end == Some(ReadEnd::ReadFault));
-    }
-    Ok(())
 }
 
 /// How many bytes there are and may be, and how reading them ends early.
@@ -110,17 +89,17 @@ const LIMITS: &[(u64, usize, Option<ReadEnd>)] = &[
 #[test]
 fn a_whole_input_is_read_or_fails(rt: HostRuntime) -> Result<(), Fail> {
     for (count, size, calls) in IN_PIECES {
-        fails_in_pieces(&rt, rt.alloc(), *count, *size, *calls)?;
+        for failing in 1..calls.saturating_add(3) {
+            let end = end_in_pieces(rt.alloc(), *count, *size, failing)?;
+            assert_eq!(rt; end.is_some(), failing <= *calls);
+            assert!(rt; end.is_none() || end == Some(ReadEnd::ReadFault));
+        }
     }
-    Ok(())
-}
-
-#[test]
-fn an_input_that_is_too_long_is_refused(rt: HostRuntime) {
     for (count, limit, want) in LIMITS {
         let found = read_all(rt.alloc(), &mut Repeat::new(b' ', *count), *limit);
         assert_eq!(rt; found.err(), *want);
     }
+    Ok(())
 }
 
 #[test]
@@ -198,24 +177,14 @@ const SINKS: &[(u32, u32, [Wrote; 3], &[u8])] = &[
     (100, 2, [Wrote::All, Wrote::Failed(0), Wrote::All], b"abf"),
 ];
 
-/// Asserts a row.
-fn keeps(rt: &impl Abort, sink: &mut Kept, room: u32, want: &[Wrote; 3], bytes: &[u8]) {
-    let answers = [sink.write(b"ab"), sink.write(b"cde"), sink.write(b"f")];
-    assert_eq!(rt; answers, *want, "room {room}");
-    assert_eq!(rt; sink.bytes(), bytes, "room {room}");
-}
-
-/// A sink with this room that fails at the call of this number.
-fn sink_of(alloc: Global, room: u32, failing: u32) -> Result<Kept, Fail> {
-    let fails = [failing].to_vec(alloc)?;
-    Ok(Kept::new(alloc, room, fails)?)
-}
-
 #[test]
 fn a_sink_keeps_what_fits_and_fails_as_asked(rt: HostRuntime) -> Result<(), Fail> {
     for (room, failing, want, bytes) in SINKS {
-        let mut sink = sink_of(rt.alloc(), *room, *failing)?;
-        keeps(&rt, &mut sink, *room, want, bytes);
+        let fails = [*failing].to_vec(rt.alloc())?;
+        let mut sink = Kept::new(rt.alloc(), *room, fails)?;
+        let answers = [sink.write(b"ab"), sink.write(b"cde"), sink.write(b"f")];
+        assert_eq!(rt; answers, *want, "room {room}");
+        assert_eq!(rt; sink.bytes(), *bytes, "room {room}");
     }
     Ok(())
 }
@@ -263,23 +232,19 @@ const WRITERS: &[(usize, u32, bool, Wrote, &[u8])] = &[
     (0, 0, true, Wrote::Failed(0), b""),
 ];
 
-/// Asserts a row.
-fn writes(rt: &impl Abort, alloc: Global, row: &(usize, u32, bool, Wrote, &[u8])) {
-    let mut out = Vec::new(alloc);
-    let mut sink = WriteTo::new(Slow {
-        out: &mut out,
-        most: row.0,
-        calls: 0,
-        failing: row.1,
-        flushes: row.2,
-    });
-    assert_eq!(rt; sink.write(b"abcde"), row.3);
-    assert_eq!(rt; out.as_slice(), row.4);
-}
-
 #[test]
-fn a_writer_of_std_takes_all_or_fails(rt: HostRuntime) {
-    for row in WRITERS {
-        writes(&rt, rt.alloc(), row);
+fn a_writer_of_std_takes_all_or_fails(rt: HostRuntime) -> Result<(), Fail> {
+    for (most, failing, flushes, want, bytes) in WRITERS {
+        let mut out = Vec::new(rt.alloc());
+        let mut sink = WriteTo::new(Slow {
+            out: &mut out,
+            most: *most,
+            calls: 0,
+            failing: *failing,
+            flushes: *flushes,
+        });
+        assert_eq!(rt; sink.write(b"abcde"), *want);
+        assert_eq!(rt; out.as_slice(), *bytes);
     }
+    Ok(())
 }

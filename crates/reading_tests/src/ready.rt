@@ -1,7 +1,5 @@
 //! Games and lines that are whole in what was taken, which are given without a read.
 
-ghost use Rattle.std.specs.Prelude.{◌≡◌, false, OnOk};
-
 use cha_outside::{Pieces, ReadEnd};
 use pgn_games::{PlacedGame, Reader};
 use pgn_results::KeptReader;
@@ -38,67 +36,40 @@ fn numbered(found: Option<TextLine>) -> Option<u64> {
     }
 }
 
-/// Where the next game begins and those behind it, which are given without a read.
-fn games_begin(reader: &mut Reader, source: &mut Pieces) -> Result<[Option<u64>; 5], Fail>
-    requires { reader.old.failed ≡ false }
-    ensures { OnOk result (reader.new.failed ≡ false) }
-{
-    let next = begins(reader.next(source)?);
-    let second = begins(reader.ready()?);
-    let third = begins(reader.ready()?);
-    let fourth = begins(reader.ready()?);
-    Ok([next, second, third, fourth, begins(reader.ready()?)])
-}
-
 #[test]
 fn games_that_are_whole_are_given_without_a_read(rt: HostRuntime) -> Result<(), Fail> {
     let mut source = in_one_piece(rt.alloc(), GAMES)?;
     let mut reader = Reader::new(rt.alloc())?;
-    let found = games_begin(&mut reader, &mut source)?;
-    assert_eq!(rt; found, [Some(1), Some(3), Some(4), None, None]);
+    assert_eq!(rt; begins(reader.next(&mut source)?), Some(1));
+    assert_eq!(rt; begins(reader.ready()?), Some(3));
+    assert_eq!(rt; begins(reader.ready()?), Some(4));
+    assert_eq!(rt; begins(reader.ready()?), None);
+    assert_eq!(rt; begins(reader.ready()?), None);
     assert_eq!(rt; reader.next(&mut source).err(), Some(ReadEnd::ReadFault));
     Ok(())
-}
-
-/// The same by a reader that keeps what it takes.
-fn kept_games_begin(reader: &mut KeptReader, source: &mut Pieces) -> Result<[Option<u64>; 4], Fail>
-    requires { reader.old.failed ≡ false }
-    ensures { OnOk result (reader.new.failed ≡ false) }
-{
-    let next = begins(reader.next(source)?);
-    let second = begins(reader.ready()?);
-    let third = begins(reader.ready()?);
-    Ok([next, second, third, begins(reader.ready()?)])
 }
 
 #[test]
 fn kept_games_that_are_whole_are_given_without_a_read(rt: HostRuntime) -> Result<(), Fail> {
     let mut source = in_one_piece(rt.alloc(), GAMES)?;
     let mut reader = KeptReader::new(rt.alloc())?;
-    let found = kept_games_begin(&mut reader, &mut source)?;
-    assert_eq!(rt; found, [Some(1), Some(3), Some(4), None]);
+    assert_eq!(rt; begins(reader.next(&mut source)?), Some(1));
+    assert_eq!(rt; begins(reader.ready()?), Some(3));
+    assert_eq!(rt; begins(reader.ready()?), Some(4));
+    assert_eq!(rt; begins(reader.ready()?), None);
     assert_eq!(rt; reader.unwritten(), GAMES);
     assert_eq!(rt; reader.next(&mut source).err(), Some(ReadEnd::ReadFault));
     Ok(())
-}
-
-/// The numbers of the next line and of those behind it, which are given without a read.
-fn lines_numbered(reader: &mut LineReader, source: &mut Pieces) -> Result<[Option<u64>; 4], Fail>
-    requires { reader.old.failed ≡ false }
-    ensures { OnOk result (reader.new.failed ≡ false) }
-{
-    let next = numbered(reader.next(source)?);
-    let second = numbered(reader.ready()?);
-    let third = numbered(reader.ready()?);
-    Ok([next, second, third, numbered(reader.ready()?)])
 }
 
 #[test]
 fn lines_that_are_whole_are_given_without_a_read(rt: HostRuntime) -> Result<(), Fail> {
     let mut source = in_one_piece(rt.alloc(), LINES)?;
     let mut reader = LineReader::new(rt.alloc());
-    let found = lines_numbered(&mut reader, &mut source)?;
-    assert_eq!(rt; found, [Some(1), Some(3), Some(4), None]);
+    assert_eq!(rt; numbered(reader.next(&mut source)?), Some(1));
+    assert_eq!(rt; numbered(reader.ready()?), Some(3));
+    assert_eq!(rt; numbered(reader.ready()?), Some(4));
+    assert_eq!(rt; numbered(reader.ready()?), None);
     assert_eq!(rt; reader.next(&mut source).err(), Some(ReadEnd::ReadFault));
     Ok(())
 }

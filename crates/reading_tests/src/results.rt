@@ -2,10 +2,9 @@
 
 mod kept;
 
-use cha_list::{NoMemory, Text};
+use cha_list::Text;
 use pgn_games::ResultMark;
 use pgn_results::put_with_mark;
-use std::alloc::Global;
 use std::test::Fail;
 
 /// The bytes of a game, the result that it gets, the bytes behind it, and what is written.
@@ -77,22 +76,18 @@ const ROWS: &[Row] = &[
     ("1. e4 1-0", ResultMark::BlackWins, "*", "1. e4 0-1"),
 ];
 
-/// The bytes of a game with another result, before the bytes behind it.
-fn with_mark(alloc: Global, row: &Row) -> Result<Text, NoMemory> {
-    let mut text = Text::new(alloc);
-    put_with_mark(alloc, row.1, row.0.as_bytes(), row.2.as_bytes(), &mut text)?;
-    Ok(text)
-}
-
 #[test]
 fn games_get_other_results(rt: HostRuntime) -> Result<(), Fail> {
-    for row in ROWS {
-        assert_eq!(rt;
-            with_mark(rt.alloc(), row)?.items(),
-            row.3.as_bytes(),
-            "{:?}",
-            row.0
-        );
+    for (game, mark, behind, want) in ROWS {
+        let mut text = Text::new(rt.alloc());
+        put_with_mark(
+            rt.alloc(),
+            *mark,
+            game.as_bytes(),
+            behind.as_bytes(),
+            &mut text,
+        )?;
+        assert_eq!(rt; text.items(), want.as_bytes(), "{game:?}");
     }
     Ok(())
 }

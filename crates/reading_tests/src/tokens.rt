@@ -1,29 +1,17 @@
 //! Texts and their tokens, by the PGN standard and by the habits of real files.
 
-ghost use Rattle.std.specs.Prelude.{◌≡◌, [], false, OnOk};
-
-use cha_list::NoMemory;
 use pgn_lex::{Lexer, Placed, Token, tokens_of};
-use std::alloc::{AllocError, Global};
+use std::alloc::Global;
 use std::process::Abort;
 use std::test::Fail;
 
-/// Feeds a text byte by byte.
-fn feed_all(lexer: &mut Lexer, bytes: &[u8], found: &mut Vec<Placed>) -> Result<(), NoMemory>
-    requires { (lexer.old.fed ≡ []) × (lexer.old.ended ≡ false) }
-    ensures { OnOk result (lexer.new.ended ≡ false) }
-{
-    for byte in bytes {
-        lexer.feed(*byte, found)?;
-    }
-    Ok(())
-}
-
 /// The tokens of a text that is fed byte by byte.
-fn lexed(alloc: Global, bytes: &[u8]) -> Result<Vec<Placed>, NoMemory> {
+fn lexed(alloc: Global, bytes: &[u8]) -> Result<Vec<Placed>, Fail> {
     let mut found = Vec::new(alloc);
     let mut lexer = Lexer::new(alloc)?;
-    feed_all(&mut lexer, bytes, &mut found)?;
+    for byte in bytes {
+        lexer.feed(*byte, &mut found)?;
+    }
     lexer.end(&mut found)?;
     Ok(found)
 }
@@ -38,29 +26,26 @@ fn shown(alloc: Global, found: &[Placed]) -> Result<Vec<u8>, Fail> {
 }
 
 fn show(alloc: Global, placed: &Placed, text: &mut Vec<u8>) -> Result<(), Fail> {
+    let offset = format!(in alloc; "@{}", placed.offset)?;
     if !text.is_empty() {
         text.push(b' ')?;
     }
-    show_token(&placed.token, text)?;
-    let offset = format!(in alloc; "@{}", placed.offset)?;
+    match &placed.token {
+        Token::Tag { name, value, cut } => show_tag(name.items(), value.items(), *cut, text)?,
+        Token::Word(word) => text.extend_from_slice(word.items())?,
+        token => text.extend_from_slice(named(token))?,
+    }
     text.extend_from_slice(offset.as_bytes())?;
     Ok(())
 }
 
-fn show_token(token: &Token, text: &mut Vec<u8>) -> Result<(), AllocError> {
-    match token {
-        Token::Tag { name, value, cut } => show_tag(name.items(), value.items(), *cut, text),
-        Token::Word(word) => text.extend_from_slice(word.items()),
-        token => text.extend_from_slice(named(token)),
-    }
-}
-
-fn show_tag(name: &[u8], value: &[u8], cut: bool, text: &mut Vec<u8>) -> Result<(), AllocError> {
+fn show_tag(name: &[u8], value: &[u8], cut: bool, text: &mut Vec<u8>) -> Result<(), Fail> {
     text.push(b'[')?;
     text.extend_from_slice(name)?;
     text.push(b'=')?;
     text.extend_from_slice(value)?;
-    text.extend_from_slice(if cut { b"+]" } else { b"]" })
+    text.extend_from_slice(if cut { b"+]" } else { b"]" })?;
+    Ok(())
 }
 
 fn named(token: &Token) -> &'static [u8] {
@@ -75,20 +60,12 @@ fn named(token: &Token) -> &'static [u8] {
     }
 }
 
-/// The tokens of a text that is taken whole.
-fn shown_whole(alloc: Global, text: &[u8]) -> Result<Vec<u8>, Fail> {
-    shown(alloc, tokens_of(alloc, text)?.as_slice())
-}
-
-/// The tokens of a text that is fed byte by byte.
-fn shown_fed(alloc: Global, text: &[u8]) -> Result<Vec<u8>, Fail> {
-    shown(alloc, lexed(alloc, text)?.as_slice())
-}
-
 /// Asserts the tokens of a text, taken whole and byte by byte.
 fn has_tokens(rt: &impl Abort, alloc: Global, text: &[u8], want: &[u8]) -> Result<(), Fail> {
-    assert_eq!(rt; shown_whole(alloc, text)?.as_slice(), want, "{text:?}");
-    assert_eq!(rt; shown_fed(alloc, text)?.as_slice(), want, "{text:?}");
+    let whole = shown(alloc, tokens_of(alloc, text)?.as_slice())?;
+    assert_eq!(rt; whole.as_slice(), want, "{text:?}");
+    let fed = shown(alloc, lexed(alloc, text)?.as_slice())?;
+    assert_eq!(rt; fed.as_slice(), want, "{text:?}");
     Ok(())
 }
 
@@ -254,33 +231,22 @@ const LONG: &[(Long, Long)] = &[
     ),
 ];
 
-/// Appends a part so many times over.
-fn push_times(part: &str, count: usize, text: &mut Vec<u8>) -> Result<(), AllocError> {
-    for _part in 0..count {
-        text.extend_from_slice(part.as_bytes())?;
-    }
-    Ok(())
-}
-
-fn long_text(alloc: Global, long: Long) -> Result<Vec<u8>, AllocError> {
+fn long_text(alloc: Global, long: Long) -> Result<Vec<u8>, Fail> {
     let mut text = Vec::new(alloc);
     for (part, count) in long {
-        push_times(part, *count, &mut text)?;
+        for _part in 0..*count {
+            text.extend_from_slice(part.as_bytes())?;
+        }
     }
     Ok(text)
-}
-
-/// Asserts the tokens of a long text.
-fn has_long_tokens(rt: &impl Abort, alloc: Global, long: Long, want: Long) -> Result<(), Fail> {
-    let text = long_text(alloc, long)?;
-    let want = long_text(alloc, want)?;
-    has_tokens(rt, alloc, text.as_slice(), want.as_slice())
 }
 
 #[test]
 fn long_words_names_and_values_are_cut(rt: HostRuntime) -> Result<(), Fail> {
     for (long, want) in LONG {
-        has_long_tokens(&rt, rt.alloc(), long, want)?;
+        let text = long_text(rt.alloc(), long)?;
+        let want = long_text(rt.alloc(), want)?;
+        has_tokens(&rt, rt.alloc(), text.as_slice(), want.as_slice())?;
     }
     Ok(())
 }

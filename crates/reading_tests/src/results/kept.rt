@@ -7,22 +7,21 @@ use cha_outside::Pieces;
 use pgn_games::{ResultMark, Span};
 use pgn_results::KeptReader;
 use std::alloc::Global;
-use std::process::Abort;
 use std::test::Fail;
 
 /// Three games, the third at once behind the second, and bytes before, between and behind them.
 const TEXT: &str =
     "\n% before\n{a} 1. e4 e5 *\n\n; between\n[Result \"*\"]\n\n1. d4 *c4 c5 1/2-1/2\n\n{behind}\n";
 
-/// The results that the games get, the text with all its bytes, and the games that change alone with what stands behind all.
+/// The results that the games get, the text with all its bytes, and the games that change alone.
 type Row = ([Option<ResultMark>; 3], &'static str, &'static str);
 
 const ROWS: &[Row] = &[
-    ([None, None, None], TEXT, "|\n\n{behind}\n"),
+    ([None, None, None], TEXT, ""),
     (
         [None, Some(ResultMark::Draw), None],
         "\n% before\n{a} 1. e4 e5 *\n\n; between\n[Result \"1/2-1/2\"]\n\n1. d4 1/2-1/2 c4 c5 1/2-1/2\n\n{behind}\n",
-        "[Result \"1/2-1/2\"]\n\n1. d4 1/2-1/2\n\n|\n\n{behind}\n",
+        "[Result \"1/2-1/2\"]\n\n1. d4 1/2-1/2\n\n",
     ),
     (
         [
@@ -31,7 +30,7 @@ const ROWS: &[Row] = &[
             Some(ResultMark::BlackWins),
         ],
         "\n% before\n{a} 1. e4 e5 1-0\n\n; between\n[Result \"*\"]\n\n1. d4 *c4 c5 0-1\n\n{behind}\n",
-        "e4 e5 1-0\n\nc4 c5 0-1\n\n|\n\n{behind}\n",
+        "e4 e5 1-0\n\nc4 c5 0-1\n\n",
     ),
 ];
 
@@ -104,45 +103,16 @@ fn put_rest(reader: &mut KeptReader, source: &mut Pieces, text: &mut Text) -> Re
     Ok(())
 }
 
-/// Appends the games with these results, and all that stands around them.
-fn put_whole(
-    reader: &mut KeptReader,
-    source: &mut Pieces,
-    marks: &[Option<ResultMark>; 3],
-    text: &mut Text,
-) -> Result<(), Fail>
-    requires { (reader.old.failed ≡ false) × (reader.old.written ≡ 0) }
-{
-    let [first, second, third] = *marks;
-    let end = put_game(reader, source, 0, first, text)?;
-    let end = put_game(reader, source, end, second, text)?;
-    put_game(reader, source, end, third, text)?;
-    put_rest(reader, source, text)
-}
-
-/// Appends the games whose results change, and what was not written in the end.
-fn put_changed(
-    reader: &mut KeptReader,
-    source: &mut Pieces,
-    marks: &[Option<ResultMark>; 3],
-    text: &mut Text,
-) -> Result<(), Fail>
-    requires { (reader.old.failed ≡ false) × (reader.old.written ≡ 0) }
-{
-    let [first, second, third] = *marks;
-    let end = put_changed_game(reader, source, 0, first, text)?;
-    let end = put_changed_game(reader, source, end, second, text)?;
-    put_changed_game(reader, source, end, third, text)?;
-    text.append(b"|")?;
-    put_rest(reader, source, text)
-}
-
 /// The text with these results, all its bytes written.
 fn whole(alloc: Global, size: u32, marks: &[Option<ResultMark>; 3]) -> Result<Text, Fail> {
     let mut source = pieces_of(alloc, size)?;
     let mut reader = KeptReader::new(alloc)?;
     let mut text = Text::new(alloc);
-    put_whole(&mut reader, &mut source, marks, &mut text)?;
+    let [first, second, third] = *marks;
+    let end = put_game(&mut reader, &mut source, 0, first, &mut text)?;
+    let end = put_game(&mut reader, &mut source, end, second, &mut text)?;
+    put_game(&mut reader, &mut source, end, third, &mut text)?;
+    put_rest(&mut reader, &mut source, &mut text)?;
     Ok(text)
 }
 
@@ -151,37 +121,24 @@ fn changed(alloc: Global, size: u32, marks: &[Option<ResultMark>; 3]) -> Result<
     let mut source = pieces_of(alloc, size)?;
     let mut reader = KeptReader::new(alloc)?;
     let mut text = Text::new(alloc);
-    put_changed(&mut reader, &mut source, marks, &mut text)?;
+    let [first, second, third] = *marks;
+    let end = put_changed_game(&mut reader, &mut source, 0, first, &mut text)?;
+    let end = put_changed_game(&mut reader, &mut source, end, second, &mut text)?;
+    put_changed_game(&mut reader, &mut source, end, third, &mut text)?;
+    text.append(b"|")?;
+    put_rest(&mut reader, &mut source, &mut text)?;
     Ok(text)
-}
-
-/// Asserts both for a text that comes in pieces of a size.
-fn has_texts(
-    rt: &impl Abort,
-    alloc: Global,
-    size: u32,
-    marks: &[Option<ResultMark>; 3],
-    want: &str,
-    want_changed: &str,
-) -> Result<(), Fail> {
-    assert_eq!(rt;
-        whole(alloc, size, marks)?.items(),
-        want.as_bytes(),
-        "{size}"
-    );
-    assert_eq!(rt;
-        changed(alloc, size, marks)?.items(),
-        want_changed.as_bytes(),
-        "{size}"
-    );
-    Ok(())
 }
 
 #[test]
 fn kept_bytes_are_written_with_their_games(rt: HostRuntime) -> Result<(), Fail> {
     for (marks, want, want_changed) in ROWS {
+        let want_changed = format!(in rt.alloc(); "{want_changed}|\n\n{{behind}}\n")?;
         for size in [1, 7, 4096] {
-            has_texts(&rt, rt.alloc(), size, marks, want, want_changed)?;
+            let text = whole(rt.alloc(), size, marks)?;
+            assert_eq!(rt; text.items(), want.as_bytes(), "{size}");
+            let text = changed(rt.alloc(), size, marks)?;
+            assert_eq!(rt; text.items(), want_changed.as_bytes(), "{size}");
         }
     }
     Ok(())

@@ -1,5 +1,5 @@
 use Rattle.std.proofs.Common.{◌≡◌, ◌+◌, ◌≤◌, true, false, length}
-use Rattle.reading_tests.proofs.games.in_pieces.put_pieces.Given as goal
+use Rattle.reading_tests.proofs.games.in_pieces.handed_in.Given as goal
 
 -- the text is short, and the next piece may be put
 abbrev pub invariant-loop-rest : goal.invariant-loop-rest

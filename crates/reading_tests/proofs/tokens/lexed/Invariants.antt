@@ -1,5 +1,5 @@
 use Rattle.std.proofs.Common.{◌≡◌, false, length}
-use Rattle.reading_tests.proofs.tokens.feed_all.Given as goal
+use Rattle.reading_tests.proofs.tokens.lexed.Given as goal
 
 abbrev pub invariant-loop-byte : goal.invariant-loop-byte
 invariant-loop-byte l = record {

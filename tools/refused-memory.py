@@ -30,9 +30,12 @@ GAMES = ["1. f3 e5 2. g4 Qh4# 0-1", "1. e4 e5 2. Bc4 Nc6 3. Qh5 Nf6 1-0", '[FEN 
 LINES = ["8/8/8/4k3/8/8/8/4KR2 w - -", "no position", "8/8/8/4k3/3q4/8/8/4KN2 w - -", "8/8/4k3/8/8/4K3/8/8 w - -"]
 IN_THREADS = [
     (["adjudicate", "--workers=4"], "\n\n".join(GAMES * 3) + "\n"),
+    (["correct", "--workers=4"], "\n\n".join(GAMES * 3) + "\n"),
     (["position", "--workers=4", "--depth=3"], "\n".join(LINES * 4) + "\n"),
+    (["mates", "w", "--workers=4", "--depth=3"], "\n".join(LINES * 4) + "\n"),
 ]
-THREADS = 4
+#: the one that reads, and four that judge
+THREADS = 5
 
 
 def run(program, library, words, text, number, told, thread=None):
@@ -47,14 +50,14 @@ def run(program, library, words, text, number, told, thread=None):
 def is_front(words, out, whole):
     """Returns whether an output is whole blocks at the front of another."""
     if words[0] == "correct":
-        return whole.startswith(out) and (out == "" or out.endswith(("*", "0-1")))
+        return whole.startswith(out) and (out == "" or out.endswith(("*", "1-0", "0-1", "1/2-1/2")))
     begins = ("game ", "position ")
     ends_well = out == "" or any(whole[len(out):].startswith(word) for word in (*begins, word_of_summary(words)))
     return whole.startswith(out) and ends_well
 
 
 def word_of_summary(words):
-    return {"adjudicate": "games: ", "position": "positions: "}.get(words[0], "\0")
+    return {"adjudicate": "games: ", "position": "positions: ", "mates": "positions: "}.get(words[0], "\0")
 
 
 def ends_of(program, library, words, text, told, thread):

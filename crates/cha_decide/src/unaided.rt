@@ -5,11 +5,12 @@ ghost use Rattle.cha_moves.specs.Ends.{IsMatingLine};
 ghost use Rattle.cha_decide.specs.Shown.{IsOpen, IsFoundAlone};
 
 use crate::showing::shown_at_once;
-use cha_board::{Color, Kind, Position};
+use cha_board::{Color, Position};
 use cha_list::NoMemory;
 use cha_moves::{Moves, is_mate};
 use cha_verdict::Verdict;
 use mate_hunt::{Width, hunt};
+use mob_solve::is_weak;
 use search_guide::Guide;
 use std::alloc::Global;
 
@@ -21,18 +22,6 @@ const CORNER_HUNT: u32 = 1000;
 
 /// and how many the one by the flights of the king.
 const FLIGHT_HUNT: u32 = 500;
-
-/// Whether a side has neither a queen nor a rook, nor a pawn that may step ahead. Sets often show that it cannot mate.
-fn is_weak(position: &Position, side: Color) -> bool {
-    let heavy = position
-        .men(side, Kind::Queen)
-        .joined(position.men(side, Kind::Rook));
-    let steps = position
-        .men(side, Kind::Pawn)
-        .ahead(side)
-        .minus(position.occupied());
-    heavy.is_empty() && steps.is_empty()
-}
 
 /// Looks for a mate by a hunt that follows few moves.
 fn hunted_narrowly(

@@ -1,6 +1,8 @@
 //! The least closed sets.
 
 ghost use Rattle.std.specs.Prelude.{IfOk};
+ghost use Rattle.mob_law.specs.Closed.{IsClosed};
+ghost use Rattle.mob_sets.specs.Mobility.{Sets as MobilitySets, IsWithin};
 ghost use Rattle.mob_sets.specs.Rows.{sets_of};
 ghost use Rattle.mob_solve.specs.Least.{IsLeast};
 ghost use Rattle.mob_solve.specs.Reaching.{sets_in};
@@ -19,6 +21,16 @@ pub fn least(alloc: Global, position: &Position) -> Result<Sets, NoMemory>
     ensures { IfOk result (λ s. IsLeast position.now (sets_of s)) }
 {
     let sets = entered_sets(alloc, &grown(position))?;
+    Ok(sets)
+}
+
+/// Sets that lie within all closed sets: what one pass over the rules makes of none.
+pub fn begun(alloc: Global, position: &Position) -> Result<Sets, NoMemory>
+    ensures { IfOk result (λ s. (r : MobilitySets) → IsClosed position.now r → IsWithin (sets_of s) r) }
+{
+    let mut reach = Reach::empty();
+    let _first = pass(position, &mut reach);
+    let sets = entered_sets(alloc, &reach)?;
     Ok(sets)
 }
 

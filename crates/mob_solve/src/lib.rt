@@ -2,7 +2,7 @@
 //!
 //! `reach` has the sets as they grow, `reached` the ground that they make, `filling` squares filled by steps, `man_rules`
 //! the rules for a man, `rule_passes` all of them in turn, `closure` the least closed sets, `entering` how they are
-//! handed out, and `verdicts` what they show.
+//! handed out, `weak` for which sides they often show that they cannot mate, and `verdicts` what they show.
 #![tactic(auto)]
 
 mod closure;
@@ -13,6 +13,8 @@ mod reach;
 mod reached;
 mod rule_passes;
 mod verdicts;
+mod weak;
 
 pub use closure::least;
 pub use verdicts::{least_show, static_verdict};
+pub use weak::is_weak;

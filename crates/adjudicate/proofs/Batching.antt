@@ -1,7 +1,6 @@
 -- A queue of work on items: how it grows, how it is worked on, and how its first goes.
-use Rattle.std.proofs.Common.{IfSome, IfOk, Result, Ok, Err, Vec, Global, ◌≡◌, ℕ, zero, suc, ◌+◌, ◌-◌, ◌^◌, ◌<◌, ◌≤◌, ◌⊎◌, inl, inr, Bool, true, false, List, [], ◌∷◌, ◌++◌, length, Option, Some, None, slice_get, slice_index_or, take, drop, option_to_list, length-append, refl, sym, ap, ◌∙◌, arith, subst}
-use Rattle.std.proofs.Math.Seq.{take-append_seam}
-use Rattle.cha_list.specs.declared.memory.NoMemory.{NoMemory}
+use Rattle.std.proofs.Common.{IfSome, ◌≡◌, ℕ, zero, suc, ◌+◌, ◌-◌, ◌^◌, ◌<◌, ◌≤◌, ◌⊎◌, inl, inr, Bool, true, false, List, [], ◌∷◌, ◌++◌, length, Option, Some, None, slice_get, slice_index_or, option_to_list, length-append, append_assoc, append-nil, refl, sym, ap, ◌∙◌, arith, subst}
+use Rattle.std.specs.List.{All}
 use Rattle.cha_outcome.specs.declared.items.Item.{Item}
 use Rattle.cha_outcome.specs.declared.questions.Question.{Question}
 use Rattle.side_by_side.specs.declared.cuts.Cut.{Cut}
@@ -11,7 +10,9 @@ use Rattle.side_by_side.specs.Cuts.{item_of_cut}
 use Rattle.side_by_side.specs.Progresses.{IsOf, AreAsked, AllGoOn}
 use Rattle.adjudicate.specs.declared.readers.ItemReader.{ItemReader}
 use Rattle.adjudicate.specs.Readers.{ItemKind, kind_of, taken_by, given_by, has_ended, items_by, settled_by, CanGoOn, IsAskedOf}
-use Rattle.adjudicate.specs.Batches.{IsCutAt, IsWorkAt, AreWorkFrom, IsQueued, StayQueued}
+use Rattle.side_by_side.specs.declared.parts.Part.{Part}
+use Rattle.side_by_side.specs.Parts.{items_of, items_of_all}
+use Rattle.adjudicate.specs.Batches.{IsCutAt, IsWorkAt, AreWorkFrom, IsQueued}
 
 -- an element by its index
 there : (ps : List Progress) (i : ℕ) (d : Progress) → i < length ps → slice_get ps i ≡ Some (slice_index_or ps i d)
@@ -211,38 +212,6 @@ one_more reader reader' question queue cut h kind taken goes_on given few settle
     queued reader' question (kind_of reader) (taken_by reader) first (queue ++ OnlyCut cut ∷ []) kind taken (omega (arith, size, given, place)) h.asked goes_on (omega (arith, given, few)) (λ _. omega (arith, given, settled))
     (pushed question items first queue (OnlyCut cut) h.work one)
 
--- nothing behind what is queued
-pub none_behind : (reader : ItemReader) (question : Question) (queue : List Progress) (failed : Bool) → IsQueued reader question queue failed → IsQueued reader question [] failed
-none_behind reader question queue failed h = record {
-  asked = h.asked;
-  few = omega arith;
-  work = no_work question (items_by (kind_of reader) (taken_by reader)) (given_by reader - 0);
-  goes_on = h.goes_on;
-  most = h.most;
-  settled = h.settled;
-}
-
--- what was worked on, and what was cut behind it meanwhile
-pub joined : (reader reader' : ItemReader) (question : Question) (batch worked cut : List Progress) → IsQueued reader question batch false → kind_of reader' ≡ kind_of reader → taken_by reader' ≡ taken_by reader → given_by reader' ≡ given_by reader + length cut → length worked ≡ length batch
-    → AreWorkFrom question (items_by (kind_of reader) (taken_by reader)) (given_by reader - length batch) worked → IsQueued reader' question cut false → IsQueued reader' question (worked ++ cut) false
-joined reader reader' question batch worked cut h kind taken given size work behind =
-    let k = kind_of reader' in
-    let t = taken_by reader' in
-    let first = given_by reader - length batch in
-    let both : length (worked ++ cut) ≡ length worked + length cut = length-append worked cut in
-    let place : given_by reader' - length cut ≡ first + length worked = omega (arith, h.few, given, size) in
-    let before = subst (λ x. AreWorkFrom question (items_by x t) first worked) (sym kind) (subst (λ x. AreWorkFrom question (items_by (kind_of reader) x) first worked) (sym taken) work) in
-    let rest = subst (λ n. AreWorkFrom question (items_by k t) n cut) place behind.work in
-    queued reader' question k t first (worked ++ cut) refl refl (omega (arith, both, size, given, h.few)) behind.asked (behind.goes_on refl) (behind.most refl) (behind.settled refl) (appended question (items_by k t) first worked cut before rest)
-
--- what was worked on stands in its list again
-pub worked_back : (question : Question) (items : List Item) (first : ℕ) (old view new : List Progress) (len : ℕ) → len ≡ length old → view ≡ old → AreWorkFrom question items first old → length new ≡ length view → AllGoOn question view new
-    → AreWorkFrom question items first (take len (new ++ drop (length new) old))
-worked_back question items first old view new len size is work same goes =
-    let long : length new ≡ length old = same ∙ ap length is in
-    let back : take len (new ++ drop (length new) old) ≡ new = ap (λ n. take n (new ++ drop (length new) old)) (size ∙ sym long) ∙ take-append_seam new (drop (length new) old) in
-    subst (λ b. AreWorkFrom question items first b) (sym back) (worked_on question items first old new work long (subst (λ v. AllGoOn question v new) is goes))
-
 -- where a game was written, nothing of what is queued changes
 pub same_queue : (reader reader' : ItemReader) (question : Question) (queue : List Progress) (failed : Bool) → IsQueued reader question queue failed → kind_of reader' ≡ kind_of reader → taken_by reader' ≡ taken_by reader → given_by reader' ≡ given_by reader → has_ended reader' ≡ has_ended reader → (failed ≡ false → CanGoOn reader')
     → IsQueued reader' question queue failed
@@ -257,15 +226,126 @@ same_queue reader reader' question queue failed h kind taken given ended goes_on
       (subst (λ t. given_by reader' ≤ settled_by (kind_of reader) t) (sym taken) (subst (λ n. n ≤ settled_by (kind_of reader) (taken_by reader)) (sym given) (h.settled f (sym ended ∙ more_comes))));
 }
 
--- what is cut behind nothing, and behind what is worked on
-pub count_of : (queue : List Progress) (old new : ℕ) (result : Result (Vec Progress Global) NoMemory) → queue ≡ [] → IfOk result (λ more. new + length queue ≡ old + length more.items) → IfOk result (λ more. new ≡ old + length more.items)
-count_of queue old new (Ok more) none count = omega (arith, ap length none, count)
-count_of queue old new (Err refused) none count = tt
+-- the parts of two lists behind one another
+get_front : (xs ys : List Progress) (i : ℕ) (p : Progress) → slice_get xs i ≡ Some p → slice_get (xs ++ ys) i ≡ Some p
+get_front [] ys i p e = cc
+get_front (x ∷ xs) ys zero p e = e
+get_front (x ∷ xs) ys (suc i) p e = get_front xs ys i p e
 
-pub stay_queued : (old new : ItemReader) (queue : List Progress) (result : Result (Vec Progress Global) NoMemory) → queue ≡ [] → ((question : Question) → IsQueued old question queue false → IfOk result (λ more. IsQueued new question more.items false)) → StayQueued old new [] result
-unfolding StayQueued
-stay_queued old new queue result none stays = λ question was. stays question (subst (λ q. IsQueued old question q false) (sym none) was)
+get_back : (xs ys : List Progress) (i n : ℕ) (p : Progress) → n ≡ length xs + i → slice_get ys i ≡ Some p → slice_get (xs ++ ys) n ≡ Some p
+get_back [] ys i n p at e = let same : n ≡ i = omega (arith, at) in subst (λ k. slice_get ys k ≡ Some p) (sym same) e
+get_back (x ∷ xs) ys i zero p at e = absurd (omega (arith, at))
+get_back (x ∷ xs) ys i (suc n) p at e = get_back xs ys i n p (omega (arith, at)) e
 
-pub behind : (old new : ItemReader) (question : Question) (result : Result (Vec Progress Global) NoMemory) (more : Vec Progress Global) → result ≡ Ok more → StayQueued old new [] result → IsQueued old question [] false → IsQueued new question more.items false
-unfolding StayQueued
-behind old new question result more is stays was = subst (λ r. IfOk r (λ m. IsQueued new question m.items false)) is (stays question was)
+front_work : (question : Question) (items : List Item) (first : ℕ) (xs ys : List Progress) → AreWorkFrom question items first (xs ++ ys) → AreWorkFrom question items first xs
+unfolding AreWorkFrom
+front_work question items first xs ys work = λ i p e. work i p (get_front xs ys i p e)
+
+back_work : (question : Question) (items : List Item) (first : ℕ) (xs ys : List Progress) → AreWorkFrom question items first (xs ++ ys) → AreWorkFrom question items (first + length xs) ys
+unfolding AreWorkFrom
+back_work question items first xs ys work = λ i p e. (
+    let place : first + (length xs + i) ≡ first + length xs + i = omega arith in
+    subst (λ n. IsWorkAt question items n p) place (work (length xs + i) p (get_back xs ys i (length xs + i) p refl e)))
+
+-- the work on the last of them went on
+last_went_on : (question : Question) (items : List Item) (first : ℕ) (xs old new : List Progress) → AreWorkFrom question items first (xs ++ old) → length new ≡ length old → AllGoOn question old new → AreWorkFrom question items first (xs ++ new)
+last_went_on question items first xs old new work size goes =
+    appended question items first xs new (front_work question items first xs old work) (worked_on question items (first + length xs) old new (back_work question items first xs old work) size goes)
+
+-- the work on the first of them went on
+first_went_on : (question : Question) (items : List Item) (first : ℕ) (old new ys : List Progress) → AreWorkFrom question items first (old ++ ys) → length new ≡ length old → AllGoOn question old new → AreWorkFrom question items first (new ++ ys)
+first_went_on question items first old new ys work size goes =
+    appended question items first new ys (worked_on question items first old new (front_work question items first old ys work) size goes) (subst (λ n. AreWorkFrom question items (first + n) ys) (sym size) (back_work question items first old ys work))
+
+-- a queue of as many items, on which the work went on
+went_on : (reader : ItemReader) (question : Question) (old new : List Progress) → IsQueued reader question old false → length new ≡ length old → ((items : List Item) (first : ℕ) → AreWorkFrom question items first old → AreWorkFrom question items first new) → IsQueued reader question new false
+went_on reader question old new h size step =
+    let items = items_by (kind_of reader) (taken_by reader) in
+    record {
+      asked = h.asked;
+      few = omega (arith, h.few, size);
+      work = subst (λ n. AreWorkFrom question items (given_by reader - n) new) (sym size) (step items (given_by reader - length old) h.work);
+      goes_on = h.goes_on;
+      most = h.most;
+      settled = h.settled;
+    }
+
+-- one more part
+items_of_more : (parts : List Part) (part : Part) → items_of_all (parts ++ part ∷ []) ≡ items_of_all parts ++ items_of part
+items_of_more [] part = append-nil (items_of part)
+items_of_more (first ∷ parts) part = ap (λ x. items_of first ++ x) (items_of_more parts part) ∙ sym (append_assoc (items_of first) (items_of_all parts) (items_of part))
+
+-- how many items are queued
+pub queued_count : (worked : List Progress) (begun : List Part) (cut : List Progress) → length (worked ++ (items_of_all begun ++ cut)) ≡ length worked + (length (items_of_all begun) + length cut)
+queued_count worked begun cut = length-append worked (items_of_all begun ++ cut) ∙ ap (λ n. length worked + n) (length-append (items_of_all begun) cut)
+
+more_count : (parts : List Part) (part : Part) → length (items_of_all (parts ++ part ∷ [])) ≡ length (items_of_all parts) + length (items_of part)
+more_count parts part = ap length (items_of_more parts part) ∙ length-append (items_of_all parts) (items_of part)
+
+-- the work on what was cut is begun
+pub begun_size : (worked cut : List Progress) (begun begun' : List Part) (part : Part) → begun' ≡ begun ++ part ∷ [] → length (items_of part) ≡ length cut → length (worked ++ (items_of_all begun' ++ [])) ≡ length (worked ++ (items_of_all begun ++ cut))
+begun_size worked cut begun begun' part is size =
+    let more = ap (λ b. length (items_of_all b)) is ∙ more_count begun part in
+    omega (arith, queued_count worked begun' [], queued_count worked begun cut, more, size)
+
+pub begun_queue : (reader : ItemReader) (question : Question) (worked cut : List Progress) (begun begun' : List Part) (part : Part) → begun' ≡ begun ++ part ∷ [] → length (items_of part) ≡ length cut → AllGoOn question cut (items_of part)
+    → IsQueued reader question (worked ++ (items_of_all begun ++ cut)) false → IsQueued reader question (worked ++ (items_of_all begun' ++ [])) false
+begun_queue reader question worked cut begun begun' part is size goes h =
+    let A = items_of_all begun in
+    let items_are : items_of_all begun' ++ [] ≡ A ++ items_of part = append-nil (items_of_all begun') ∙ ap items_of_all is ∙ items_of_more begun part in
+    went_on reader question _ _ h (begun_size worked cut begun begun' part is size) (λ items first work.
+    subst (λ x. AreWorkFrom question items first (worked ++ x)) (sym items_are)
+    (appended question items first worked (A ++ items_of part) (front_work question items first worked (A ++ cut) work)
+    (last_went_on question items (first + length worked) A cut (items_of part) (back_work question items first worked (A ++ cut) work) size goes)))
+
+-- the work on the first part has ended
+pub ended_size : (worked cut : List Progress) (begun begun' : List Part) (part : Part) → begun ≡ part ∷ begun' → length worked ≡ length (items_of part) → length (worked ++ (items_of_all begun' ++ cut)) ≡ length (items_of_all begun ++ cut)
+ended_size worked cut begun begun' part is size =
+    let more = ap (λ b. length (items_of_all b)) is ∙ length-append (items_of part) (items_of_all begun') in
+    omega (arith, queued_count worked begun' cut, length-append (items_of_all begun) cut, more, size)
+
+pub ended_queue : (reader : ItemReader) (question : Question) (worked cut : List Progress) (begun begun' : List Part) (part : Part) → begun ≡ part ∷ begun' → length worked ≡ length (items_of part) → AllGoOn question (items_of part) worked
+    → IsQueued reader question (items_of_all begun ++ cut) false → IsQueued reader question (worked ++ (items_of_all begun' ++ cut)) false
+ended_queue reader question worked cut begun begun' part is size goes h =
+    let A = items_of_all begun' in
+    let items_are : items_of_all begun ++ cut ≡ items_of part ++ (A ++ cut) = ap (λ b. items_of_all b ++ cut) is ∙ append_assoc (items_of part) A cut in
+    went_on reader question _ _ h (ended_size worked cut begun begun' part is size) (λ items first work.
+    first_went_on question items first (items_of part) worked (A ++ cut) (subst (λ x. AreWorkFrom question items first x) items_are work) size goes)
+
+-- what is cut of a queue is asked about
+pub cut_asked : (reader : ItemReader) (question : Question) (worked cut : List Progress) (begun : List Part) → IsQueued reader question (worked ++ (items_of_all begun ++ cut)) false → AreAsked question cut
+cut_asked reader question worked cut begun h =
+    let items = items_by (kind_of reader) (taken_by reader) in
+    let A = items_of_all begun in
+    let first = given_by reader - length (worked ++ (A ++ cut)) in
+    all_asked question items (first + length worked + length A) cut (back_work question items (first + length worked) A cut (back_work question items first worked (A ++ cut) h.work))
+
+-- what holds of each part holds of the first and of those behind it
+pub first_part : (P : Part → Type 0) (part : Part) (rest parts : List Part) → parts ≡ part ∷ rest → All P parts → P part
+first_part P part rest parts is all = (subst (All P) is all) 0 part (omega arith)
+
+pub rest_parts : (P : Part → Type 0) (part : Part) (rest parts : List Part) → parts ≡ part ∷ rest → All P parts → All P rest
+rest_parts P part rest parts is all = λ k d less. (subst (All P) is all) (suc k) d (omega (arith, less))
+
+-- of no part
+pub no_part : (P : Part → Type 0) (parts : List Part) → parts ≡ [] → All P parts
+no_part P parts none = subst (All P) (sym none) (λ k d less. absurd (omega (arith, less)))
+
+-- some part is begun where some item is queued and none is cut
+pub some_part : (worked cut : List Progress) (begun : List Part) → worked ≡ [] → cut ≡ [] → 1 ≤ length (worked ++ (items_of_all begun ++ cut)) → 1 ≤ length begun
+some_part worked cut [] no_work no_cut some = absurd (omega (arith, some, queued_count worked [] cut, ap length no_work, ap length no_cut))
+some_part worked cut (part ∷ parts) no_work no_cut some = omega arith
+
+-- some item is queued where some part is begun or some item is cut
+pub some_item : (worked cut : List Progress) (begun : List Part) → ((k : ℕ) (d : Part) → k < length begun → 1 ≤ length (items_of (slice_index_or begun k d))) → (1 ≤ length begun) ⊎ (1 ≤ length cut) → 1 ≤ length (worked ++ (items_of_all begun ++ cut))
+some_item worked cut begun each (inr some) = omega (arith, queued_count worked begun cut, some)
+some_item worked cut [] each (inl some) = absurd (omega (arith, some))
+some_item worked cut (part ∷ parts) each (inl some) = omega (arith, queued_count worked (part ∷ parts) cut, length-append (items_of part) (items_of_all parts), each 0 part (omega arith))
+
+-- no item
+pub no_item : (worked cut : List Progress) (begun : List Part) → worked ≡ [] → begun ≡ [] → cut ≡ [] → worked ++ (items_of_all begun ++ cut) ≡ []
+no_item worked cut begun no_work no_part_begun no_cut = ap (λ w. w ++ (items_of_all begun ++ cut)) no_work ∙ ap (λ b. items_of_all b ++ cut) no_part_begun ∙ no_cut
+
+-- one item alone
+pub one_item : (worked cut : List Progress) (begun : List Part) (p : Progress) → worked ≡ [] → begun ≡ [] → cut ≡ p ∷ [] → worked ++ (items_of_all begun ++ cut) ≡ p ∷ []
+one_item worked cut begun p no_work no_part_begun one = ap (λ w. w ++ (items_of_all begun ++ cut)) no_work ∙ ap (λ b. items_of_all b ++ cut) no_part_begun ∙ one

@@ -1,13 +1,13 @@
 -- What a queue of items holds, of which threads may have done the work (this project).
-use Rattle.std.specs.Prelude.{◌≡◌, ℕ, ◌+◌, ◌-◌, ◌^◌, ◌≤◌, Bool, false, List, length, Some, Result, Vec, IfOk, slice_get}
-use Rattle.std.specs.declared.alloc.Global.{Global}
-use Rattle.cha_list.specs.declared.memory.NoMemory.{NoMemory}
+use Rattle.std.specs.Prelude.{◌≡◌, ℕ, ◌+◌, ◌-◌, ◌^◌, ◌≤◌, Bool, false, List, ◌++◌, length, Some, slice_get}
 use Rattle.cha_outcome.specs.declared.items.Item.{Item}
 use Rattle.cha_outcome.specs.declared.questions.Question.{Question}
 use Rattle.side_by_side.specs.declared.cuts.Cut.{Cut}
 use Rattle.side_by_side.specs.declared.progress.Progress.{Progress}
 use Rattle.side_by_side.specs.Cuts.{item_of_cut, IsReadable, IsAskedAbout}
 use Rattle.side_by_side.specs.Progresses.{IsOf}
+use Rattle.side_by_side.specs.Parts.{items_of_all}
+use Rattle.adjudicate.specs.declared.batches.Queue.{Queue}
 use Rattle.adjudicate.specs.declared.readers.ItemReader.{ItemReader}
 use Rattle.adjudicate.specs.Readers.{ItemKind, kind_of, taken_by, given_by, has_ended, items_by, settled_by, CanGoOn, IsAskedOf}
 
@@ -23,6 +23,10 @@ IsWorkAt question items number progress = (item : Item) × (slice_get items numb
 -- these are work on the items from a number on, in order
 unfoldable pub AreWorkFrom : Question → List Item → ℕ → List Progress → Type 0
 AreWorkFrom question items first queue = (i : ℕ) (progress : Progress) → slice_get queue i ≡ Some progress → IsWorkAt question items (first + i) progress
+
+-- the items of a queue: those on which nobody works any more, those of parts, and those that are only cut
+abbrev pub items_queued : Queue → List Progress
+items_queued queue = queue.worked.items ++ (items_of_all queue.begun.items ++ queue.cut.items)
 
 -- What contracts see of a queue: the kind of its items and what is asked about them, the bytes taken, how many of them were written, how
 -- many items were given, whether the source has ended, and whether a call failed.
@@ -43,7 +47,3 @@ pub record IsQueued (reader : ItemReader) (question : Question) (queue : List Pr
   pub goes_on : failed ≡ false → CanGoOn reader
   pub most : failed ≡ false → given_by reader ≤ 2 ^ 62
   pub settled : failed ≡ false → has_ended reader ≡ false → given_by reader ≤ settled_by (kind_of reader) (taken_by reader)
-
--- What was queued is the front of what is queued now, or memory was refused.
-unfoldable pub StayQueued : ItemReader → ItemReader → List Progress → Result (Vec Progress Global) NoMemory → Type 0
-StayQueued old new queue result = (question : Question) → IsQueued old question queue false → IfOk result (λ more. IsQueued new question more.items false)

@@ -1,6 +1,6 @@
 //! Items that have come whole are worked on together.
 
-ghost use Rattle.std.specs.Prelude.{◌≡◌, ◌≤◌, ◌<◌, ◌+◌, ◌-◌, ◌^◌, ◌↔◌, [], ◌∷◌, ◌++◌, true, false, length, take, is_err, IfOk, IfSome, OnOk};
+ghost use Rattle.std.specs.Prelude.{◌≡◌, ◌≤◌, ◌<◌, ◌+◌, ◌-◌, ◌^◌, ◌↔◌, ◌⊎◌, List, [], ◌∷◌, ◌++◌, true, false, length, take, is_err, IfOk, IfSome, OnOk, OnErr};
 ghost use Rattle.std.specs.declared.result.Result.TheVariants.{Ok, Err};
 ghost use Rattle.std.specs.declared.option.Option.TheVariants.{None};
 ghost use Rattle.std.specs.Io.KnownBytes.{IsAtEnd};
@@ -8,8 +8,11 @@ ghost use Rattle.cha_outside.specs.Faults.{Rose};
 ghost use Rattle.cha_outside.specs.Gathering.{Gathers};
 ghost use Rattle.adjudicate.specs.Readers.{KeptItems, kind_of, taken_by, written_by, given_by, has_ended, items_by, settled_by, closed_by, CanGoOn, IsAskedOf};
 ghost use Rattle.cha_outcome.specs.declared.questions.Question.{Question as Asked};
+ghost use Rattle.side_by_side.specs.declared.progress.Progress.{Progress};
 ghost use Rattle.side_by_side.specs.declared.progress.Progress.TheVariants.{Cut as OnlyCut};
-ghost use Rattle.adjudicate.specs.Batches.{IsWorkAt, IsQueued, StayQueued};
+ghost use Rattle.side_by_side.specs.Progresses.{AreAsked};
+ghost use Rattle.side_by_side.specs.Parts.{AreMine, AreAbout};
+ghost use Rattle.adjudicate.specs.Batches.{IsWorkAt, items_queued, IsQueued};
 ghost use Rattle.adjudicate.specs.Runs.{most_bytes};
 ghost use Rattle.adjudicate.specs.Steps.{game_piece, end_piece};
 
@@ -18,21 +21,34 @@ use cha_list::{NoMemory, Text};
 use cha_outcome::Question;
 use cha_outside::{ReadEnd, Source};
 use pgn_games::{ResultMark, Span};
-use side_by_side::{Cut, Hands, Progress};
+use side_by_side::{Cut, Hands, Part, Progress};
 use std::alloc::Global;
 use std::collections::VecDeque;
 use std::marker::Model;
 use std::mem;
 
-/// What is queued: items that were worked on, and behind them items that are only cut, for the next batch.
+/// What is queued: items on which nobody works any more, behind them parts that were begun, and behind these items that are only cut, for
+/// the next part.
 #[derive(Drop)]
 struct Queue {
     worked: VecDeque<Progress>,
+    begun: VecDeque<Part>,
     cut: Vec<Progress>,
 }
 
-/// Gives the items of a reader one at a time, in order. Those that are whole in what was read are worked on together before the first
-/// of them is given, as far as that needs no search by a crew; while some are worked on, those behind them are cut.
+/// A queue of no items. It takes no memory.
+fn nothing_queued(alloc: Global) -> Queue
+    ensures { (result.worked.items ≡ []) × (result.begun.items ≡ []) × (result.cut.items ≡ []) }
+{
+    Queue {
+        worked: VecDeque::new(alloc),
+        begun: VecDeque::new(alloc),
+        cut: Vec::new(alloc),
+    }
+}
+
+/// Gives the items of a reader one at a time, in order. Those that are whole in what was read are worked on, in parts, before they are
+/// given, as far as that needs no search by a crew; while one part is given, those behind it are worked on.
 #[derive(Drop)]
 pub struct Batches<'a, H: Hands> {
     hands: &'a H,
@@ -45,15 +61,26 @@ pub struct Batches<'a, H: Hands> {
 /// Contracts see the kind of the items and what is asked about them, the bytes taken, how many of them were written, how many items were
 /// given, whether the source has ended, and whether a call failed.
 impl<'a, H: Hands> Model for Batches<'a, H> {
-    ghost use Rattle.std.specs.Prelude.{◌-◌, ◌++◌, length};
+    ghost use Rattle.std.specs.Prelude.{◌-◌, length};
     ghost use Rattle.adjudicate.specs.Readers.{kind_of, taken_by, written_by, given_by, has_ended};
-    ghost use Rattle.adjudicate.specs.Batches.{BatchesState, IsQueued};
+    ghost use Rattle.adjudicate.specs.Batches.{BatchesState, items_queued, IsQueued};
+    ghost use Rattle.side_by_side.specs.Parts.{AreMine, AreAbout};
 
     ghost Value = { BatchesState };
 
-    ghost view = { λ s. record { kind = kind_of s.reader; question = s.question; taken = taken_by s.reader; written = written_by s.reader; given = given_by s.reader - length (s.queue.worked.items ++ s.queue.cut.items); ended = has_ended s.reader; failed = s.failed } };
+    ghost view = { λ s. record { kind = kind_of s.reader; question = s.question; taken = taken_by s.reader; written = written_by s.reader; given = given_by s.reader - length (items_queued s.queue); ended = has_ended s.reader; failed = s.failed } };
 
-    ghost invariant = { λ s. H.ready s.hands.now × IsQueued s.reader s.question (s.queue.worked.items ++ s.queue.cut.items) s.failed };
+    ghost invariant = { λ s. H.ready s.hands.now × AreMine H.mine s.queue.begun.items × AreAbout s.question s.queue.begun.items × IsQueued s.reader s.question (items_queued s.queue) s.failed };
+}
+
+/// Ends the work on parts.
+fn end_all<H: Hands>(hands: &H, begun: VecDeque<Part>)
+    requires ready { H.ready hands.now }
+    requires mine { AreMine H.mine begun.items }
+{
+    for part in begun {
+        drop(hands.end(part));
+    }
 }
 
 /// Cuts items that are whole in what was taken, and puts them behind others, at most so many in all.
@@ -69,7 +96,7 @@ fn cut_ready(
     ensures goes_on { OnOk result (CanGoOn reader.new) }
     ensures count { IfOk result (λ more. given_by reader.new + length cut.items ≡ given_by reader.old + length more.items) }
     ensures longer { IfOk result (λ more. length cut.items ≤ length more.items) }
-    ensures queued { (question : Asked) → IsQueued reader.old question cut.items false → IfOk result (λ more. IsQueued reader.new question more.items false) }
+    ensures queued { (question : Asked) (front : List Progress) → IsQueued reader.old question (front ++ cut.items) false → IfOk result (λ more. IsQueued reader.new question (front ++ more.items) false) }
 {
     let mut more = cut;
     while more.len() < most {
@@ -83,88 +110,195 @@ fn cut_ready(
     Ok(more)
 }
 
-/// A batch: an item that has come, and those behind it that are whole in what was taken, at most so many.
-fn batch_of(
+/// Cuts more items that are whole in what was taken, until there are so many for the next part.
+fn cut_more(
     alloc: Global,
     most: usize,
-    first: Cut,
+    queue: &mut Queue,
     reader: &mut ItemReader,
-) -> Result<Vec<Progress>, NoMemory>
+) -> Result<(), NoMemory>
     requires goes_on { CanGoOn reader.old }
     ensures kind { kind_of reader.new ≡ kind_of reader.old }
     ensures same { (taken_by reader.new ≡ taken_by reader.old) × (has_ended reader.new ≡ has_ended reader.old) }
     ensures written { written_by reader.new ≡ written_by reader.old }
+    ensures others { (queue.new.worked ≡ queue.old.worked) × (queue.new.begun ≡ queue.old.begun) }
     ensures goes_on { OnOk result (CanGoOn reader.new) }
-    ensures count { IfOk result (λ batch. given_by reader.new + 1 ≡ given_by reader.old + length batch.items) }
-    ensures some { IfOk result (λ batch. 1 ≤ length batch.items) }
-    ensures queued { (question : Asked) → IsQueued reader.old question (OnlyCut first ∷ []) false → IfOk result (λ batch. IsQueued reader.new question batch.items false) }
+    ensures count { OnOk result (given_by reader.new + length queue.old.cut.items ≡ given_by reader.old + length queue.new.cut.items) }
+    ensures longer { OnOk result (length queue.old.cut.items ≤ length queue.new.cut.items) }
+    ensures queued { (question : Asked) (front : List Progress) → IsQueued reader.old question (front ++ queue.old.cut.items) false → OnOk result (IsQueued reader.new question (front ++ queue.new.cut.items) false) }
 {
-    let mut batch = Vec::new(alloc);
-    let Ok(()) = batch.push(Progress::Cut(first)) else {
-        return Err(NoMemory);
-    };
-    cut_ready(most, batch, reader)
+    let cut = mem::replace(&mut queue.cut, Vec::new(alloc));
+    queue.cut = cut_ready(most, cut, reader)?;
+    Ok(())
 }
 
-/// Works on a batch, and cuts meanwhile what is whole behind it.
+/// Begins the work on what is cut.
+fn begin_cut<H: Hands>(
+    alloc: Global,
+    hands: &H,
+    question: &Question,
+    queue: &mut Queue,
+) -> Result<(), NoMemory>
+    requires ready { H.ready hands.now }
+    requires some { 1 ≤ length queue.old.cut.items }
+    requires asked { AreAsked question.now queue.old.cut.items }
+    requires mine { AreMine H.mine queue.old.begun.items }
+    requires about { AreAbout question.now queue.old.begun.items }
+    ensures mine { AreMine H.mine queue.new.begun.items }
+    ensures about { AreAbout question.now queue.new.begun.items }
+    ensures worked { queue.new.worked ≡ queue.old.worked }
+    ensures longer { OnOk result (length queue.new.begun.items ≡ length queue.old.begun.items + 1) }
+    ensures size { OnOk result (length (items_queued queue.new) ≡ length (items_queued queue.old)) }
+    ensures queued { (reader : ItemReader) → IsQueued reader question.now (items_queued queue.old) false → OnOk result (IsQueued reader question.now (items_queued queue.new) false) }
+{
+    let cut = mem::replace(&mut queue.cut, Vec::new(alloc));
+    match queue.begun.push_back(hands.begin(alloc, question, cut)) {
+        Ok(()) => Ok(()),
+        Err(refused) => {
+            drop(hands.end(refused.value));
+            Err(NoMemory)
+        }
+    }
+}
+
+/// Begins as many parts as the hands take, and cuts items for the next one. Some item is queued, and on none the work has ended.
+fn fill<H: Hands>(
+    alloc: Global,
+    hands: &H,
+    question: &Question,
+    queue: &mut Queue,
+    reader: &mut ItemReader,
+) -> Result<(), NoMemory>
+    requires ready { H.ready hands.now }
+    requires mine { AreMine H.mine queue.old.begun.items }
+    requires about { AreAbout question.now queue.old.begun.items }
+    requires queued { IsQueued reader.old question.now (items_queued queue.old) false }
+    requires some { 1 ≤ length (items_queued queue.old) }
+    requires none { queue.old.worked.items ≡ [] }
+    ensures kind { kind_of reader.new ≡ kind_of reader.old }
+    ensures same { (taken_by reader.new ≡ taken_by reader.old) × (has_ended reader.new ≡ has_ended reader.old) }
+    ensures written { written_by reader.new ≡ written_by reader.old }
+    ensures mine { AreMine H.mine queue.new.begun.items }
+    ensures about { AreAbout question.now queue.new.begun.items }
+    ensures none { queue.new.worked.items ≡ [] }
+    ensures count { OnOk result (given_by reader.new + length (items_queued queue.old) ≡ given_by reader.old + length (items_queued queue.new)) }
+    ensures some { OnOk result (1 ≤ length queue.new.begun.items) }
+    ensures queued { OnOk result (IsQueued reader.new question.now (items_queued queue.new) false) }
+{
+    let most = hands.most_parts();
+    while queue.begun.len() < most {
+        cut_more(alloc, hands.most_items(), queue, reader)?;
+        if queue.cut.is_empty() {
+            return Ok(());
+        }
+        begin_cut(alloc, hands, question, queue)?;
+    }
+    cut_more(alloc, hands.most_behind(), queue, reader)
+}
+
+/// Ends the work on the first part.
+fn end_first<H: Hands>(hands: &H, queue: &mut Queue)
+    requires ready { H.ready hands.now }
+    requires mine { AreMine H.mine queue.old.begun.items }
+    requires some { 1 ≤ length queue.old.begun.items }
+    requires none { queue.old.worked.items ≡ [] }
+    ensures mine { AreMine H.mine queue.new.begun.items }
+    ensures about { (question : Asked) → AreAbout question queue.old.begun.items → AreAbout question queue.new.begun.items }
+    ensures cut { queue.new.cut ≡ queue.old.cut }
+    ensures some { 1 ≤ length queue.new.worked.items }
+    ensures size { length (items_queued queue.new) ≡ length (items_queued queue.old) }
+    ensures queued { (question : Asked) (reader : ItemReader) → AreAbout question queue.old.begun.items → IsQueued reader question (items_queued queue.old) false → IsQueued reader question (items_queued queue.new) false }
+{
+    if let Some(part) = queue.begun.pop_front() {
+        queue.worked = VecDeque::from(hands.end(part));
+    }
+}
+
+/// Works on what is queued and on what is whole behind it, until the work on the first part has ended. Some item is queued, and on none
+/// the work has ended.
 fn work_on<H: Hands>(
     alloc: Global,
     hands: &H,
     question: &Question,
-    batch: Vec<Progress>,
+    queue: &mut Queue,
     reader: &mut ItemReader,
-) -> Result<Queue, NoMemory>
+) -> Result<(), NoMemory>
     requires ready { H.ready hands.now }
-    requires queued { IsQueued reader.old question.now batch.items false }
+    requires mine { AreMine H.mine queue.old.begun.items }
+    requires about { AreAbout question.now queue.old.begun.items }
+    requires queued { IsQueued reader.old question.now (items_queued queue.old) false }
+    requires some { 1 ≤ length (items_queued queue.old) }
+    requires none { queue.old.worked.items ≡ [] }
     ensures kind { kind_of reader.new ≡ kind_of reader.old }
     ensures same { (taken_by reader.new ≡ taken_by reader.old) × (has_ended reader.new ≡ has_ended reader.old) }
     ensures written { written_by reader.new ≡ written_by reader.old }
-    ensures count { IfOk result (λ queue. given_by reader.new ≡ given_by reader.old + length queue.cut.items) }
-    ensures size { IfOk result (λ queue. length queue.worked.items ≡ length batch.items) }
-    ensures queued { IfOk result (λ queue. IsQueued reader.new question.now (queue.worked.items ++ queue.cut.items) false) }
+    ensures mine { AreMine H.mine queue.new.begun.items }
+    ensures about { AreAbout question.now queue.new.begun.items }
+    ensures some { OnOk result (1 ≤ length queue.new.worked.items) }
+    ensures count { OnOk result (given_by reader.new + length (items_queued queue.old) ≡ given_by reader.old + length (items_queued queue.new)) }
+    ensures queued { OnOk result (IsQueued reader.new question.now (items_queued queue.new) false) }
 {
-    let mut worked = batch;
-    let mut cut = Ok(Vec::new(alloc));
-    let most = hands.most_behind();
-    hands.work_ahead(
-        alloc,
-        question,
-        worked.as_mut_slice(),
-        &mut ||
-            requires { CanGoOn reader.now }
-            ensures kind { kind_of reader.exit.now ≡ kind_of reader.entry.now }
-            ensures same { (taken_by reader.exit.now ≡ taken_by reader.entry.now) × (has_ended reader.exit.now ≡ has_ended reader.entry.now) }
-            ensures written { written_by reader.exit.now ≡ written_by reader.entry.now }
-            ensures count { IfOk cut.exit (λ more. given_by reader.exit.now ≡ given_by reader.entry.now + length more.items) }
-            ensures queued { StayQueued reader.entry.now reader.exit.now [] cut.exit }
-        { cut = cut_ready(most, Vec::new(alloc), reader) },
-    );
-    Ok(Queue {
-        worked: VecDeque::from(worked),
-        cut: cut?,
-    })
+    fill(alloc, hands, question, queue, reader)?;
+    end_first(hands, queue);
+    if queue.cut.is_empty() {
+        return Ok(());
+    }
+    begin_cut(alloc, hands, question, queue)
 }
 
-/// Works on a batch of which the first item has come, and cuts meanwhile what is whole behind it.
-fn read_on<H: Hands>(
+/// Puts an item that has come behind those that are cut.
+fn put_first(first: Cut, cut: &mut Vec<Progress>) -> Result<(), NoMemory>
+    ensures ok { OnOk result (cut.new.items ≡ cut.old.items ++ OnlyCut first ∷ []) }
+    ensures err { OnErr result (cut.new.items ≡ cut.old.items) }
+{
+    match cut.push(Progress::Cut(first)) {
+        Ok(()) => Ok(()),
+        Err(_) => Err(NoMemory),
+    }
+}
+
+/// Whether no part is begun and nothing is cut.
+fn is_empty(queue: &Queue) -> bool
+    ensures none { result ≡ true → (queue.now.begun.items ≡ []) × (queue.now.cut.items ≡ []) }
+    ensures some { result ≡ false → (1 ≤ length queue.now.begun.items) ⊎ (1 ≤ length queue.now.cut.items) }
+{
+    queue.begun.is_empty() && queue.cut.is_empty()
+}
+
+/// The work on the first item, where some item is queued and on none the work has ended. Where memory is refused, nothing is queued any
+/// more.
+fn take_first<H: Hands>(
     alloc: Global,
     hands: &H,
     question: &Question,
-    first: Cut,
+    queue: &mut Queue,
     reader: &mut ItemReader,
-) -> Result<Queue, NoMemory>
+) -> Result<Progress, NoMemory>
     requires ready { H.ready hands.now }
-    requires goes_on { CanGoOn reader.old }
-    requires queued { IsQueued reader.old question.now (OnlyCut first ∷ []) false }
+    requires mine { AreMine H.mine queue.old.begun.items }
+    requires about { AreAbout question.now queue.old.begun.items }
+    requires queued { IsQueued reader.old question.now (items_queued queue.old) false }
+    requires some { 1 ≤ length (items_queued queue.old) }
+    requires none { queue.old.worked.items ≡ [] }
     ensures kind { kind_of reader.new ≡ kind_of reader.old }
     ensures same { (taken_by reader.new ≡ taken_by reader.old) × (has_ended reader.new ≡ has_ended reader.old) }
     ensures written { written_by reader.new ≡ written_by reader.old }
-    ensures count { IfOk result (λ queue. given_by reader.new + 1 ≡ given_by reader.old + length (queue.worked.items ++ queue.cut.items)) }
-    ensures some { IfOk result (λ queue. 1 ≤ length queue.worked.items) }
-    ensures queued { IfOk result (λ queue. IsQueued reader.new question.now (queue.worked.items ++ queue.cut.items) false) }
+    ensures mine { AreMine H.mine queue.new.begun.items }
+    ensures about { AreAbout question.now queue.new.begun.items }
+    ensures work { IfOk result (IsWorkAt question.now (items_by (kind_of reader.old) (taken_by reader.old)) (given_by reader.old - length (items_queued queue.old))) }
+    ensures count { OnOk result (given_by reader.new + length (items_queued queue.old) ≡ given_by reader.old + length (items_queued queue.new) + 1) }
+    ensures queued { OnOk result (IsQueued reader.new question.now (items_queued queue.new) false) }
+    ensures refused { OnErr result (items_queued queue.new ≡ []) }
 {
-    let batch = batch_of(alloc, hands.most_items(), first, reader)?;
-    work_on(alloc, hands, question, batch, reader)
+    let Ok(()) = work_on(alloc, hands, question, queue, reader) else {
+        let left = mem::replace(queue, nothing_queued(alloc));
+        end_all(hands, left.begun);
+        return Err(NoMemory);
+    };
+    match queue.worked.pop_front() {
+        Some(progress) => Ok(progress),
+        None => unreachable!(),
+    }
 }
 
 impl<'a, H: Hands> Batches<'a, H> {
@@ -185,10 +319,7 @@ impl<'a, H: Hands> Batches<'a, H> {
             hands,
             reader,
             question,
-            queue: Queue {
-                worked: VecDeque::new(alloc),
-                cut: Vec::new(alloc),
-            },
+            queue: nothing_queued(alloc),
             failed: false,
         }
     }
@@ -229,15 +360,20 @@ impl<'a, H: Hands> Batches<'a, H> {
         if let Some(progress) = self.queue.worked.pop_front() {
             return Ok(Some(progress));
         }
-        if !self.queue.cut.is_empty() {
-            let batch = mem::replace(&mut self.queue.cut, Vec::new(alloc));
-            let Ok(queue) = work_on(alloc, self.hands, &self.question, batch, &mut self.reader)
-            else {
-                self.failed = true;
-                return Err(ReadEnd::NoMemory);
+        if !is_empty(&self.queue) {
+            return match take_first(
+                alloc,
+                self.hands,
+                &self.question,
+                &mut self.queue,
+                &mut self.reader,
+            ) {
+                Ok(progress) => Ok(Some(progress)),
+                Err(_) => {
+                    self.failed = true;
+                    Err(ReadEnd::NoMemory)
+                }
             };
-            self.queue = queue;
-            return Ok(self.queue.worked.pop_front());
         }
         let first = match self.reader.next(source) {
             Ok(Some(first)) => first,
@@ -247,11 +383,18 @@ impl<'a, H: Hands> Batches<'a, H> {
                 return Err(end);
             }
         };
-        match read_on(alloc, self.hands, &self.question, first, &mut self.reader) {
-            Ok(queue) => {
-                self.queue = queue;
-                Ok(self.queue.worked.pop_front())
-            }
+        let Ok(()) = put_first(first, &mut self.queue.cut) else {
+            self.failed = true;
+            return Err(ReadEnd::NoMemory);
+        };
+        match take_first(
+            alloc,
+            self.hands,
+            &self.question,
+            &mut self.queue,
+            &mut self.reader,
+        ) {
+            Ok(progress) => Ok(Some(progress)),
             Err(_) => {
                 self.failed = true;
                 Err(ReadEnd::NoMemory)
@@ -285,5 +428,11 @@ impl<'a, H: Hands> Batches<'a, H> {
         ensures { result.now ≡ end_piece changed self.now.taken self.now.written }
     {
         self.reader.behind(changed)
+    }
+
+    /// Ends all work that was begun.
+    pub fn end(self) {
+        let Batches { hands, queue, .. } = self;
+        end_all(hands, queue.begun);
     }
 }

@@ -57,7 +57,9 @@ pub fn correct_games<H: Hands, J: Judge, S: Source, K: Sink, N: Sink>(
         return Status::NoMemory;
     };
     let mut games = Batches::new(alloc, hands, ItemReader::Kept(reader), judge.question());
-    write_games(alloc, changed, &mut games, judge, source, sink, notes)
+    let status = write_games(alloc, changed, &mut games, judge, source, sink, notes);
+    games.end();
+    status
 }
 
 /// Judges each game of a text of which nothing was taken yet, and writes it with the right result, and at the end the summary.

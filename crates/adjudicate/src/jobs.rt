@@ -44,7 +44,9 @@ pub fn report_games<H: Hands, J: Judge, S: Source, K: Sink>(
         subject: Subject::Games,
     };
     let mut items = Batches::new(alloc, hands, ItemReader::Games(reader), judge.question());
-    write_report(alloc, form, &mut items, judge, source, sink)
+    let status = write_report(alloc, form, &mut items, judge, source, sink);
+    items.end();
+    status
 }
 
 /// Writes the report on the lines of a source that are not blank, each as soon as it has come.
@@ -65,7 +67,9 @@ pub fn report_lines<H: Hands, J: Judge, S: Source, K: Sink>(
 {
     let reader = LineReader::new(alloc);
     let mut items = Batches::new(alloc, hands, ItemReader::Lines(reader), judge.question());
-    write_report(alloc, form, &mut items, judge, source, sink)
+    let status = write_report(alloc, form, &mut items, judge, source, sink);
+    items.end();
+    status
 }
 
 /// Writes the moves of the games of a source, of each as soon as it has come.
@@ -92,7 +96,9 @@ pub fn report_replays<H: Hands, J: Judge, S: Source, K: Sink>(
         subject: Subject::Plies,
     };
     let mut items = Batches::new(alloc, hands, ItemReader::Replays(reader), judge.question());
-    write_report(alloc, form, &mut items, judge, source, sink)
+    let status = write_report(alloc, form, &mut items, judge, source, sink);
+    items.end();
+    status
 }
 
 /// Makes so many games of a seed, and writes the summary of the report on them alone. Nothing is read.

@@ -1,5 +1,7 @@
 -- What is known of the work on an item, by how far it has come.
-use Rattle.std.proofs.Common.{◌≡◌, ◌∙◌, List, Result, Ok, Err, Option, IfOk, sym, subst}
+use Rattle.std.proofs.Common.{◌≡◌, ◌∙◌, inl, inr, ℕ, ◌<◌, List, Result, Ok, Err, Option, IfOk, length, slice_index_or, slice_set, get_or-set_same, get_or-set_other, sym, subst, arith}
+use Rattle.std.proofs.lemmas.List.{get_or_default}
+use Rattle.std.proofs.lemmas.Bool.{cases_eq}
 use Rattle.cha_list.specs.declared.memory.NoMemory.{NoMemory}
 use Rattle.cha_outcome.specs.declared.items.Item.{Item}
 use Rattle.cha_outcome.specs.declared.outcomes.Outcome.{Outcome}
@@ -14,7 +16,7 @@ use Rattle.side_by_side.specs.declared.cuts.Cut.TheVariants.{Game, KeptGame}
 use Rattle.side_by_side.specs.declared.progress.Progress.{Progress}
 use Rattle.side_by_side.specs.declared.progress.Progress.TheVariants.{Cut as OnlyCut, Read, Judged}
 use Rattle.side_by_side.specs.Cuts.{item_of_cut, IsReadable, IsAskedAbout}
-use Rattle.side_by_side.specs.Progresses.{IsOf, IsAsked, GoesOn, AllGoOn}
+use Rattle.side_by_side.specs.Progresses.{IsOf, IsAsked, GoesOn, AreAsked, AllGoOn}
 
 -- of what is cut
 pub readable : (q : Question) (p : Progress) (cut : Cut) → p ≡ OnlyCut cut → IsAsked q p → IsReadable cut
@@ -89,3 +91,22 @@ kept_asked Plies placed result all about = absurd about
 pub all_stay : (q : Question) (batch : List Progress) → AllGoOn q batch batch
 unfolding AllGoOn
 all_stay q batch = λ i d few item of. of
+
+-- where the work on each went on, something is asked about each
+pub still_asked : (q : Question) (old now : List Progress) (i : ℕ) (d : Progress) → AreAsked q old → length now ≡ length old → AllGoOn q old now → i < length now → IsAsked q (slice_index_or now i d)
+unfolding AllGoOn
+still_asked q old now i d asked size goes less =
+    let low : i < length old = omega (arith, size, less) in
+    let was = asked i d low in
+    (was.0, goes i d low was.0 was.1)
+
+-- the work on one more went on
+pub goes_on_at : (q : Question) (old now : List Progress) (i : ℕ) (d new : Progress) → length now ≡ length old → AllGoOn q old now → i < length now → GoesOn q (slice_index_or now i d) new → AllGoOn q old (slice_set now i new)
+unfolding AllGoOn
+goes_on_at q old now i d new size goes less step = λ j e low item of. elim (cases_eq j i) [
+  | inl same ↦ (
+      let here : slice_index_or (slice_set now i new) j e ≡ new = subst (λ k. slice_index_or (slice_set now i new) k e ≡ new) (sym same) (get_or-set_same now i new e less) in
+      let was = subst (λ k. IsOf q item (slice_index_or now k e)) same (goes j e low item of) in
+      subst (λ x. IsOf q item x) (sym here) (step item (subst (λ x. IsOf q item x) (get_or_default now i e d less) was)))
+  | inr other ↦ subst (λ x. IsOf q item x) (sym (get_or-set_other now i j new e other)) (goes j e low item of)
+]

@@ -1,9 +1,8 @@
-//! The threads that work on a batch.
+//! The work on one item that needs no crew.
 
-ghost use denote.Param.Send.{IsSync};
-ghost use Rattle.std.specs.Prelude.{◌≡◌, ◌≤◌, length, None, IfOk, IfErr};
+ghost use Rattle.std.specs.Prelude.{◌≡◌, None, IfOk, IfErr};
 ghost use Rattle.cha_outcome.specs.Outcomes.{CanBeAsked};
-ghost use Rattle.side_by_side.specs.Progresses.{IsOf, IsAsked, GoesOn, AreAsked, AllGoOn};
+ghost use Rattle.side_by_side.specs.Progresses.{IsOf, IsAsked, GoesOn};
 
 use crate::progress::Progress;
 use cha_fen::FenFault;
@@ -12,11 +11,7 @@ use cha_outcome::{Item, Outcome, Question};
 use helpmate_list::InTurn;
 use root_workers::Nobody;
 use std::alloc::Global;
-use std::thread::Threads;
-use std::{mem, thread};
-
-/// A batch of fewer items is not worth threads.
-const WORTH_THREADS: usize = 8;
+use std::mem;
 
 /// Within how many plies one thread lists the mates of a position. A deeper list is left to a crew, which shares the root moves of each
 /// position: there a single position may take longer than all others together.
@@ -65,7 +60,7 @@ fn judged_alone(alloc: Global, question: &Question, item: Item) -> Progress
 }
 
 /// Reads an item that is only cut, and judges it as far as that needs no crew.
-fn advance(alloc: Global, question: &Question, progress: &mut Progress)
+pub fn advance(alloc: Global, question: &Question, progress: &mut Progress)
     requires { IsAsked question.now progress.old }
     ensures { GoesOn question.now progress.old progress.new }
 {
@@ -99,63 +94,4 @@ fn with_cut(judged: Progress, before: Progress) -> Progress
         },
         (judged, _) => judged,
     }
-}
-
-/// Reads each item of a batch, and judges it as far as that needs no crew, by at most so many threads. Where memory is refused or a crew
-/// is needed, an item stays as far as it has come. A batch of few items is left as it is. `meanwhile` is called once, by the thread that
-/// asks, beside the others.
-///
-/// What is found about an item depends on nothing but the item. Each thread takes one part of the batch, and the parts are of the same
-/// length.
-pub fn work_ahead<R: Threads + Sync, F: FnMut()>(
-    rt: &R,
-    alloc: Global,
-    most: u32,
-    question: &Question,
-    batch: &mut [Progress],
-    meanwhile: &mut F,
-)
-    requires some { 1 ≤ most }
-    requires about { AreAsked question.now batch.old }
-    requires meanwhile { F.pre meanwhile.old }
-    ensures size { length batch.new ≡ length batch.old }
-    ensures same { AllGoOn question.now batch.old batch.new }
-    ensures meanwhile { F.step meanwhile.old tt meanwhile.new }
-{
-    if batch.len() < WORTH_THREADS {
-        meanwhile();
-        return;
-    }
-    thread::join_mut(
-        rt,
-        &mut ||
-            requires { IsSync R.row × (1 ≤ most) × AreAsked question.now batch.now }
-            ensures { (length batch.exit.now ≡ length batch.entry.now) × AllGoOn question.entry.now batch.entry.now batch.exit.now }
-        { judge_in_threads(rt, alloc, most, question, batch) },
-        meanwhile,
-    );
-}
-
-/// Reads and judges each item of a batch, by at most so many threads.
-fn judge_in_threads<R: Threads + Sync>(
-    rt: &R,
-    alloc: Global,
-    most: u32,
-    question: &Question,
-    batch: &mut [Progress],
-)
-    requires some { 1 ≤ most }
-    requires about { AreAsked question.now batch.old }
-    ensures size { length batch.new ≡ length batch.old }
-    ensures same { AllGoOn question.now batch.old batch.new }
-{
-    thread::for_each_mut(
-        rt,
-        batch,
-        most as usize,
-        &|_, progress: &mut Progress|
-            requires { IsAsked question.now progress.now }
-            ensures { GoesOn question.entry.now progress.entry.now progress.exit.now }
-        { advance(alloc, question, progress) },
-    );
 }

@@ -4,9 +4,11 @@ ghost use Rattle.std.specs.Prelude.{◌≡◌, ◌≤◌, ◌<◌, ◌^◌, ◌�
 ghost use Rattle.cha_cert.specs.declared.checking.Checked.TheVariants.{Accepted};
 ghost use Rattle.cha_cert.specs.Certificates.{IsValidCert, Answers};
 ghost use Rattle.cha_cert.specs.Shared.{expansion};
+ghost use Rattle.cha_outcome.specs.declared.questions.Question.{Question as Asked};
 ghost use Rattle.side_by_side.specs.Progresses.{AreAsked, AllGoOn};
+ghost use Rattle.side_by_side.specs.Parts.{items_of, IsAbout};
 
-use crate::ahead::work_ahead;
+use crate::parts::{Part, begin, end};
 use crate::progress::Progress;
 use cert_par::check_par;
 use cha_board::{Color, Position};
@@ -19,31 +21,41 @@ use std::thread::Threads;
 /// Who works ahead on the items of a batch, before they are finished one after the other, and who checks the nodes of a certificate:
 /// threads, or the one thread that asks.
 pub trait Hands {
+    ghost use Rattle.side_by_side.specs.declared.parts.Part.{Part};
+
     /// It may work.
     ghost ready: { Self → Type 0 };
 
-    /// How many items a batch may have, at least 1. It is 1 where nobody works ahead.
+    /// These hands can end the work on a part: they began it.
+    ghost mine: { Part → Type 0 };
+
+    /// How many items a part may have, at least 1.
     fn most_items(&self) -> usize
         ensures { 1 ≤ result };
 
-    /// How many items may be cut while a batch is worked on: none where nobody works ahead.
+    /// How many parts may be worked on at a time, at least 1.
+    fn most_parts(&self) -> usize
+        ensures { 1 ≤ result };
+
+    /// How many items may be cut behind the parts that are worked on: none where nobody works ahead.
     fn most_behind(&self) -> usize;
 
-    /// Reads each item of a batch, and judges it as far as that needs no crew. Where memory is refused or a crew is needed, an item stays
-    /// as far as it has come. `meanwhile` is called once, by the thread that asks.
-    fn work_ahead<F: FnMut()>(
-        &self,
-        alloc: Global,
-        question: &Question,
-        batch: &mut [Progress],
-        meanwhile: &mut F,
-    )
+    /// Lets somebody read each of these items, and judge it as far as that needs no crew. Where memory is refused or a crew is needed,
+    /// an item stays as far as it has come.
+    fn begin(&self, alloc: Global, question: &Question, items: Vec<Progress>) -> Part
         requires ready { ready self.now }
-        requires about { AreAsked question.now batch.old }
-        requires meanwhile { F.pre meanwhile.old }
-        ensures size { length batch.new ≡ length batch.old }
-        ensures same { AllGoOn question.now batch.old batch.new }
-        ensures meanwhile { F.step meanwhile.old tt meanwhile.new };
+        requires about { AreAsked question.now items.items }
+        ensures size { length (items_of result) ≡ length items.items }
+        ensures same { AllGoOn question.now items.items (items_of result) }
+        ensures about { IsAbout question.now result }
+        ensures mine { mine result };
+
+    /// The items of a part, when nobody works on them any more.
+    fn end(&self, part: Part) -> Vec<Progress>
+        requires ready { ready self.now }
+        requires mine { mine part }
+        ensures size { length result.items ≡ length (items_of part) }
+        ensures same { (question : Asked) → IsAbout question part → AllGoOn question (items_of part) result.items };
 
     /// Checks that a shared certificate shows that no series of legal moves from a position mates for a side.
     fn check(
@@ -64,9 +76,17 @@ pub trait Hands {
 pub struct OneByOne;
 
 impl Hands for OneByOne {
+    ghost use Rattle.side_by_side.specs.Parts.{IsHere};
+
     ghost ready = { λ _. Unit {0} };
 
+    ghost mine = { IsHere };
+
     fn most_items(&self) -> usize {
+        1
+    }
+
+    fn most_parts(&self) -> usize {
         1
     }
 
@@ -74,14 +94,15 @@ impl Hands for OneByOne {
         0
     }
 
-    fn work_ahead<F: FnMut()>(
-        &self,
-        _alloc: Global,
-        _question: &Question,
-        _batch: &mut [Progress],
-        meanwhile: &mut F,
-    ) {
-        meanwhile();
+    fn begin(&self, _alloc: Global, _question: &Question, items: Vec<Progress>) -> Part {
+        Part::Here(items)
+    }
+
+    fn end(&self, part: Part) -> Vec<Progress> {
+        match part {
+            Part::Here(items) => items,
+            Part::There(_) => unreachable!(),
+        }
     }
 
     fn check(
@@ -95,9 +116,9 @@ impl Hands for OneByOne {
     }
 }
 
-/// How many items a batch of threads has at most: so many that threads seldom begin and end, and so few that a piece of a file has
-/// several batches, of which the next one is cut while one is worked on.
-const MOST_ITEMS: usize = 2048;
+/// How many items a thread gets at a time: so many that threads seldom begin and end, and so few that all are at work soon after a piece
+/// of a file was read.
+const MOST_ITEMS: usize = 256;
 
 /// Threads work ahead, at most so many; where it is one, nobody does. A certificate of many nodes is checked by as many as the runtime
 /// gives.
@@ -123,22 +144,26 @@ impl<'a, R: Threads + Sync> Hands for Threaded<'a, R> {
 
     ghost ready = { λ s. IsSync R.row × (1 ≤ s.most) };
 
+    ghost mine = { λ _. Unit {0} };
+
     fn most_items(&self) -> usize {
         if self.most <= 1 { 1 } else { MOST_ITEMS }
+    }
+
+    fn most_parts(&self) -> usize {
+        self.most.max(1) as usize
     }
 
     fn most_behind(&self) -> usize {
         if self.most <= 1 { 0 } else { MOST_ITEMS }
     }
 
-    fn work_ahead<F: FnMut()>(
-        &self,
-        alloc: Global,
-        question: &Question,
-        batch: &mut [Progress],
-        meanwhile: &mut F,
-    ) {
-        work_ahead(self.rt, alloc, self.most, question, batch, meanwhile);
+    fn begin(&self, alloc: Global, question: &Question, items: Vec<Progress>) -> Part {
+        begin(self.rt, alloc, question, items)
+    }
+
+    fn end(&self, part: Part) -> Vec<Progress> {
+        end(self.rt, part)
     }
 
     fn check(

@@ -1,5 +1,6 @@
-use Rattle.std.proofs.Common.{◌≡◌, ◌+◌, ◌-◌, ◌≤◌, false, length}
+use Rattle.std.proofs.Common.{◌≡◌, ◌+◌, ◌-◌, ◌≤◌, List, ◌++◌, false, length}
 use Rattle.cha_outcome.specs.declared.questions.Question.{Question}
+use Rattle.side_by_side.specs.declared.progress.Progress.{Progress}
 use Rattle.adjudicate.specs.Readers.{kind_of, taken_by, written_by, given_by, has_ended, CanGoOn}
 use Rattle.adjudicate.specs.Batches.{IsQueued}
 use Rattle.adjudicate.proofs.batches.cut_ready.Given as goal
@@ -14,7 +15,7 @@ invariant-loop-reader l = record {
   goes_on : CanGoOn l.reader;
   count : given_by l.reader + length l.fn.cut.items ≡ given_by l.fn.reader + length l.more.items;
   longer : length l.fn.cut.items ≤ length l.more.items;
-  queued : (question : Question) → IsQueued l.fn.reader question l.fn.cut.items false → IsQueued l.reader question l.more.items false;
+  queued : (question : Question) (front : List Progress) → IsQueued l.fn.reader question (front ++ l.fn.cut.items) false → IsQueued l.reader question (front ++ l.more.items) false;
 }
 
 abbrev pub decreases-loop-reader : goal.decreases-loop-reader

@@ -1,4 +1,4 @@
-use Rattle.std.proofs.Common.{refl, ap, ◌∙◌, arith}
+use Rattle.std.proofs.Common.{refl, arith}
 use Rattle.adjudicate.proofs.OrderRuns.{nothing_corrected}
 use Rattle.adjudicate.proofs.Items.{kept_asked}
 use Rattle.adjudicate.proofs.correcting.correct_games.Goals as goal
@@ -15,5 +15,5 @@ new-games-requires-clause-asked g c = rw c.question.ensures (kept_asked _ c.requ
 pub new-games-requires-clause-first : goal.new-games-requires-clause-first
 new-games-requires-clause-first g c = rw c.in-Ok.ensures refl
 
-pub write_games-requires-clause-first : goal.write_games-requires-clause-first
-write_games-requires-clause-first g c = rw (c.new-games.ensures, c.in-Ok.ensures, c.question.ensures) refl
+pub write_games-status-requires-clause-first : goal.write_games-status-requires-clause-first
+write_games-status-requires-clause-first g c = rw (c.new-games.ensures, c.in-Ok.ensures, c.question.ensures) refl

@@ -13,20 +13,20 @@ new-items-requires-clause-goes_on g c = rw c.in-Ok.ensures (refl, omega arith)
 pub new-items-requires-clause-first : goal.new-items-requires-clause-first
 new-items-requires-clause-first g c = rw c.in-Ok.ensures refl
 
-pub write_report-requires-clause-asked : goal.write_report-requires-clause-asked
-write_report-requires-clause-asked g c = ap (λ s. s.question) c.new-items.ensures ∙ c.question.ensures
+pub write_report-status-requires-clause-asked : goal.write_report-status-requires-clause-asked
+write_report-status-requires-clause-asked g c = ap (λ s. s.question) c.new-items.ensures ∙ c.question.ensures
 
-pub write_report-requires-clause-goes_on : goal.write_report-requires-clause-goes_on
-write_report-requires-clause-goes_on g c = ap (λ s. s.failed) c.new-items.ensures
+pub write_report-status-requires-clause-goes_on : goal.write_report-status-requires-clause-goes_on
+write_report-status-requires-clause-goes_on g c = ap (λ s. s.failed) c.new-items.ensures
 
-pub write_report-requires-clause-first : goal.write_report-requires-clause-first
-write_report-requires-clause-first g c = ap (λ s. s.given) c.new-items.ensures
+pub write_report-status-requires-clause-first : goal.write_report-status-requires-clause-first
+write_report-status-requires-clause-first g c = ap (λ s. s.given) c.new-items.ensures
 
-pub write_report-requires-clause-few : goal.write_report-requires-clause-few
-write_report-requires-clause-few g c = rw (c.new-items.ensures, c.in-Ok.ensures) (omega arith)
+pub write_report-status-requires-clause-few : goal.write_report-status-requires-clause-few
+write_report-status-requires-clause-few g c = rw (c.new-items.ensures, c.in-Ok.ensures) (omega arith)
 
-pub write_report-requires-clause-ended : goal.write_report-requires-clause-ended
-write_report-requires-clause-ended g c = rw (c.new-items.ensures, c.in-Ok.ensures) (λ e. cc)
+pub write_report-status-requires-clause-ended : goal.write_report-status-requires-clause-ended
+write_report-status-requires-clause-ended g c = rw (c.new-items.ensures, c.in-Ok.ensures) (λ e. cc)
 
 pub returns-clause-run : goal.returns-clause-run
-returns-clause-run g c = (rw c.new-items.ensures at c.write_report.ensures.run) _ _ (rw c.in-Ok.ensures (Consumes-nil _)) (omega arith)
+returns-clause-run g c = (rw c.new-items.ensures at c.write_report-status.ensures.run) _ _ (rw c.in-Ok.ensures (Consumes-nil _)) (omega arith)

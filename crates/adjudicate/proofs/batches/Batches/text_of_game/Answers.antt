@@ -1,4 +1,4 @@
-use Rattle.std.proofs.Common.{◌++◌, sym}
+use Rattle.adjudicate.specs.Batches.{items_queued}
 use Rattle.adjudicate.proofs.Batching.{same_queue}
 use Rattle.adjudicate.proofs.batches.Batches.text_of_game.Goals as goal
 
@@ -6,4 +6,5 @@ pub invariant_of-self : goal.invariant_of-self
 invariant_of-self g c =
     let s = c.self.inside in
     let e = c.text_of_game.ensures in
-    (c.self.invariant.0, same_queue s.reader c.text_of_game.new.self s.question (s.queue.worked.items ++ s.queue.cut.items) s.failed c.self.invariant.1 e.kind e.same.0 e.same.1 e.same.2 (λ _. e.goes_on))
+    let i = c.self.invariant in
+    (i.0, i.1, i.2, same_queue s.reader c.text_of_game.new.self s.question (items_queued s.queue) s.failed i.3 e.kind e.same.0 e.same.1 e.same.2 (λ _. e.goes_on))

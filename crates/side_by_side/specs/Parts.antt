@@ -1,5 +1,6 @@
 -- Items that are worked on together (this project).
 use Rattle.std.specs.Prelude.{◌≡◌, ◌≤◌, List, [], ◌∷◌, ◌++◌, length, All, ⊤}
+use Rattle.std.specs.Mem.{manually_drop_value}
 use Rattle.cha_outcome.specs.declared.questions.Question.{Question}
 use Rattle.side_by_side.specs.declared.progress.Progress.{Progress}
 use Rattle.side_by_side.specs.declared.parts.Part.{Part}
@@ -8,7 +9,7 @@ use Rattle.side_by_side.specs.declared.parts.Part.TheVariants.{Here, There}
 -- its items, as far as work on them had come when it was begun
 abbrev pub items_of : Part → List Progress
 items_of (Here items) = items.items
-items_of (There handle) = handle.promise.items.value.items
+items_of (There handle) = (manually_drop_value handle).promise.items.value.items
 
 -- nobody works on it
 abbrev pub IsHere : Part → Type 0
@@ -18,7 +19,7 @@ IsHere (There handle) = ⊥
 -- a thread that works on it was told that this is asked
 abbrev pub IsAbout : Question → Part → Type 0
 IsAbout question (Here items) = ⊤
-IsAbout question (There handle) = handle.promise.question ≡ question
+IsAbout question (There handle) = (manually_drop_value handle).promise.question ≡ question
 
 -- the items of parts behind one another
 abbrev pub items_of_all : List Part → List Progress

@@ -8,6 +8,7 @@ use crate::ahead::advance;
 use crate::progress::Progress;
 use cha_outcome::Question;
 use std::alloc::Global;
+use std::mem::ManuallyDrop;
 use std::snapshot::Snapshot;
 use std::thread;
 use std::thread::{Promise, PromisedHandle, Threads};
@@ -36,8 +37,8 @@ impl Promise<Vec<Progress>> for GoOn {
 pub enum Part {
     /// Nobody works on them.
     Here(Vec<Progress>),
-    /// A thread works on them.
-    There(PromisedHandle<Vec<Progress>, GoOn>),
+    /// A thread works on them. It is joined where the part is ended, and never left to itself.
+    There(ManuallyDrop<PromisedHandle<Vec<Progress>, GoOn>>),
 }
 
 /// Lets a thread work on items, where they are worth one. Where none can be made, the thread that asks works on them.
@@ -60,7 +61,7 @@ pub fn begin<R: Threads>(rt: &R, alloc: Global, question: &Question, items: Vec<
         ensures { (length result.items ≡ length items.items) × AllGoOn asked items.items result.items }
     { all_advanced(alloc, asked, items) };
     match thread::spawn_with(rt, promise, work) {
-        Ok(handle) => Part::There(handle),
+        Ok(handle) => Part::There(ManuallyDrop::new(handle)),
         Err(refused) => Part::Here((refused.value)()),
     }
 }
@@ -72,7 +73,7 @@ pub fn end<R: Threads>(rt: &R, part: Part) -> Vec<Progress>
 {
     match part {
         Part::Here(items) => items,
-        Part::There(handle) => handle.join(rt),
+        Part::There(handle) => ManuallyDrop::into_inner(handle).join(rt),
     }
 }
 

@@ -27,13 +27,18 @@ use std::collections::VecDeque;
 use std::marker::Model;
 use std::mem;
 
+/// How many items the first part has at most that is begun after a read. Each next one may have twice as many, up to what the hands
+/// take, so that all threads soon have work, and few threads begin where much has come.
+const FIRST_ITEMS: usize = 8;
+
 /// What is queued: items on which nobody works any more, behind them parts that were begun, and behind these items that are only cut, for
-/// the next part.
+/// the next part, which may have so many.
 #[derive(Drop)]
 struct Queue {
     worked: VecDeque<Progress>,
     begun: VecDeque<Part>,
     cut: Vec<Progress>,
+    most: usize,
 }
 
 /// A queue of no items. It takes no memory.
@@ -44,6 +49,7 @@ fn nothing_queued(alloc: Global) -> Queue
         worked: VecDeque::new(alloc),
         begun: VecDeque::new(alloc),
         cut: Vec::new(alloc),
+        most: FIRST_ITEMS,
     }
 }
 
@@ -152,6 +158,7 @@ fn begin_cut<H: Hands>(
     ensures queued { (reader : ItemReader) → IsQueued reader question.now (items_queued queue.old) false → OnOk result (IsQueued reader question.now (items_queued queue.new) false) }
 {
     let cut = mem::replace(&mut queue.cut, Vec::new(alloc));
+    queue.most = queue.most.saturating_mul(2);
     match queue.begun.push_back(hands.begin(alloc, question, cut)) {
         Ok(()) => Ok(()),
         Err(refused) => {
@@ -187,13 +194,15 @@ fn fill<H: Hands>(
 {
     let most = hands.most_parts();
     while queue.begun.len() < most {
-        cut_more(alloc, hands.most_items(), queue, reader)?;
+        let items = hands.most_items().min(queue.most);
+        cut_more(alloc, items, queue, reader)?;
         if queue.cut.is_empty() {
             return Ok(());
         }
         begin_cut(alloc, hands, question, queue)?;
     }
-    cut_more(alloc, hands.most_behind(), queue, reader)
+    let items = hands.most_behind().min(queue.most);
+    cut_more(alloc, items, queue, reader)
 }
 
 /// Ends the work on the first part.
@@ -375,6 +384,7 @@ impl<'a, H: Hands> Batches<'a, H> {
                 }
             };
         }
+        self.queue.most = FIRST_ITEMS;
         let first = match self.reader.next(source) {
             Ok(Some(first)) => first,
             Ok(None) => return Ok(None),

@@ -29,10 +29,10 @@ GAMES = ["1. f3 e5 2. g4 Qh4# 0-1", "1. e4 e5 2. Bc4 Nc6 3. Qh5 Nf6 1-0", '[FEN 
          '[FEN "6k1/5ppp/8/8/8/8/5PPP/3R2K1 b - -"]\n[Termination "time forfeit"]\n\n1-0']
 LINES = ["8/8/8/4k3/8/8/8/4KR2 w - -", "no position", "8/8/8/4k3/3q4/8/8/4KN2 w - -", "8/8/4k3/8/8/4K3/8/8 w - -"]
 IN_THREADS = [
-    (["adjudicate", "--workers=4"], "\n\n".join(GAMES * 3) + "\n"),
-    (["correct", "--workers=4"], "\n\n".join(GAMES * 3) + "\n"),
-    (["position", "--workers=4", "--depth=3"], "\n".join(LINES * 4) + "\n"),
-    (["mates", "w", "--workers=4", "--depth=3"], "\n".join(LINES * 4) + "\n"),
+    (["adjudicate", "--workers=4"], "\n\n".join(GAMES * 7) + "\n"),
+    (["correct", "--workers=4"], "\n\n".join(GAMES * 7) + "\n"),
+    (["position", "--workers=4", "--depth=3"], "\n".join(LINES * 8) + "\n"),
+    (["mates", "w", "--workers=4", "--depth=3"], "\n".join(LINES * 8) + "\n"),
 ]
 #: the one that reads, and four that judge
 THREADS = 5

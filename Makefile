@@ -1,4 +1,4 @@
-# make            proves and builds the program, and leaves it as ./cha (some 20 minutes the first time)
+# make            proves and builds the program, and leaves it as ./cha (half an hour or more the first time)
 # make run        judges a sample: by ./cha where it is up to date, else by a build without proofs (a minute)
 # make test       the whole gate: rt ci, and the tests of the library, the Python package, the page, the documents and the release
 # make install    copies the program to PREFIX/bin (PREFIX=/usr/local)

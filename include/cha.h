@@ -29,7 +29,7 @@ enum cha_answer {
 /* Runs the command that the words name over an input, as the program cha does over its standard input, and writes what the program
  * prints to the front of out.
  *
- * words, words_len  the words behind the program's name in UTF-8, with one zero byte between two of them ("position\0--certs")
+ * words, words_len  the words after the program's name in UTF-8, with one zero byte between two of them ("position\0--certs")
  * input, input_len  what the program reads: PGN, FEN lines or the text of a certificate
  * out, out_len      room for the output
  * used              afterwards how many bytes the output has; written in every case

@@ -1,6 +1,7 @@
 #!/usr/bin/env bash
 # Unpacks the release in dist/ elsewhere and uses it without the kit: the checksums hold, the program judges the sample as ./cha does and
-# tells the version, the manual page and the completions are there, and a program in C that is linked with the library runs.
+# tells the version, the manual page, the completions and what the README names are there, the second checker accepts a certificate of
+# the program's, and a program in C that is linked with the library runs.
 #
 #     tools/dist-test.sh    its last line is 'N passed, M failed'; the status is 0 where none failed
 set -u
@@ -16,6 +17,18 @@ try() {
 
 judges_the_sample() {
     env -i PATH=/nowhere "$room"/cha/bin/cha adjudicate < docs/sample.pgn > "$room/of-release" && ./cha adjudicate < docs/sample.pgn | cmp -s - "$room/of-release"
+}
+
+has_what_it_names() {
+    local name
+    for name in $(grep -oE '`(docs|python|web|tools)/[^` ]*|CONTRIBUTING\.md' README.md | tr -d '`' | grep -vE '^tools/(run\.sh|definitions\.py)$'); do
+        [ -e "$room/cha/share/doc/cha/$name" ] || { echo "no $name"; return 1; }
+    done
+}
+
+is_believed() {
+    echo '8/8/8/4k3/8/8/8/4KB2 w - -' | "$room"/cha/bin/cha position --certs | sed -n '/^white: unw/,/^end$/p' | sed 1d \
+        | python3 "$room/cha/share/doc/cha/tools/second/second.py" check | grep -qx 'accepted w'
 }
 
 links_with_c() {
@@ -40,9 +53,11 @@ try 'the checksums hold' sh -c 'cd dist && sha256sum --quiet -c SHA256SUMS'
 mkdir "$room/cha" && tar -xzf dist/cha-"$version"-*.tar.gz -C "$room/cha" --strip-components=1
 try 'the program judges the sample as ./cha does' judges_the_sample
 try 'it tells the version' sh -c "'$room'/cha/bin/cha --version 2>&1 < /dev/null | grep -qx 'cha $version'"
-for file in LICENSE PROVED.txt share/man/man1/cha.1 share/bash-completion/completions/cha share/zsh/site-functions/_cha include/cha.h lib/libcha.so lib/pkgconfig/cha.pc; do
+for file in LICENSE README.txt PROVED.txt share/man/man1/cha.1 share/bash-completion/completions/cha share/zsh/site-functions/_cha include/cha.h lib/libcha.so lib/pkgconfig/cha.pc; do
     try "the release has $file" test -s "$room/cha/$file"
 done
+try 'the release has what its README names' has_what_it_names
+try 'the second checker accepts a certificate of its program' is_believed
 try 'a program in C that is linked with it runs' links_with_c
 cd "$top" || exit 2
 echo "$passed passed, $failed failed"

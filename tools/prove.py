@@ -84,7 +84,7 @@ def main():
     if not words or words[0] not in crates:
         sys.exit("usage: tools/prove.py CRATE [--jobs N]")
     proving = Proving(crates, words[0])
-    print(f"proving {len(proving.needed)} crates in {lanes} lanes; from nothing that takes twenty minutes on four processors, later seconds", flush=True)
+    print(f"proving {len(proving.needed)} crates in {lanes} lanes; from nothing that takes half an hour or more on four processors, later seconds", flush=True)
     for crate in proving.first:
         proving.alone(crate, processors)
     # One call for all of these: calls for single crates would wait for one another.

@@ -41,5 +41,5 @@ else
     cat "$room/err" >&2
     exit 2
 fi
-echo "This build is compiled and not proved. 'make' proves it and leaves ./cha: that takes about 20 minutes on four idle processors." >&2
+echo "This build is compiled and not proved. 'make' proves it and leaves ./cha: that takes half an hour or more on four processors." >&2
 exit $status

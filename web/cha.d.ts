@@ -51,7 +51,7 @@ export interface Game {
     changed: boolean;
     article: "5.1.1" | "5.2.1" | "5.2.2" | "6.9" | null;
     flagged: boolean;
-    flag?: Side | null;
+    flag: Side | null;
 }
 
 export interface UnreadableGame {

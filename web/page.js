@@ -149,7 +149,7 @@ async function openItem(item) {
     await shown.open(item, asking.source, { options: options(), isAlone });
     if (isAlone && wrong) {
         at.ruling.hidden = true;
-        complain(say(asking.isPositions ? "refused" : "unreadable", { why: wrong }));
+        complain(say(asking.isPositions ? "refused" : "unreadable", { why: fault(wrong) }));
     }
     if (!isAlone) at.ruling.scrollIntoView({ block: "start" });
 }

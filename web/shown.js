@@ -40,7 +40,7 @@ class Shown {
     drawRuling(wrong) {
         const { item, at } = this;
         const isGame = item.game !== undefined && item.asked !== "position";
-        const ruling = wrong ? { words: say(isGame ? "unreadable" : "refused", { why: wrong }) } : rulingOf(item, this.firstSide());
+        const ruling = wrong ? { words: say(isGame ? "unreadable" : "refused", { why: fault(wrong) }) } : rulingOf(item, this.firstSide());
         at.whose.textContent = isGame ? titleOf(item, this.isAlone) : "";
         at.words.textContent = ruling.words;
         at.article.textContent = ruling.article ?? "";

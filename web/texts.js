@@ -36,6 +36,10 @@ const TEXTS = {
         too_long: "The input has more than 268,435,456 bytes.",
         no_memory: "There is not enough memory for this input.",
         refused: "No position: {why}",
+        fault_shape: "a FEN names the men, the side to move, the castling rights and the en passant target, as in 8/8/8/4k3/8/8/8/4KB2 w - -",
+        fault_kings: "each side has to have one king",
+        "fault_pawn rank": "a pawn cannot stand on the first or the last rank",
+        "fault_opponent in check": "the side that is not to move cannot be in check",
         unreadable: "This game cannot be read: {why}",
         nothing_found: "There is neither a position nor a game in this text.",
         side_white: "White",
@@ -54,7 +58,7 @@ const TEXTS = {
         final: "final position",
         dead_here: "dead",
         line_of: "How {side} mates",
-        keys: "Keys: left and right step, Home and End go to the ends, f turns the board.",
+        keys: "Keys: Control and Enter give the ruling; left and right step, Home and End go to the ends, f turns the board.",
         the_sides: "Each side",
         save_certificate: "Save the certificate",
         check_this: "Check it below",
@@ -153,6 +157,12 @@ const LANGUAGE = TEXTS[navigator.language.slice(0, 2)] ? navigator.language.slic
 function say(name, values = {}) {
     const found = TEXTS[LANGUAGE][name] ?? TEXTS.en[name] ?? name;
     return found.replace(/\{(\w+)\}/g, (whole, key) => values[key] ?? whole);
+}
+
+/** What is wrong with an input, and in words what a position is refused for. */
+function fault(wrong) {
+    const name = `fault_${wrong.replace(/^bad FEN: /, "")}`;
+    return TEXTS.en[name] ? `${wrong} (${say(name)})` : wrong;
 }
 
 /** A count as this language writes it. */

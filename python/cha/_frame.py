@@ -16,7 +16,7 @@ def frame(files: "Files", only: Optional[str] = None, budget: Optional[int] = No
     try:
         import pandas
     except ImportError:
-        raise ImportError("a table needs the package pandas: pip install 'cha[db]'") from None
+        raise ImportError("a table needs the package pandas: pip install pandas") from None
 
     from cha.db import judge
     from cha.db.rows import COLUMNS, cells

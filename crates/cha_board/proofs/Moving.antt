@@ -1,5 +1,6 @@
 -- Men once one of them has moved: each set loses two squares and may gain one; and what the sets say of the man on a square.
 use Rattle.std.proofs.Common.{◌≡◌, ℕ, ◌<◌, Bool, true, false, not, ◌&&◌, ◌||◌, ◌==◌, if◌then◌else◌, List, Option, Some, None, length, slice_set, refl, sym, ap, ◌∙◌, length-set}
+use Rattle.std.proofs.lemmas.Bool.{eqb-true}
 use Rattle.cha_board.specs.declared.men.Color.{Color}
 use Rattle.cha_board.specs.declared.men.Color.TheVariants.{White, Black}
 use Rattle.cha_board.specs.declared.men.Kind.{Kind}
@@ -8,7 +9,7 @@ use Rattle.cha_board.specs.declared.men.Man.{Man}
 use Rattle.cha_board.specs.declared.placement.Men.TheInside.{Inside}
 use Rattle.cha_board.specs.Men.{same_color, same_kind, is_of, is_kind}
 use Rattle.cha_board.specs.Board.{man_at}
-use Rattle.cha_board.specs.SquareSets.{set_of, has_square, empty_set, set_with, set_placed, set_joined, set_minus}
+use Rattle.cha_board.specs.SquareSets.{set_of, has_square, empty_set, set_with, set_without, set_placed, set_joined, set_minus}
 use Rattle.cha_board.specs.MenSets.{set_changed, sets_of}
 use Rattle.cha_board.proofs.SetLaws.{same_set, has-set_of}
 use Rattle.cha_board.proofs.Identity.{same_color_equal, same_kind_equal}
@@ -69,6 +70,40 @@ set_moved set s t true =
     rw (in_minus set (gone_of s t) u small, in_gone s t u small, in_onto t u small) (with_it (u == t) (u == s) (has_square set u))
     ∙ ap (λ x. if u == t then true else x) (sym (has-set_of (λ v. if v == s then false else has_square set v) u small)))
 set_moved set s t false = left_out set s t
+
+stepped_test : (x y h : Bool) → (x || (not y && h)) ≡ (if x then true else (if y then false else h))
+stepped_test true y h = refl
+stepped_test false true h = refl
+stepped_test false false h = refl
+
+-- the same for a set that loses the one and gains the other
+pub set_stepped : (set : List Bool) (s t : ℕ) → set_with (set_without set s) t ≡ set_placed (set_placed set s false) t true
+unfolding set_with set_without set_placed
+set_stepped set s t =
+    same_set (λ u. (u == t) || has_square (set_without set s) u) (λ u. if u == t then true else has_square (set_placed set s false) u) (λ u small.
+    ap (λ x. (u == t) || x) (has-set_of (λ v. not (v == s) && has_square set v) u small)
+    ∙ stepped_test (u == t) (u == s) (has_square set u)
+    ∙ ap (λ x. if u == t then true else x) (sym (has-set_of (λ v. if v == s then false else has_square set v) u small)))
+
+stayed_test : (x y h : Bool) → (x ≡ true → h ≡ false) → (y ≡ true → h ≡ false) → h ≡ (if x then false else (if y then false else h))
+stayed_test true y h f g = f refl
+stayed_test false true h f g = g refl
+stayed_test false false h f g = refl
+
+-- and for a set that has neither
+pub set_stayed : (set : List Bool) (p : ℕ → Bool) (s t : ℕ) → set ≡ set_of p → has_square set s ≡ false → has_square set t ≡ false → set ≡ set_placed (set_placed set s false) t false
+unfolding set_placed
+set_stayed set p s t are out out' =
+    are ∙ same_set p (λ u. if u == t then false else has_square (set_placed set s false) u) (λ u small.
+    let here : has_square set u ≡ p u = ap (λ (x : List Bool). has_square x u) are ∙ has-set_of p u small in
+    sym here
+    ∙ stayed_test (u == t) (u == s) (has_square set u) (λ e. ap (has_square set) (eqb-true u t e) ∙ out') (λ e. ap (has_square set) (eqb-true u s e) ∙ out)
+    ∙ ap (λ x. if u == t then false else x) (sym (has-set_of (λ v. if v == s then false else has_square set v) u small)))
+
+-- whether a square is among those on which something stands that passes a test
+pub stands_so : (men : List (Option Man)) (test : Option Man → Bool) (set : List Bool) (s : ℕ) (o : Option Man) (b : Bool) → s < 64 → set ≡ set_of (λ u. test (man_at men u)) → man_at men s ≡ o → test o ≡ b → has_square set s ≡ b
+stands_so men test set s o b small are found so =
+    ap (λ (x : List Bool). has_square x s) are ∙ has-set_of (λ u. test (man_at men u)) s small ∙ ap test found ∙ so
 
 -- the sets of men once one has moved
 pub sets_moved : (a : Inside) (men : List (Option Man)) (s t : ℕ) (man : Man) → s < length men → t < length men → a ≡ sets_of men

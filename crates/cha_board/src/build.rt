@@ -26,6 +26,19 @@ pub enum BuildFault {
     OpponentInCheck,
 }
 
+impl Men {
+    /// The men of a list, from a1 to h8.
+    pub fn of_list(list: &[Option<Man>; 64]) -> Men
+        ensures { result ≡ list.now }
+    {
+        let mut men = Men::nothing();
+        for index in 0..64 {
+            men = men.put(Square::at(index), list[usize::from(index)]);
+        }
+        men
+    }
+}
+
 impl Position {
     /// The position of these men, from a1 to h8, with this side to move. A right is dropped where its king or rook is not
     /// at home, and a target where no pawn can just have passed over it.

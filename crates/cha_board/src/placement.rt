@@ -1,10 +1,10 @@
 //! What stands on the squares of the board.
 
-ghost use Rattle.std.specs.Prelude.{◌≡◌, not, List, Option, Some, None, replicate, IsTrue, slice_set};
+ghost use Rattle.std.specs.Prelude.{◌≡◌, false, not, List, Option, Some, None, replicate, IsTrue, slice_set};
 ghost use Rattle.cha_board.specs.declared.men.Man.{Man as AMan};
 ghost use Rattle.cha_board.specs.Men.{is_of, is_kind, is_man, is_non_king};
 ghost use Rattle.cha_board.specs.Board.{man_at, is_empty, king_of, has_one_king};
-ghost use Rattle.cha_board.specs.SquareSets.{set_of};
+ghost use Rattle.cha_board.specs.SquareSets.{set_of, has_square, set_placed};
 ghost use Rattle.cha_board.specs.MenSets.{set_changed};
 ghost use Rattle.cha_board.specs.Packing.{AreShown};
 
@@ -59,17 +59,6 @@ impl Men {
             queens: SquareSet::empty(),
             kings: SquareSet::empty(),
         }
-    }
-
-    /// The men of a list, from a1 to h8.
-    pub fn of_list(list: &[Option<Man>; 64]) -> Men
-        ensures { result ≡ list.now }
-    {
-        let mut men = Men::nothing();
-        for index in 0..64 {
-            men = men.put(Square::at(index), list[usize::from(index)]);
-        }
-        men
     }
 
     /// The men that four sets show: the squares of Black's men, and those where the first, the second and the third bit of the
@@ -181,6 +170,25 @@ impl Men {
         }
     }
 
+    /// The men once this man has gone from its square to another on which nobody stands: the sets of the others stay.
+    #[inline(always)]
+    pub fn stepped(&self, from: Square, to: Square, man: Man) -> Men
+        requires found { man_at self.now from ≡ Some man }
+        requires free { IsTrue (is_empty self.now to) }
+        ensures { result ≡ slice_set (slice_set self.now from None) to (Some man) }
+    {
+        Men {
+            white: gone_on(self.white, from, to, man.color.is(Color::White)),
+            black: gone_on(self.black, from, to, man.color.is(Color::Black)),
+            pawns: gone_on(self.pawns, from, to, man.kind.is(Kind::Pawn)),
+            knights: gone_on(self.knights, from, to, man.kind.is(Kind::Knight)),
+            bishops: gone_on(self.bishops, from, to, man.kind.is(Kind::Bishop)),
+            rooks: gone_on(self.rooks, from, to, man.kind.is(Kind::Rook)),
+            queens: gone_on(self.queens, from, to, man.kind.is(Kind::Queen)),
+            kings: gone_on(self.kings, from, to, man.kind.is(Kind::King)),
+        }
+    }
+
     /// The kind of the man on a square on which one stands.
     pub fn kind_at(&self, at: Square) -> Kind
         ensures { (man : Man) → man_at self.now at ≡ Some man → result ≡ man.kind }
@@ -274,4 +282,12 @@ fn changed(set: SquareSet, gone: SquareSet, onto: SquareSet, inside: bool) -> Sq
 {
     let left = set.minus(gone);
     if inside { left.joined(onto) } else { left }
+}
+
+/// A set in which one square gives way to another, where that is so. Where it is not, neither is in the set.
+fn gone_on(set: SquareSet, from: Square, to: Square, so: bool) -> SquareSet
+    ensures { (so ≡ false → has_square set from ≡ false) → (so ≡ false → has_square set to ≡ false) → result ≡ set_placed (set_placed set from false) to so }
+{
+    let _bits = set.bits();
+    if so { set.without(from).with(to) } else { set }
 }

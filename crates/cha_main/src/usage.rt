@@ -106,7 +106,7 @@ fn say_usage(rt: &HostRuntime) -> io::Result<()> {
 fn say_version(rt: &HostRuntime) -> io::Result<()> {
     eprintln!(rt; "cha {VERSION}")?;
     eprintln!(rt;
-        "Every function is proved with rattle-kit-13f, logic dac8208d650f15bf, where this is the build that 'make' leaves. The proofs rest on the definitions that the contracts cite, on that toolchain and the contracts of the libraries it uses, and on the C library and the compiler behind them."
+        "Every function is proved by the Rattle kit, logic dac8208d650f15bf, where this is the build that 'make' leaves. The proofs rest on the definitions that the contracts cite, on that toolchain and the contracts of the libraries it uses, and on the C library and the compiler behind them."
     )
 }
 

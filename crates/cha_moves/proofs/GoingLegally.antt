@@ -9,7 +9,7 @@ use Rattle.cha_board.specs.declared.men.Color.TheVariants.{White, Black}
 use Rattle.cha_board.specs.declared.men.Kind.{Kind}
 use Rattle.cha_board.specs.declared.men.Kind.TheVariants.{Pawn, Rook, Bishop, Knight, Queen, King}
 use Rattle.cha_board.specs.declared.men.Man.{Man}
-use Rattle.cha_board.specs.Men.{other_color, same_color, same_kind, is_vacant, is_man}
+use Rattle.cha_board.specs.Men.{other_color, same_color, same_kind, is_vacant, is_of, is_man}
 use Rattle.cha_board.specs.Squares.{squares, rank_of, last_rank, aims_at, files_apart, ranks_apart, steps_apart, is_straight, is_diagonal, is_line, is_rank_ahead, is_within, lies_between}
 use Rattle.cha_board.specs.Board.{Board, IsValid, man_at, attacks_as, attacked, in_check, king_of, home_of}
 use Rattle.cha_board.specs.SquareSets.{set_of, has_square, squares_in, set_common, set_without, set_placed}
@@ -24,7 +24,7 @@ use Rattle.cha_moves.proofs.Made.{Step, may_gives, put, put_other, men_moved, Pl
 use Rattle.cha_moves.proofs.Kept.{kings_kept, king_place, length_after, short_tests, long_tests}
 use Rattle.cha_moves.proofs.Contained.{Contains-filter_parts, Contains-squares_small}
 use Rattle.cha_moves.proofs.Filling.{still_safe, filled_put}
-use Rattle.cha_moves.proofs.WayLaws.{no_way_between, filter_in_set}
+use Rattle.cha_moves.proofs.WayLaws.{no_way_between, no_ways, filter_in_set}
 use Rattle.cha_moves.proofs.Sureness.{Ordinary, legal_if, not_enemy}
 use Rattle.cha_moves.proofs.Arriving.{Going, going_plain, moves_plain, moves_promoted, promotion_ordinary}
 use Rattle.cha_moves.proofs.Facing.{none_left}
@@ -238,6 +238,13 @@ sifted_one q s u left legal b small e f =
 pub all_sifted : (q : Board) (s : ℕ) (left legal : List Bool) → Sifted q s left legal → squares_in left ≡ [] → legal ≡ set_of (goes_legally q s)
 all_sifted q s left legal f none =
     same_squares legal (set_of (goes_legally q s)) f.size (length-set_of (goes_legally q s)) (λ t small. f.told t small (none_left left none t small) ∙ sym (has-set_of (goes_legally q s) t small))
+
+-- a square with no man of the side to move has no legal way
+pub no_goings : (q : Board) (s : ℕ) → is_of q.side (man_at q.men s) ≡ false → set_of (λ _. false) ≡ set_of (goes_legally q s)
+no_goings q s h =
+    same_set (λ _. false) (goes_legally q s) (λ t small.
+    let none : is_way q s t ≡ false = sym (has-set_of (is_way q s) t small) ∙ ap (λ (x : List Bool). has_square x t) (sym (no_ways q s h)) ∙ has-set_of (λ _. false) t small in
+    sym (goes_nowhere q s t none))
 
 -- the squares on which a man is promoted
 pub none_promoted : (c : Color) (k : Kind) → same_kind k Pawn ≡ false → set_of (λ _. false) ≡ set_of (is_promoted c k)

@@ -33,3 +33,5 @@ pub mod SpecialChecks
 pub mod Apart
 pub mod LegalApart
 pub mod Counted
+pub mod ByKind
+pub mod Calm

@@ -1,11 +1,11 @@
 -- Where a man may go as far as its way is concerned, and what it may become there.
-use Rattle.std.specs.Prelude.{ℕ, ◌==◌, Bool, ◌&&◌, List, filter}
+use Rattle.std.specs.Prelude.{ℕ, ◌==◌, Bool, not, ◌&&◌, List, filter}
 use Rattle.cha_board.specs.declared.men.Color.{Color}
 use Rattle.cha_board.specs.declared.men.Kind.{Kind}
-use Rattle.cha_board.specs.declared.men.Kind.TheVariants.{Pawn}
+use Rattle.cha_board.specs.declared.men.Kind.TheVariants.{Pawn, King}
 use Rattle.cha_board.specs.Men.{same_kind}
 use Rattle.cha_board.specs.Squares.{rank_of, last_rank}
-use Rattle.cha_board.specs.Board.{Board, man_at}
+use Rattle.cha_board.specs.Board.{Board, man_at, is_empty, is_home}
 use Rattle.cha_moves.specs.Step.{Move}
 use Rattle.cha_moves.specs.Moves.{goes_as, may_enter, is_legal_in, moves_between}
 
@@ -20,3 +20,8 @@ is_promoted c k t = same_kind k Pawn && (rank_of t == last_rank c)
 -- the legal moves from s to t (this project)
 unfoldable pub legal_between : Board → ℕ → ℕ → List Move
 legal_between q s t = filter (is_legal_in q) (moves_between s t)
+
+-- a man of kind k, neither pawn nor king, goes from s to t and changes nothing but its place: nobody stands on t, and neither
+-- square is the home of a king or a rook (this project)
+unfoldable pub is_calm : Board → Kind → ℕ → ℕ → Bool
+is_calm q k s t = not (same_kind k Pawn) && (not (same_kind k King) && (not (is_home s) && (is_empty q.men t && not (is_home t))))

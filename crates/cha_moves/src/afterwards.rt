@@ -3,14 +3,18 @@
 ghost use Rattle.std.specs.Prelude.{◌≡◌, false, Some, None, Contains, IsTrue};
 ghost use Rattle.cha_board.specs.Men.{same_kind, is_man};
 ghost use Rattle.cha_board.specs.Board.{Board, man_at};
+ghost use Rattle.cha_board.specs.SquareSets.{set_of};
 ghost use Rattle.cha_moves.specs.Moves.{moved, rook_of, is_en_passant, men_after, target_after, legal as legal_moves, after as position_after};
+ghost use Rattle.cha_moves.specs.Ways.{is_calm};
 
 use crate::goes::goes_en_passant;
 use crate::makes::{men_made, rights_made, target_made};
 use crate::passing::{captured_on, passed_over};
 use crate::sides::{long_crossing, short_crossing};
 use crate::step::Move;
-use cha_board::{Kind, Man, Position, Square, files_between, long_home, short_home};
+use cha_board::{
+    Color, Kind, Man, Position, Square, SquareSet, files_between, homes, long_home, short_home,
+};
 
 /// The position after a legal move.
 pub fn after(position: &Position, m: Move) -> Position
@@ -29,13 +33,25 @@ pub fn after_of(position: &Position, kind: Kind, m: Move) -> Position
     requires kind { (man : Man) → man_at position.now.men m.from ≡ Some man → kind ≡ man.kind }
     ensures { result ≡ position_after position.now m }
 {
+    after_by(position, position.side(), kind, m)
+}
+
+/// The position after a legal move of a man of this side, which is to move, and of this kind. Whoever visits the moves of one
+/// side knows it already.
+#[inline(always)]
+pub fn after_by(position: &Position, side: Color, kind: Kind, m: Move) -> Position
+    requires side { side ≡ position.now.side }
+    requires legal { Contains (legal_moves position.now) m }
+    requires kind { (man : Man) → man_at position.now.men m.from ≡ Some man → kind ≡ man.kind }
+    ensures { result ≡ position_after position.now m }
+{
     match kind {
-        Kind::Pawn => after_pawn(position, m),
-        Kind::Knight => after_piece(position, m, Kind::Knight),
-        Kind::Bishop => after_piece(position, m, Kind::Bishop),
-        Kind::Rook => after_piece(position, m, Kind::Rook),
-        Kind::Queen => after_piece(position, m, Kind::Queen),
-        Kind::King => after_king(position, m),
+        Kind::Pawn => after_pawn(position, side, m),
+        Kind::Knight => after_piece(position, side, m, Kind::Knight),
+        Kind::Bishop => after_piece(position, side, m, Kind::Bishop),
+        Kind::Rook => after_piece(position, side, m, Kind::Rook),
+        Kind::Queen => after_piece(position, side, m, Kind::Queen),
+        Kind::King => after_king(position, side, m),
     }
 }
 
@@ -53,7 +69,8 @@ fn passed_by(m: Move) -> Option<Square>
 
 /// The position after a legal move of a pawn.
 #[inline(always)]
-fn after_pawn(position: &Position, m: Move) -> Position
+fn after_pawn(position: &Position, side: Color, m: Move) -> Position
+    requires side { side ≡ position.now.side }
     requires legal { Contains (legal_moves position.now) m }
     requires man { IsTrue (is_man position.now.side Kind.Pawn (man_at position.now.men m.from)) }
     ensures { result ≡ position_after position.now m }
@@ -61,16 +78,17 @@ fn after_pawn(position: &Position, m: Move) -> Position
     if m.promotion.is_some() {
         after_any(position, m)
     } else if goes_en_passant(position, m.from, m.to) {
-        after_passing(position, m)
+        after_passing(position, side, m)
     } else {
-        after_one(position, m, Kind::Pawn, passed_by(m))
+        after_one(position, side, m, Kind::Pawn, passed_by(m))
     }
 }
 
 /// The position after a capture en passant.
 // What is called for a rare move would leave its position in memory, from where the others had to take theirs.
 #[inline(always)]
-fn after_passing(position: &Position, m: Move) -> Position
+fn after_passing(position: &Position, side: Color, m: Move) -> Position
+    requires side { side ≡ position.now.side }
     requires legal { Contains (legal_moves position.now) m }
     requires man { IsTrue (is_man position.now.side Kind.Pawn (man_at position.now.men m.from)) }
     requires plain { m.promotion ≡ None }
@@ -80,7 +98,7 @@ fn after_passing(position: &Position, m: Move) -> Position
     // The position is valid, and so is what a legal move leaves.
     position.known();
     m.known();
-    let color = position.side();
+    let color = side;
     let kind = Kind::Pawn;
     let captured = captured_on(color, m.to);
     let men = position
@@ -93,39 +111,47 @@ fn after_passing(position: &Position, m: Move) -> Position
 
 /// The position after a legal move of a man that is neither pawn nor king.
 #[inline(always)]
-fn after_piece(position: &Position, m: Move, kind: Kind) -> Position
+fn after_piece(position: &Position, side: Color, m: Move, kind: Kind) -> Position
+    requires side { side ≡ position.now.side }
     requires legal { Contains (legal_moves position.now) m }
     requires man { IsTrue (is_man position.now.side kind (man_at position.now.men m.from)) }
     requires no_pawn { same_kind kind Kind.Pawn ≡ false }
     requires no_king { same_kind kind Kind.King ≡ false }
     ensures { result ≡ position_after position.now m }
 {
-    after_one(position, m, kind, None)
+    after_one(position, side, m, kind, None)
 }
 
 /// The position after a legal move of a king, which castles where it goes further than to the next file: on the king's
 /// side where it goes up in the order of squares.
 #[inline(always)]
-fn after_king(position: &Position, m: Move) -> Position
+fn after_king(position: &Position, side: Color, m: Move) -> Position
+    requires side { side ≡ position.now.side }
     requires legal { Contains (legal_moves position.now) m }
     requires man { IsTrue (is_man position.now.side Kind.King (man_at position.now.men m.from)) }
     ensures { result ≡ position_after position.now m }
 {
     if files_between(m.from, m.to) <= 1 {
-        return after_one(position, m, Kind::King, None);
+        return after_one(position, side, m, Kind::King, None);
     }
-    let side = position.side();
     if m.from.index() < m.to.index() {
-        after_castling(position, m, short_home(side), short_crossing(side))
+        after_castling(position, side, m, short_home(side), short_crossing(side))
     } else {
-        after_castling(position, m, long_home(side), long_crossing(side))
+        after_castling(position, side, m, long_home(side), long_crossing(side))
     }
 }
 
 /// The position after a legal move of a king by which a rook goes from the corner to the king's side.
 // Whether it may castle is not asked again.
 #[inline(always)]
-fn after_castling(position: &Position, m: Move, corner: Square, beside: Square) -> Position
+fn after_castling(
+    position: &Position,
+    side: Color,
+    m: Move,
+    corner: Square,
+    beside: Square,
+) -> Position
+    requires side { side ≡ position.now.side }
     requires legal { Contains (legal_moves position.now) m }
     requires men { men_after position.now m ≡ moved (moved position.now.men m.from m.to (Some (record { color = position.now.side; kind = Kind.King }))) corner beside (rook_of position.now.side) }
     requires target { None ≡ target_after position.now m }
@@ -133,7 +159,7 @@ fn after_castling(position: &Position, m: Move, corner: Square, beside: Square) 
 {
     // The position is valid, and so is what a legal move leaves.
     position.known();
-    let color = position.side();
+    let color = side;
     let kind = Kind::King;
     let gone = position
         .placement()
@@ -149,7 +175,14 @@ fn after_castling(position: &Position, m: Move, corner: Square, beside: Square) 
 
 /// The position after a legal move by which one man of this kind goes from one square to another and nothing else changes.
 #[inline(always)]
-fn after_one(position: &Position, m: Move, kind: Kind, target: Option<Square>) -> Position
+fn after_one(
+    position: &Position,
+    side: Color,
+    m: Move,
+    kind: Kind,
+    target: Option<Square>,
+) -> Position
+    requires side { side ≡ position.now.side }
     requires legal { Contains (legal_moves position.now) m }
     requires men { men_after position.now m ≡ moved position.now.men m.from m.to (Some (record { color = position.now.side; kind = kind })) }
     requires target { target ≡ target_after position.now m }
@@ -159,7 +192,7 @@ fn after_one(position: &Position, m: Move, kind: Kind, target: Option<Square>) -
     position.known();
     // The rights come before the men, whose sets would else have to wait for them.
     let rights = rights_made(position.rights(), m);
-    let color = position.side();
+    let color = side;
     let men = position.placement();
     Position::of_parts(
         men.moved(m.from, m.to, Man { color, kind }),
@@ -167,6 +200,37 @@ fn after_one(position: &Position, m: Move, kind: Kind, target: Option<Square>) -
         rights,
         target,
     )
+}
+
+/// The squares to which a man of this kind goes from its square so that nothing but its place changes: nobody stands there, neither
+/// square is the home of a king or a rook, and the man is neither pawn nor king.
+#[inline(always)]
+pub fn calm_squares(position: &Position, kind: Kind, from: Square) -> SquareSet
+    ensures { result ≡ set_of (is_calm position.now kind from) }
+{
+    if kind.is(Kind::Pawn) || kind.is(Kind::King) || homes().has(from) {
+        return SquareSet::empty();
+    }
+    let all = SquareSet::from_bits(u64::MAX);
+    all.minus(position.occupied().joined(homes()))
+}
+
+/// The position after a legal move of a man of this side, which is to move, and of this kind, where nothing but its place changes.
+#[inline(always)]
+pub fn after_step(position: &Position, side: Color, kind: Kind, m: Move) -> Position
+    requires side { side ≡ position.now.side }
+    requires legal { Contains (legal_moves position.now) m }
+    requires man { man_at position.now.men m.from ≡ Some (record { color = side; kind = kind }) }
+    requires calm { IsTrue (is_calm position.now kind m.from m.to) }
+    ensures { result ≡ position_after position.now m }
+{
+    // The position is valid, and so is what a legal move leaves.
+    position.known();
+    let color = side;
+    let men = position
+        .placement()
+        .stepped(m.from, m.to, Man { color, kind });
+    Position::of_parts(men, color.other(), position.rights(), None)
 }
 
 /// The position after a legal move.

@@ -1,15 +1,18 @@
 //! How many moves are legal (Laws of Chess, Article 3.10.1).
 
 ghost use Rattle.std.specs.Prelude.{◌≡◌, ◌+◌, ◌*◌, ◌≤◌, filter, length};
-ghost use Rattle.cha_board.specs.SquareSets.{squares_in, set_common};
+ghost use Rattle.std.specs.List.{flat_map};
+ghost use Rattle.cha_board.specs.Men.{is_man};
+ghost use Rattle.cha_board.specs.Board.{man_at};
+ghost use Rattle.cha_board.specs.SquareSets.{set_of, squares_in, set_common};
 ghost use Rattle.cha_moves.specs.Moves.{is_legal_in, moves_from};
 ghost use Rattle.cha_moves.specs.Moves.{legal as legal_moves};
 ghost use Rattle.cha_moves.specs.Shields.{AreShields};
 
-use crate::legally::legal_ways;
+use crate::legally::legal_ways_by;
 use crate::list::promoting;
 use crate::shields::{Shields, shields_of};
-use cha_board::{Position, Square, SquareSet};
+use cha_board::{Color, Kind, Position, SquareSet};
 
 /// How many moves go to the squares of a set: four to each that is among the last, on which the man is promoted, and one to
 /// each other.
@@ -20,33 +23,48 @@ fn moves_to(ways: SquareSet, last: SquareSet) -> u64
     u64::from(ways.len()) + 3 * u64::from(ways.common(last).len())
 }
 
-/// How many moves from a square are legal.
-fn count_from(position: &Position, shields: &Shields, from: Square) -> u64
-    requires { AreShields position.now shields.now.answers shields.now.screens }
-    ensures value { result ≡ length (filter (is_legal_in position.now) (moves_from from)) }
-    ensures bound { result ≤ 256 }
+/// How many moves of the men of the side to move and of this kind are legal.
+#[inline(always)]
+fn count_kind(position: &Position, shields: &Shields, side: Color, kind: Kind) -> u64
+    requires side { side ≡ position.now.side }
+    requires shields { AreShields position.now shields.now.answers shields.now.screens }
+    ensures value { result ≡ length (filter (is_legal_in position.now) (flat_map moves_from (squares_in (set_of (λ s. is_man side kind (man_at position.now.men s)))))) }
 {
-    // The moves of a way are told of valid positions.
-    position.known();
-    let _from = from.index();
-    let Some(man) = position.man(from) else {
-        return 0;
-    };
-    let last = promoting(position.side(), man.kind);
-    let ways = legal_ways(position, shields, man, from);
-    moves_to(ways, last)
+    let last = promoting(side, kind);
+    let mut count: u64 = 0;
+    let mut left = position.men(side, kind);
+    while let Some(from) = left.first() {
+        // The moves of a way are told of valid positions.
+        position.known();
+        let ways = legal_ways_by(position, shields, side, kind, from);
+        count += moves_to(ways, last);
+        left = left.without(from);
+    }
+    count
+}
+
+/// How many moves of the side to move are legal.
+#[inline(always)]
+fn count_side(position: &Position, side: Color) -> u64
+    requires { side ≡ position.now.side }
+    ensures { result ≡ length (legal_moves position.now) }
+{
+    let shields = shields_of(position);
+    let pieces = count_kind(position, &shields, side, Kind::Knight)
+        + count_kind(position, &shields, side, Kind::Bishop)
+        + count_kind(position, &shields, side, Kind::Rook)
+        + count_kind(position, &shields, side, Kind::Queen);
+    pieces
+        + count_kind(position, &shields, side, Kind::Pawn)
+        + count_kind(position, &shields, side, Kind::King)
 }
 
 /// How many moves are legal. They are counted in sets of squares, and no list is made.
 pub fn count_legal(position: &Position) -> u64
     ensures { result ≡ length (legal_moves position.now) }
 {
-    let shields = shields_of(position);
-    let mut count: u64 = 0;
-    let mut left = position.placement().of_side(position.side());
-    while let Some(from) = left.first() {
-        count += count_from(position, &shields, from);
-        left = left.without(from);
+    match position.side() {
+        Color::White => count_side(position, Color::White),
+        Color::Black => count_side(position, Color::Black),
     }
-    count
 }

@@ -83,7 +83,7 @@ fn touched(m: Move) -> SquareSet
 fn lacks(touched: SquareSet, side: Color, rook: Square) -> bool
     ensures { result ≡ (not (has_square touched (home_of side)) && not (has_square touched rook)) }
 {
-    !touched.has(Square::at(home(side))) && !touched.has(rook)
+    !touched.has(Square::at(home(side))) & !touched.has(rook)
 }
 
 /// The rights to castle after a move.

@@ -10,13 +10,13 @@ ghost use Rattle.cha_moves.specs.Ways.{is_way};
 use crate::goes::{castles_long, castles_short, promotes_well};
 use crate::sides::{first_pawn_rank, promotion_rank};
 use crate::step::Move;
-use cha_board::{Kind, Man, Position, Square, SquareSet, aims, long_goal, short_goal};
+use cha_board::{Color, Kind, Man, Position, Square, SquareSet, aims, long_goal, short_goal};
 
 /// The squares that the side to move may not enter: those of its own men and that of the other king.
-fn barred(position: &Position) -> SquareSet
+fn barred(position: &Position, side: Color) -> SquareSet
+    requires { side ≡ position.now.side }
     ensures { result ≡ set_of (λ t. not (may_enter position.now.side (man_at position.now.men t))) }
 {
-    let side = position.side();
     let own = position.placement().of_side(side);
     own.joined(position.men(side.other(), Kind::King))
 }
@@ -30,10 +30,11 @@ fn with_where(set: SquareSet, at: Square, so: bool) -> SquareSet
 }
 
 /// The squares to which a pawn of the side to move steps.
-fn pawn_steps(position: &Position, s: Square) -> SquareSet
+#[inline(always)]
+fn pawn_steps(position: &Position, side: Color, s: Square) -> SquareSet
+    requires { side ≡ position.now.side }
     ensures { result ≡ set_of (λ t. is_step position.now s t || is_double_step position.now s t) }
 {
-    let side = position.side();
     if s.rank() == promotion_rank(side) {
         return SquareSet::empty();
     }
@@ -54,12 +55,14 @@ fn pawn_steps(position: &Position, s: Square) -> SquareSet
 }
 
 /// The squares onto which a pawn of the side to move captures, en passant too.
-fn pawn_captures(position: &Position, s: Square) -> SquareSet
+#[inline(always)]
+fn pawn_captures(position: &Position, side: Color, s: Square) -> SquareSet
+    requires { side ≡ position.now.side }
     ensures { result ≡ set_of (λ t. is_pawn_capture position.now s t || is_en_passant position.now s t) }
 {
     let _from = s.index();
     let occupied = position.occupied();
-    let aimed = aims(position.side(), Kind::Pawn, s, occupied);
+    let aimed = aims(side, Kind::Pawn, s, occupied);
     let captures = aimed.common(occupied);
     match position.target() {
         None => captures,
@@ -85,13 +88,15 @@ fn king_ways(position: &Position, s: Square) -> SquareSet
 }
 
 /// The squares to which a man of the side to move and of this kind goes, whatever stands there.
-fn kind_ways(position: &Position, kind: Kind, s: Square) -> SquareSet
+#[inline(always)]
+fn kind_ways(position: &Position, side: Color, kind: Kind, s: Square) -> SquareSet
+    requires { side ≡ position.now.side }
     ensures { result ≡ set_of (goes position.now kind s) }
 {
     match kind {
-        Kind::Pawn => pawn_steps(position, s).joined(pawn_captures(position, s)),
+        Kind::Pawn => pawn_steps(position, side, s).joined(pawn_captures(position, side, s)),
         Kind::King => king_ways(position, s),
-        _ => aims(position.side(), kind, s, position.occupied()),
+        _ => aims(side, kind, s, position.occupied()),
     }
 }
 
@@ -103,7 +108,18 @@ pub fn ways_of(position: &Position, man: Man, from: Square) -> SquareSet
     if !man.color.is(position.side()) {
         return SquareSet::empty();
     }
-    kind_ways(position, man.kind, from).minus(barred(position))
+    own_ways(position, man.color, man.kind, from)
+}
+
+/// The squares to which a man of the side to move and of this kind may go from its square, as far as its way and what stands
+/// there are concerned.
+#[inline(always)]
+pub fn own_ways(position: &Position, side: Color, kind: Kind, from: Square) -> SquareSet
+    requires side { side ≡ position.now.side }
+    requires man { man_at position.now.men from ≡ Some (record { color = side; kind = kind }) }
+    ensures { result ≡ set_of (is_way position.now from) }
+{
+    kind_ways(position, side, kind, from).minus(barred(position, side))
 }
 
 /// Whether what stands on `m.from` may make the move, whether or not its king is attacked afterwards.

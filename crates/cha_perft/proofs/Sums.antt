@@ -8,6 +8,7 @@ use Rattle.cha_board.specs.Board.{Board}
 use Rattle.cha_moves.specs.Step.{Move}
 use Rattle.cha_moves.specs.Moves.{after, legal, is_legal_in, moves_from, moves_between}
 use Rattle.cha_moves.specs.Ways.{legal_between}
+use Rattle.cha_moves.proofs.ByKind.{Adds}
 use Rattle.cha_perft.specs.Counts.{lines_from, lines_with}
 
 pub one_line : (d : ℕ) (q : Board) → d ≡ 0 → 1 ≡ lines_from d q
@@ -109,3 +110,8 @@ four_moves e q a b c d =
     let three = sum_by-cons f c (d ∷ []) in
     let four = sum_by-cons f d [] in
     omega (arith, one, two, three, four)
+
+-- lines add up over lists of first moves
+pub lines_add : (e : ℕ) (q : Board) → Adds (λ ms. lines_with e q ms)
+unfolding lines_with
+lines_add e q = record { none = refl; both = λ a b. sum_by-append (λ (m : Move). lines_from e (after q m)) a b }

@@ -2,15 +2,20 @@
 //! moves are visited by the sets of squares to which men go, and no list is made.
 
 ghost use Rattle.std.specs.Prelude.{ℕ, ◌≡◌, ◌<◌, ◌+◌, Some, filter, Contains, IsTrue};
+ghost use Rattle.std.specs.List.{flat_map};
+ghost use Rattle.cha_board.specs.Men.{is_man};
 ghost use Rattle.cha_board.specs.Board.{man_at};
-ghost use Rattle.cha_board.specs.SquareSets.{set_of};
+ghost use Rattle.cha_board.specs.SquareSets.{set_of, squares_in};
 ghost use Rattle.cha_moves.specs.Moves.{is_legal_in, moves_from, after as position_after, legal as legal_moves};
-ghost use Rattle.cha_moves.specs.Ways.{is_promoted, legal_between};
+ghost use Rattle.cha_moves.specs.Ways.{is_promoted, is_calm, legal_between};
 ghost use Rattle.cha_moves.specs.Shields.{AreShields, goes_legally};
 ghost use Rattle.cha_perft.specs.Counts.{lines_from, lines_with, Tells};
 
 use cha_board::{Color, Kind, Man, Position, Square, SquareSet};
-use cha_moves::{Move, Shields, after_of, legal_ways, promoting, promotion, shields_of};
+use cha_moves::{
+    Move, Shields, after_by, after_step, calm_squares, legal_ways_by, promoting, promotion,
+    shields_of,
+};
 
 /// How many lines of `depth` legal moves begin in a position, as they are made one by one, or None where they pass 64
 /// bits. It takes no memory.
@@ -33,12 +38,66 @@ fn made_all(position: &Position, depth: u8) -> Option<u64>
     requires { 0 < depth }
     ensures { Tells result (lines_from depth position.now) }
 {
+    match position.side() {
+        Color::White => made_by_white(position, depth - 1),
+        Color::Black => made_by_black(position, depth - 1),
+    }
+}
+
+/// The lines that begin with a move of White, which is to move, and have `depth` more.
+// Each side has a call of its own: two that differ in nothing but the side would be made one again, which asks for it.
+#[cycle(making)]
+#[inline(never)]
+fn made_by_white(position: &Position, depth: u8) -> Option<u64>
+    requires { Color.White ≡ position.now.side }
+    ensures { Tells result (lines_with depth position.now (legal_moves position.now)) }
+{
+    let side = Color::White;
     let shields = shields_of(position);
-    let mut total: u64 = 0;
-    let mut left = position.placement().of_side(position.side());
+    let total = made_kind(position, &shields, side, Kind::Pawn, depth, 0)?;
+    let total = made_kind(position, &shields, side, Kind::Knight, depth, total)?;
+    let total = made_kind(position, &shields, side, Kind::Bishop, depth, total)?;
+    let total = made_kind(position, &shields, side, Kind::Rook, depth, total)?;
+    let total = made_kind(position, &shields, side, Kind::Queen, depth, total)?;
+    made_kind(position, &shields, side, Kind::King, depth, total)
+}
+
+/// The lines that begin with a move of Black, which is to move, and have `depth` more.
+#[cycle(making)]
+#[inline(never)]
+fn made_by_black(position: &Position, depth: u8) -> Option<u64>
+    requires { Color.Black ≡ position.now.side }
+    ensures { Tells result (lines_with depth position.now (legal_moves position.now)) }
+{
+    let side = Color::Black;
+    let shields = shields_of(position);
+    let total = made_kind(position, &shields, side, Kind::Pawn, depth, 0)?;
+    let total = made_kind(position, &shields, side, Kind::Knight, depth, total)?;
+    let total = made_kind(position, &shields, side, Kind::Bishop, depth, total)?;
+    let total = made_kind(position, &shields, side, Kind::Rook, depth, total)?;
+    let total = made_kind(position, &shields, side, Kind::Queen, depth, total)?;
+    made_kind(position, &shields, side, Kind::King, depth, total)
+}
+
+/// The lines that begin with a move of the men of the side to move and of this kind and have `depth` more, and these before.
+#[cycle(making)]
+#[inline(always)]
+fn made_kind(
+    position: &Position,
+    shields: &Shields,
+    side: Color,
+    kind: Kind,
+    depth: u8,
+    before: u64,
+) -> Option<u64>
+    requires side { side ≡ position.now.side }
+    requires shields { AreShields position.now shields.now.answers shields.now.screens }
+    ensures { Tells result (before + lines_with depth position.now (filter (is_legal_in position.now) (flat_map moves_from (squares_in (set_of (λ s. is_man side kind (man_at position.now.men s))))))) }
+{
+    let mut total = before;
+    let mut left = position.men(side, kind);
     while let Some(from) = left.first() {
-        let lines = made_from(position, &shields, from, depth - 1);
-        let Some(sum) = both(Some(total), lines) else {
+        let Some(sum) = made_by(position, shields, side, kind, from, depth, total) else {
             return None;
         };
         total = sum;
@@ -47,48 +106,31 @@ fn made_all(position: &Position, depth: u8) -> Option<u64>
     Some(total)
 }
 
-/// The lines that begin with a move from a square and have `depth` more.
-// Each kind has a loop of its own, so that none is asked for each move.
-#[cycle(making)]
-fn made_from(position: &Position, shields: &Shields, from: Square, depth: u8) -> Option<u64>
-    requires { AreShields position.now shields.now.answers shields.now.screens }
-    ensures { Tells result (lines_with depth position.now (filter (is_legal_in position.now) (moves_from from))) }
-{
-    let Some(man) = position.man(from) else {
-        return Some(0);
-    };
-    let color = man.color;
-    match man.kind {
-        Kind::Pawn => made_by(position, shields, color, Kind::Pawn, from, depth),
-        Kind::Knight => made_by(position, shields, color, Kind::Knight, from, depth),
-        Kind::Bishop => made_by(position, shields, color, Kind::Bishop, from, depth),
-        Kind::Rook => made_by(position, shields, color, Kind::Rook, from, depth),
-        Kind::Queen => made_by(position, shields, color, Kind::Queen, from, depth),
-        Kind::King => made_by(position, shields, color, Kind::King, from, depth),
-    }
-}
-
-/// The lines that begin with a move of a man of this colour and kind from its square and have `depth` more.
+/// The lines that begin with a move of a man of the side to move and of this kind from its square and have `depth` more, and these
+/// before.
 #[cycle(making)]
 #[inline(always)]
 fn made_by(
     position: &Position,
     shields: &Shields,
-    color: Color,
+    side: Color,
     kind: Kind,
     from: Square,
     depth: u8,
+    before: u64,
 ) -> Option<u64>
-    requires man { man_at position.now.men from ≡ Some (record { color = color; kind = kind }) }
+    requires side { side ≡ position.now.side }
+    requires man { man_at position.now.men from ≡ Some (record { color = side; kind = kind }) }
     requires shields { AreShields position.now shields.now.answers shields.now.screens }
-    ensures { Tells result (lines_with depth position.now (filter (is_legal_in position.now) (moves_from from))) }
+    ensures { Tells result (before + lines_with depth position.now (filter (is_legal_in position.now) (moves_from from))) }
 {
+    let color = side;
     let man = Man { color, kind };
-    let last = promoting(position.side(), kind);
-    let mut total: u64 = 0;
-    let mut left = legal_ways(position, shields, man, from);
+    let calm = calm_squares(position, kind, from);
+    let mut total = before;
+    let mut left = legal_ways_by(position, shields, side, kind, from);
     while let Some(to) = left.first() {
-        let lines = made_way(position, man, last, from, to, depth);
+        let lines = made_way(position, man, calm, from, to, depth);
         let Some(sum) = both(Some(total), lines) else {
             return None;
         };
@@ -99,35 +141,41 @@ fn made_by(
 }
 
 /// The lines that begin with a move from one square to another, to which the man there goes legally, and have `depth`
-/// more. It is promoted on the squares of `last`.
+/// more. On the squares of `calm` nothing but its place changes.
 #[cycle(making)]
 #[inline(always)]
 fn made_way(
     position: &Position,
     man: Man,
-    last: SquareSet,
+    calm: SquareSet,
     from: Square,
     to: Square,
     depth: u8,
 ) -> Option<u64>
+    requires side { man.color ≡ position.now.side }
     requires man { man_at position.now.men from ≡ Some man }
-    requires last { last ≡ set_of (is_promoted position.now.side man.kind) }
+    requires calm { calm ≡ set_of (is_calm position.now man.kind from) }
     requires way { IsTrue (goes_legally position.now from to) }
     ensures { Tells result (lines_with depth position.now (legal_between position.now from to)) }
 {
     // The moves of a way are told of valid positions.
     position.known();
     let _squares = (from.index(), to.index());
+    let promotion = None;
+    let m = Move {
+        from,
+        to,
+        promotion,
+    };
+    if calm.has(to) {
+        let next = after_step(position, man.color, man.kind, m);
+        return count_made(&next, depth);
+    }
+    let last = promoting(man.color, man.kind);
     if last.has(to) {
         made_promoted(position, man, from, to, depth)
     } else {
-        let promotion = None;
-        let m = Move {
-            from,
-            to,
-            promotion,
-        };
-        made_move(position, man.kind, m, depth)
+        made_move(position, man, m, depth)
     }
 }
 
@@ -136,6 +184,7 @@ fn made_way(
 #[cycle(making)]
 #[inline(never)]
 fn made_promoted(position: &Position, man: Man, from: Square, to: Square, depth: u8) -> Option<u64>
+    requires side { man.color ≡ position.now.side }
     requires man { man_at position.now.men from ≡ Some man }
     requires last { IsTrue (is_promoted position.now.side man.kind to) }
     requires way { IsTrue (goes_legally position.now from to) }
@@ -144,22 +193,23 @@ fn made_promoted(position: &Position, man: Man, from: Square, to: Square, depth:
     // The moves of a way are told of valid positions.
     position.known();
     let _squares = (from.index(), to.index());
-    let queen = made_move(position, man.kind, promotion(from, to, Kind::Queen), depth);
-    let rook = made_move(position, man.kind, promotion(from, to, Kind::Rook), depth);
-    let bishop = made_move(position, man.kind, promotion(from, to, Kind::Bishop), depth);
-    let knight = made_move(position, man.kind, promotion(from, to, Kind::Knight), depth);
+    let queen = made_move(position, man, promotion(from, to, Kind::Queen), depth);
+    let rook = made_move(position, man, promotion(from, to, Kind::Rook), depth);
+    let bishop = made_move(position, man, promotion(from, to, Kind::Bishop), depth);
+    let knight = made_move(position, man, promotion(from, to, Kind::Knight), depth);
     both(both(queen, rook), both(bishop, knight))
 }
 
-/// The lines that begin with a move of a man of this kind and have `depth` more.
+/// The lines that begin with a move of this man of the side to move and have `depth` more.
 #[cycle(making)]
 #[inline(always)]
-fn made_move(position: &Position, kind: Kind, m: Move, depth: u8) -> Option<u64>
+fn made_move(position: &Position, man: Man, m: Move, depth: u8) -> Option<u64>
+    requires side { man.color ≡ position.now.side }
     requires legal { Contains (legal_moves position.now) m }
-    requires kind { (man : Man) → man_at position.now.men m.from ≡ Some man → kind ≡ man.kind }
+    requires man { man_at position.now.men m.from ≡ Some man }
     ensures { Tells result (lines_from depth (position_after position.now m)) }
 {
-    let next = after_of(position, kind, m);
+    let next = after_by(position, man.color, man.kind, m);
     count_made(&next, depth)
 }
 

@@ -9,9 +9,9 @@ ghost use Rattle.cha_san.specs.Playing.{LacksMemory, FollowsBy, positions};
 use crate::faults::{PlayFault, SanFault};
 use crate::resolving::resolve;
 use cha_board::Position;
-use cha_list::Text;
 use cha_moves::{Positions, after};
 use pgn_games::Game;
+use pgn_lex::Spelling;
 use std::alloc::Global;
 
 /// The position after the move of a word, which has this number in its game.
@@ -40,7 +40,7 @@ fn append(positions: &mut Positions, position: &Position) -> Result<(), PlayFaul
 }
 
 /// A position and the one after each word, or the first word that names no move.
-fn replayed(alloc: Global, start: &Position, words: &[Text]) -> Result<Positions, PlayFault>
+fn replayed(alloc: Global, start: &Position, words: &[Spelling]) -> Result<Positions, PlayFault>
     requires { length words.now ≤ 12000 }
     ensures { LacksMemory result ⊎ (result ≡ positions start.now words.now) }
 {

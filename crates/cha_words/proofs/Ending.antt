@@ -78,16 +78,22 @@ pub at_end : (c : Command) (g : Given) (n : Numbers) → numbers_from c g [] ≡
 unfolding order_from
 at_end c g n e = ap (λ o. made_of c o (Some g.said)) e
 
-unmade : (c : Command) (said : Said) (n : Numbers) → (c ≡ Adjudicate → said ≡ Nothing → ⊥) → (c ≡ Correct → said ≡ Nothing → ⊥) → (c ≡ Position → said ≡ Nothing → ⊥) → (c ≡ Check → said ≡ Nothing → ⊥) → ((seed count : ℕ) → c ≡ Gen → said ≡ Games seed count → ⊥)
-    → ((side : Color) → c ≡ Mates → said ≡ Sided side → ⊥) → (c ≡ Replay → said ≡ Nothing → ⊥) → made c n said ≡ None
-unmade Adjudicate Nothing n ha ho hp hc hg hm hr = absurd (ha refl refl)
-unmade Correct Nothing n ha ho hp hc hg hm hr = absurd (ho refl refl)
-unmade Position Nothing n ha ho hp hc hg hm hr = absurd (hp refl refl)
-unmade Check Nothing n ha ho hp hc hg hm hr = absurd (hc refl refl)
-unmade Gen (Games seed count) n ha ho hp hc hg hm hr = absurd (hg seed count refl refl)
-unmade Mates (Sided side) n ha ho hp hc hg hm hr = absurd (hm side refl refl)
-unmade Replay Nothing n ha ho hp hc hg hm hr = absurd (hr refl refl)
-unmade c said n ha ho hp hc hg hm hr = refl
+-- what is said does not fit a command
+unfoldable pub Lacks : Command → Said → Type 0
+Lacks Gen said = (seed count : ℕ) → said ≡ Games seed count → ⊥
+Lacks Mates said = (side : Color) → said ≡ Sided side → ⊥
+Lacks c said = said ≡ Nothing → ⊥
+
+unmade : (c : Command) (said : Said) (n : Numbers) → Lacks c said → made c n said ≡ None
+unfolding Lacks
+unmade Adjudicate Nothing n h = absurd (h refl)
+unmade Correct Nothing n h = absurd (h refl)
+unmade Position Nothing n h = absurd (h refl)
+unmade Check Nothing n h = absurd (h refl)
+unmade Gen (Games seed count) n h = absurd (h seed count refl)
+unmade Mates (Sided side) n h = absurd (h side refl)
+unmade Replay Nothing n h = absurd (h refl)
+unmade c said n h = refl
 
 module _ (c : Command) (g : Given) (n : Numbers) (is : numbers_from c g [] ≡ Some n) where
   each : Ten (chosen_from (range c Budget) g.budget []) (chosen_from (range c Workers) g.workers []) (chosen_from (range c Depth) g.depth []) (chosen_from (range c Entries) g.entries []) (chosen_from (range c Certs) g.certs []) (chosen_from (range c Json) g.json []) (chosen_from (range c San) g.san []) (chosen_from (range c Fens) g.fens []) (chosen_from (range c FlaggedDraws) g.flagged_draws []) (chosen_from (range c Changed) g.changed []) n
@@ -149,9 +155,8 @@ module _ (c : Command) (g : Given) (n : Numbers) (is : numbers_from c g [] ≡ S
   replays_made p e s hp = rw (at_end c g n is, e, s, printed p hp) refl
 
   -- a command whose further words are not complete
-  pub not_made : (c ≡ Adjudicate → g.said ≡ Nothing → ⊥) → (c ≡ Correct → g.said ≡ Nothing → ⊥) → (c ≡ Position → g.said ≡ Nothing → ⊥) → (c ≡ Check → g.said ≡ Nothing → ⊥) → ((seed count : ℕ) → c ≡ Gen → g.said ≡ Games seed count → ⊥)
-      → ((side : Color) → c ≡ Mates → g.said ≡ Sided side → ⊥) → (c ≡ Replay → g.said ≡ Nothing → ⊥) → None ≡ order_from c g []
-  not_made ha ho hp hc hg hm hr = rw (at_end c g n is) (sym (unmade c g.said n ha ho hp hc hg hm hr))
+  pub not_made : Lacks c g.said → None ≡ order_from c g []
+  not_made h = rw (at_end c g n is) (sym (unmade c g.said n h))
 
 -- an option whose number never comes
 none_awaited : (c : Command) (g : Given) (s : Setting) (o : Option Range) → open_in c g s ≡ o → order_from c g (Value s [] ∷ []) ≡ None

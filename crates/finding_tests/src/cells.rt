@@ -7,7 +7,6 @@ use crate::busy::Busy;
 use std::rt::HostRuntime;
 use std::sync::Wait;
 use std::sync::atomic::{AtomicU64, Ordering};
-use std::test::Fail;
 use std::thread;
 use turn_cell::{Object, Pass, Still, TurnCell};
 
@@ -104,12 +103,12 @@ fn two_threads_add_up_to_2000(rt: HostRuntime) {
 // While a thread for each processor is busy, passes are stopped in the middle of turns and while they wait. Neither ends before
 // the other has had a turn, and each sum from 1 on is one reply to one of them.
 #[test]
-fn two_threads_take_turns_beside_busy_ones(rt: HostRuntime) -> Result<(), Fail> {
+fn two_threads_take_turns_beside_busy_ones(rt: HostRuntime) {
     let Ok((cell, mut first)) = TurnCell::new(rt.alloc(), Sum { total: 0 }) else {
         panic!(rt; "no memory");
     };
     let second = cell.split(&mut first);
-    let busy = Busy::start(&rt, rt.alloc())?;
+    let busy = Busy::start(&rt, rt.alloc()).expect(&rt, "threads");
     let replies = AtomicU64::new(0);
     let (mut first, second) = thread::join(
         &rt,
@@ -126,7 +125,6 @@ fn two_threads_take_turns_beside_busy_ones(rt: HostRuntime) -> Result<(), Fail> 
         }
         Err(_) => panic!(rt; "a pass is still out"),
     }
-    Ok(())
 }
 
 #[test]

@@ -2,12 +2,9 @@
 
 use cha_board::Position;
 use cha_fen::read;
-use std::test::Fail;
+use std::process::Abort;
 
 /// The position of a text.
-pub fn place(fen: &str) -> Result<Position, Fail> {
-    match read(fen.as_bytes()) {
-        Ok(position) => Ok(position),
-        Err(_) => Err("no position")?,
-    }
+pub fn place(rt: &impl Abort, fen: &str) -> Position {
+    read(fen.as_bytes()).expect(rt, "a position")
 }

@@ -6,7 +6,7 @@ use cha_moves::replays;
 use mate_hunt::{Width, hunt};
 use search_guide::Guide;
 use std::alloc::Global;
-use std::test::Fail;
+use std::process::Abort;
 
 /// Positions, the side that mates by its next move, and how.
 const NEXT: &[(&str, Color)] = &[
@@ -65,71 +65,76 @@ const NOWHERE: &[(&str, Color)] = &[
 
 /// How many moves the line of a hunt has that replays, if there is one.
 fn found(
+    rt: &impl Abort,
     alloc: Global,
     fen: &str,
     winner: Color,
     most: u32,
     by: Guide,
-) -> Result<Option<usize>, Fail> {
-    let position = place(fen)?;
-    match hunt(alloc, &position, winner, most, by, Width::All)? {
-        None => Ok(None),
+) -> Option<usize> {
+    let position = place(rt, fen);
+    let found = hunt(alloc, &position, winner, most, by, Width::All);
+    match found.expect(rt, "memory") {
+        None => None,
         Some(line) => {
-            if !replays(&position, winner, line.items()) {
-                Err("a line that does not replay")?;
-            }
-            Ok(Some(line.items().len()))
+            assert!(rt; replays(&position, winner, line.items()));
+            Some(line.items().len())
         }
     }
 }
 
+/// Asserts that a hunt by a guide finds a mate by the next move, and none before it or for the other side.
+fn mates_next(rt: &impl Abort, alloc: Global, fen: &str, winner: Color, by: Guide) {
+    assert_eq!(rt; found(rt, alloc, fen, winner, 0, by), None, "{fen}");
+    assert_eq!(rt; found(rt, alloc, fen, winner, 1, by), Some(1), "{fen}");
+    assert_eq!(rt; found(rt, alloc, fen, winner.other(), 1, by), None, "{fen}");
+}
+
 #[test]
-fn the_next_move_mates(rt: HostRuntime) -> Result<(), Fail> {
-    let alloc = rt.alloc();
+fn the_next_move_mates(rt: HostRuntime) {
     for (fen, winner) in NEXT {
-        for by in [Guide::Corner, Guide::Flights] {
-            assert_eq!(rt; found(alloc, fen, *winner, 0, by)?, None, "{fen}");
-            assert_eq!(rt; found(alloc, fen, *winner, 1, by)?, Some(1), "{fen}");
-            assert_eq!(rt; found(alloc, fen, winner.other(), 1, by)?, None, "{fen}");
-        }
+        mates_next(&rt, rt.alloc(), fen, *winner, Guide::Corner);
+        mates_next(&rt, rt.alloc(), fen, *winner, Guide::Flights);
     }
-    Ok(())
 }
 
 #[test]
-fn a_mate_on_the_board_is_found_at_once(rt: HostRuntime) -> Result<(), Fail> {
+fn a_mate_on_the_board_is_found_at_once(rt: HostRuntime) {
     let mate = "7k/6Q1/6K1/8/8/8/8/8 b - -";
-    let none = found(rt.alloc(), mate, Color::White, 0, Guide::Corner)?;
+    let none = found(&rt, rt.alloc(), mate, Color::White, 0, Guide::Corner);
     assert_eq!(rt; none, Some(0));
-    Ok(())
+}
+
+/// Asserts whether a hunt by a guide finds a mate.
+fn finds(
+    rt: &impl Abort,
+    alloc: Global,
+    fen: &str,
+    winner: Color,
+    most: u32,
+    by: Guide,
+    want: bool,
+) {
+    let line = found(rt, alloc, fen, winner, most, by);
+    assert!(rt; line.is_some() == want, "{fen} {by:?}");
 }
 
 #[test]
-fn a_mate_further_away_is_found(rt: HostRuntime) -> Result<(), Fail> {
-    let alloc = rt.alloc();
+fn a_mate_further_away_is_found(rt: HostRuntime) {
     for (fen, winner) in FAR {
-        for by in [Guide::Corner, Guide::Flights] {
-            let line = found(alloc, fen, *winner, 20_000, by)?;
-            assert!(rt; line.is_some(), "{fen} {by:?}");
-        }
-        let first = found(alloc, fen, *winner, 1, Guide::Corner)?;
-        assert_eq!(rt; first, None, "{fen}");
+        finds(&rt, rt.alloc(), fen, *winner, 20_000, Guide::Corner, true);
+        finds(&rt, rt.alloc(), fen, *winner, 20_000, Guide::Flights, true);
+        finds(&rt, rt.alloc(), fen, *winner, 1, Guide::Corner, false);
     }
     for (fen, winner) in TO_A_CORNER {
-        let line = found(alloc, fen, *winner, 1_000, Guide::Corner)?;
-        assert!(rt; line.is_some(), "{fen}");
+        finds(&rt, rt.alloc(), fen, *winner, 1_000, Guide::Corner, true);
     }
-    Ok(())
 }
 
 #[test]
-fn where_no_mate_is_none_is_found(rt: HostRuntime) -> Result<(), Fail> {
-    let alloc = rt.alloc();
+fn where_no_mate_is_none_is_found(rt: HostRuntime) {
     for (fen, winner) in NOWHERE {
-        for by in [Guide::Corner, Guide::Flights] {
-            let line = found(alloc, fen, *winner, 300, by)?;
-            assert_eq!(rt; line, None, "{fen}");
-        }
+        finds(&rt, rt.alloc(), fen, *winner, 300, Guide::Corner, false);
+        finds(&rt, rt.alloc(), fen, *winner, 300, Guide::Flights, false);
     }
-    Ok(())
 }

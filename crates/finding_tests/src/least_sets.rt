@@ -1,11 +1,10 @@
 //! The least sets of worked positions, set by set: the loose origins, then each row with the number of its origin, its kind
 //! and its squares.
 
+use crate::from_fen::place;
 use cha_board::Kind;
-use cha_fen::read;
 use mob_sets::{SetRow, Sets};
 use mob_solve::least;
-use std::test::Fail;
 
 /// Positions and their least sets, by the rules in which each man is followed by hand.
 const SETS: &[(&str, u64, &[(u8, Kind, u64)])] = &[
@@ -89,10 +88,9 @@ fn are_sets(sets: &Sets, loose: u64, rows: &[(u8, Kind, u64)]) -> bool {
 }
 
 #[test]
-fn least_sets_are_the_worked_ones(rt: HostRuntime) -> Result<(), Fail> {
+fn least_sets_are_the_worked_ones(rt: HostRuntime) {
     for (fen, loose, rows) in SETS {
-        let sets = least(rt.alloc(), &read(fen.as_bytes())?)?;
+        let sets = least(rt.alloc(), &place(&rt, fen)).expect(&rt, "memory");
         assert!(rt; are_sets(&sets, *loose, rows), "{fen}");
     }
-    Ok(())
 }

@@ -1,14 +1,18 @@
 //! Known helpmates, each found at its own depth and not before, and how many positions a round expands.
 
+ghost use Rattle.std.specs.Prelude.{◌≤◌};
+ghost use Rattle.shard_table.specs.Tables.{IsOfTable};
+
 use crate::from_fen::place;
 use crate::known_plies::KNOWN;
 use cha_board::{Color, Position};
 use cha_fact::Proved;
 use cha_moves::replays;
 use helpmate::{RoundAnswer, RoundDone, round, round_in};
-use shard_table::{Shard, Table};
+use shard_table::{Shard, Table, TablePass};
 use std::alloc::Global;
-use std::test::Fail;
+use std::process::Abort;
+use std::sync::Wait;
 
 /// A lone queen is taken by the only move, after which White's king has five.
 const ONE_MOVE: &str = "k7/1Q6/8/8/8/8/8/4K3 b - -";
@@ -31,98 +35,104 @@ fn moves_of(position: &Position, winner: Color, done: &RoundDone) -> Option<usiz
 }
 
 /// Whether a known mate is found in its number of plies by a round of just that depth, and by none before it.
-fn is_found(alloc: Global, fen: &str, winner: Color, plies: u8) -> Result<bool, Fail> {
-    let position = place(fen)?;
-    let mut shard = Shard::new(alloc, 1024)?;
+fn is_found(
+    rt: &impl Abort,
+    alloc: Global,
+    position: &Position,
+    winner: Color,
+    plies: u8,
+    shard: &mut Shard,
+) -> bool {
+    assert!(rt; plies <= 8);
     for depth in 0..plies {
-        if depth <= 8 {
-            let done = round_in(alloc, &position, winner, depth, Some(100_000), &mut shard)?;
-            if !matches!(&done.round, RoundAnswer::NoneWithin) {
-                return Ok(false);
-            }
+        let done = round_in(alloc, position, winner, depth, Some(100_000), shard);
+        let done = done.expect(rt, "memory");
+        if !matches!(&done.round, RoundAnswer::NoneWithin) {
+            return false;
         }
     }
-    if 8 < plies {
-        return Ok(false);
-    }
-    let done = round_in(alloc, &position, winner, plies, Some(100_000), &mut shard)?;
-    Ok(moves_of(&position, winner, &done) == Some(usize::from(plies)))
+    let done = round_in(alloc, position, winner, plies, Some(100_000), shard);
+    moves_of(position, winner, &done.expect(rt, "memory")) == Some(usize::from(plies))
 }
 
 #[test]
-fn known_mates_are_found_at_their_depth(rt: HostRuntime) -> Result<(), Fail> {
+fn known_mates_are_found_at_their_depth(rt: HostRuntime) {
     for (fen, winner, plies) in KNOWN {
-        assert!(rt; is_found(rt.alloc(), fen, *winner, *plies)?, "{fen}");
+        let position = place(&rt, fen);
+        let mut shard = Shard::new(rt.alloc(), 1024).expect(&rt, "memory");
+        let found = is_found(&rt, rt.alloc(), &position, *winner, *plies, &mut shard);
+        assert!(rt; found, "{fen}");
     }
-    Ok(())
 }
 
-#[test]
-fn what_a_place_knows_is_not_expanded(rt: HostRuntime) -> Result<(), Fail> {
-    let alloc = rt.alloc();
-    let position = place(ONE_MOVE)?;
-    let mut empty = Shard::new(alloc, 16)?;
-    let done = round_in(alloc, &position, Color::White, 3, Some(100), &mut empty)?;
+/// Asserts that a round for White, which may expand a hundred positions, finds no mate and expands so many.
+fn finds_none(
+    rt: &impl Abort,
+    alloc: Global,
+    position: &Position,
+    depth: u8,
+    shard: &mut Shard,
+    units: u32,
+)
+    requires { depth ≤ 8 }
+{
+    let done = round_in(alloc, position, Color::White, depth, Some(100), shard);
+    let done = done.expect(rt, "memory");
     assert!(rt; matches!(&done.round, RoundAnswer::NoneWithin));
-    assert_eq!(rt; done.units, 7);
-    let mut shard = Shard::new(alloc, 16)?;
-    let below = round_in(alloc, &place(AFTER_IT)?, Color::White, 2, None, &mut shard)?;
-    assert_eq!(rt; below.units, 6);
-    let known = round_in(alloc, &position, Color::White, 3, Some(100), &mut shard)?;
-    assert!(rt; matches!(&known.round, RoundAnswer::NoneWithin));
-    assert_eq!(rt; known.units, 1);
-    let again = round_in(alloc, &position, Color::White, 3, Some(100), &mut shard)?;
-    assert_eq!(rt; again.units, 0);
-    Ok(())
+    assert_eq!(rt; done.units, units);
 }
 
 #[test]
-fn an_allowance_is_spent(rt: HostRuntime) -> Result<(), Fail> {
+fn what_a_place_knows_is_not_expanded(rt: HostRuntime) {
     let alloc = rt.alloc();
-    let mut shard = Shard::new(alloc, 16)?;
-    let done = round_in(
-        alloc,
-        &Position::start(),
-        Color::Black,
-        4,
-        Some(21),
-        &mut shard,
-    )?;
+    let position = place(&rt, ONE_MOVE);
+    let after = place(&rt, AFTER_IT);
+    let mut empty = Shard::new(alloc, 16).expect(&rt, "memory");
+    finds_none(&rt, alloc, &position, 3, &mut empty, 7);
+    let mut shard = Shard::new(alloc, 16).expect(&rt, "memory");
+    let below = round_in(alloc, &after, Color::White, 2, None, &mut shard);
+    assert_eq!(rt; below.expect(&rt, "memory").units, 6);
+    finds_none(&rt, alloc, &position, 3, &mut shard, 1);
+    finds_none(&rt, alloc, &position, 3, &mut shard, 0);
+}
+
+#[test]
+fn an_allowance_is_spent(rt: HostRuntime) {
+    let alloc = rt.alloc();
+    let start = Position::start();
+    let mut shard = Shard::new(alloc, 16).expect(&rt, "memory");
+    let done = round_in(alloc, &start, Color::Black, 4, Some(21), &mut shard);
+    let done = done.expect(&rt, "memory");
     assert!(rt; matches!(&done.round, RoundAnswer::Spent));
     assert_eq!(rt; done.units, 21);
-    Ok(())
+}
+
+/// A round of two plies for White with a table.
+fn in_table<R: Wait + Abort>(
+    rt: &R,
+    alloc: Global,
+    position: &Position,
+    table: &Table,
+    pass: &mut TablePass,
+) -> RoundDone
+    requires { IsOfTable table.now pass.old }
+    ensures { IsOfTable table.now pass.new }
+{
+    let done = round(rt, alloc, position, Color::White, 2, None, table, pass);
+    done.expect(rt, "memory")
 }
 
 #[test]
-fn a_table_keeps_what_a_round_found(rt: HostRuntime) -> Result<(), Fail> {
+fn a_table_keeps_what_a_round_found(rt: HostRuntime) {
     let alloc = rt.alloc();
-    let position = place(ONE_MOVE)?;
-    let (table, mut pass) = Table::new(alloc, 1024)?;
-    let none = round(
-        &rt,
-        alloc,
-        &position,
-        Color::White,
-        2,
-        None,
-        &table,
-        &mut pass,
-    )?;
+    let position = place(&rt, ONE_MOVE);
+    let mated = place(&rt, "6k1/5ppp/8/8/8/8/5PPP/3R2K1 b - -");
+    let (table, mut pass) = Table::new(alloc, 1024).expect(&rt, "memory");
+    let none = in_table(&rt, alloc, &position, &table, &mut pass);
     assert!(rt; matches!(&none.round, RoundAnswer::NoneWithin));
     assert_eq!(rt; none.units, 2);
-    let again = round(
-        &rt,
-        alloc,
-        &position,
-        Color::White,
-        2,
-        None,
-        &table,
-        &mut pass,
-    )?;
+    let again = in_table(&rt, alloc, &position, &table, &mut pass);
     assert_eq!(rt; again.units, 0);
-    let mated = place("6k1/5ppp/8/8/8/8/5PPP/3R2K1 b - -")?;
-    let mate = round(&rt, alloc, &mated, Color::White, 2, None, &table, &mut pass)?;
+    let mate = in_table(&rt, alloc, &mated, &table, &mut pass);
     assert_eq!(rt; moves_of(&mated, Color::White, &mate), Some(2));
-    Ok(())
 }

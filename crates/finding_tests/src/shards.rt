@@ -7,7 +7,7 @@ use cha_board::{Color, Square};
 use cha_fact::{FactCall, FactReply, Facts, Key, Line, Probe, Proved, Stored};
 use cha_moves::{Move, replays};
 use shard_table::Shard;
-use std::test::Fail;
+use std::process::Abort;
 use turn_cell::Object;
 
 /// Black mates in two moves: 2. g4 Qh4.
@@ -21,41 +21,36 @@ const KNIGHTS: &[(u8, u8)] = &[(6, 23), (62, 45), (23, 6), (45, 62)];
 const MATED: &str = "7k/6Q1/6K1/8/8/8/8/8 b - -";
 
 /// Appends moves.
-fn add(line: &mut Line, steps: &[(u8, u8)]) -> Result<(), Fail> {
+fn add(rt: &impl Abort, line: &mut Line, steps: &[(u8, u8)]) {
     for (from, to) in steps {
-        let from = Square::new(*from).ok_or("no square")?;
-        let to = Square::new(*to).ok_or("no square")?;
-        let promotion = None;
-        let _room = line.push(Move {
-            from,
-            to,
-            promotion,
-        });
+        let step = Move {
+            from: Square::new(*from).expect(rt, "a square"),
+            to: Square::new(*to).expect(rt, "a square"),
+            promotion: None,
+        };
+        assert!(rt; line.push(step));
     }
-    Ok(())
+}
+
+/// A mate.
+fn mate(rt: &impl Abort, fen: &str, winner: Color, line: Line) -> Proved {
+    let position = place(rt, fen);
+    assert!(rt; replays(&position, winner, line.moves()));
+    Proved::mate(&position, winner, line)
 }
 
 /// The mate in two moves, after the knights went out and back so often.
-fn detour(times: u8) -> Result<Proved, Fail> {
-    let position = place(OPEN)?;
+fn detour(rt: &impl Abort, times: u8) -> Proved {
     let mut line = Line::new();
     for _ in 0..times {
-        add(&mut line, KNIGHTS)?;
+        add(rt, &mut line, KNIGHTS);
     }
-    add(&mut line, TWO_MOVES)?;
-    if !replays(&position, Color::Black, line.moves()) {
-        return Err("no mate")?;
-    }
-    Ok(Proved::mate(&position, Color::Black, line))
+    add(rt, &mut line, TWO_MOVES);
+    mate(rt, OPEN, Color::Black, line)
 }
 
-fn mated() -> Result<Proved, Fail> {
-    let position = place(MATED)?;
-    let line = Line::new();
-    if !replays(&position, Color::White, line.moves()) {
-        return Err("no mate")?;
-    }
-    Ok(Proved::mate(&position, Color::White, line))
+fn mated(rt: &impl Abort) -> Proved {
+    mate(rt, MATED, Color::White, Line::new())
 }
 
 /// How much a place knows of a key.
@@ -76,41 +71,43 @@ fn given(shard: &mut Shard, row: Proved) -> Option<Stored> {
     }
 }
 
-#[test]
-fn a_shard_of_one_row_replies_as_told(rt: HostRuntime) -> Result<(), Fail> {
-    let mut shard = Shard::new(rt.alloc(), 1)?;
-    let key = Key::of(&place(OPEN)?, Color::Black);
-    assert_eq!(rt; known(&mut shard, &key), None);
-    assert_eq!(rt; given(&mut shard, detour(1)?), Some(Stored::Added));
-    assert_eq!(rt; given(&mut shard, detour(2)?), Some(Stored::Kept));
-    assert_eq!(rt; known(&mut shard, &key), Some(994));
-    assert_eq!(rt; given(&mut shard, detour(0)?), Some(Stored::Better));
-    assert_eq!(rt; known(&mut shard, &key), Some(998));
-    assert_eq!(rt;
-        known(&mut shard, &Key::of(&place(OPEN)?, Color::White)),
-        None
-    );
-    assert_eq!(rt; given(&mut shard, mated()?), Some(Stored::Evicted(key)));
-    assert_eq!(rt; known(&mut shard, &key), None);
-    Ok(())
+/// Asserts how much a shard knows of a key.
+fn knows(rt: &impl Abort, shard: &mut Shard, key: &Key, want: Option<u32>) {
+    assert!(rt; known(shard, key) == want);
+}
+
+/// Asserts the reply to a row.
+fn replies(rt: &impl Abort, shard: &mut Shard, row: Proved, want: Stored) {
+    assert!(rt; given(shard, row) == Some(want));
 }
 
 #[test]
-fn the_row_used_longest_ago_goes(rt: HostRuntime) -> Result<(), Fail> {
-    let mut shard = Shard::new(rt.alloc(), 2)?;
-    let key = Key::of(&place(OPEN)?, Color::Black);
-    assert_eq!(rt; shard.store(detour(0)?), Stored::Added);
-    let first = mated()?;
+fn a_shard_of_one_row_replies_as_told(rt: HostRuntime) {
+    let mut shard = Shard::new(rt.alloc(), 1).expect(&rt, "memory");
+    let position = place(&rt, OPEN);
+    let key = Key::of(&position, Color::Black);
+    knows(&rt, &mut shard, &key, None);
+    replies(&rt, &mut shard, detour(&rt, 1), Stored::Added);
+    replies(&rt, &mut shard, detour(&rt, 2), Stored::Kept);
+    knows(&rt, &mut shard, &key, Some(994));
+    replies(&rt, &mut shard, detour(&rt, 0), Stored::Better);
+    knows(&rt, &mut shard, &key, Some(998));
+    knows(&rt, &mut shard, &Key::of(&position, Color::White), None);
+    replies(&rt, &mut shard, mated(&rt), Stored::Evicted(key));
+    knows(&rt, &mut shard, &key, None);
+}
+
+#[test]
+fn the_row_used_longest_ago_goes(rt: HostRuntime) {
+    let mut shard = Shard::new(rt.alloc(), 2).expect(&rt, "memory");
+    let key = Key::of(&place(&rt, OPEN), Color::Black);
+    assert!(rt; shard.store(detour(&rt, 0)) == Stored::Added);
+    let first = mated(&rt);
     let last = first.key();
-    assert_eq!(rt; shard.store(first), Stored::Added);
-    assert_eq!(rt; known(&mut shard, &key), Some(998));
-    let position = place("6k1/5ppp/8/8/8/8/8/R3K3 w - -")?;
+    assert!(rt; shard.store(first) == Stored::Added);
+    knows(&rt, &mut shard, &key, Some(998));
     let mut line = Line::new();
-    add(&mut line, &[(0, 56)])?;
-    if !replays(&position, Color::White, line.moves()) {
-        return Err("no mate")?;
-    }
-    let row = Proved::mate(&position, Color::White, line);
-    assert_eq!(rt; shard.store(row), Stored::Evicted(last));
-    Ok(())
+    add(&rt, &mut line, &[(0, 56)]);
+    let row = mate(&rt, "6k1/5ppp/8/8/8/8/8/R3K3 w - -", Color::White, line);
+    assert!(rt; shard.store(row) == Stored::Evicted(last));
 }

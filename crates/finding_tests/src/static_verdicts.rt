@@ -1,33 +1,28 @@
 //! Static verdicts of positions whose answers the field knows, each with its argument. A position is written with a letter
 //! for each side, White first: U where the sets show that it cannot win, and W where they do not.
 
+use crate::from_fen::place;
 use cha_board::{Color, Position};
-use cha_fen::read;
 use mob_solve::static_verdict;
 use std::alloc::Global;
-use std::test::Fail;
+use std::process::Abort;
+
+/// Whether the sets show that a side cannot win.
+fn is_shown(rt: &impl Abort, alloc: Global, position: &Position, side: Color) -> bool {
+    let found = static_verdict(alloc, position, side);
+    found.expect(rt, "memory").is_some()
+}
 
 /// The letters of both sides.
-fn letters(alloc: Global, position: &Position) -> Result<&'static str, Fail> {
-    let white = static_verdict(alloc, position, Color::White)?.is_some();
-    let black = static_verdict(alloc, position, Color::Black)?.is_some();
-    Ok(match (white, black) {
+fn letters(rt: &impl Abort, alloc: Global, position: &Position) -> &'static str {
+    let white = is_shown(rt, alloc, position, Color::White);
+    let black = is_shown(rt, alloc, position, Color::Black);
+    match (white, black) {
         (true, true) => "UU",
         (true, false) => "UW",
         (false, true) => "WU",
         (false, false) => "WW",
-    })
-}
-
-/// The first position whose letters are others.
-fn first_other<'a>(alloc: Global, rows: &[(&'a str, &str)]) -> Result<Option<&'a str>, Fail> {
-    for (fen, want) in rows {
-        let position = read(fen.as_bytes())?;
-        if letters(alloc, &position)? != *want {
-            return Ok(Some(*fen));
-        }
     }
-    Ok(None)
 }
 
 /// Positions with the letters of both sides, and before each the argument.
@@ -223,7 +218,9 @@ const VERDICTS: &[(&str, &str)] = &[
 ];
 
 #[test]
-fn sides_that_cannot_win_are_told_from_those_that_may(rt: HostRuntime) -> Result<(), Fail> {
-    assert_eq!(rt; first_other(rt.alloc(), VERDICTS)?, None);
-    Ok(())
+fn sides_that_cannot_win_are_told_from_those_that_may(rt: HostRuntime) {
+    for (fen, want) in VERDICTS {
+        let position = place(&rt, fen);
+        assert!(rt; letters(&rt, rt.alloc(), &position) == *want, "{fen}");
+    }
 }

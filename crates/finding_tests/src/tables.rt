@@ -9,9 +9,9 @@ use cha_board::{Color, Kind, Man, Packed, Position, Rights};
 use cha_fact::{Facts, Key, Probe, Proved, Stored};
 use cha_moves::is_mate;
 use shard_table::{Shard, StillOut, Table, TableFacts, TablePass, shard_of};
+use std::process::Abort;
 use std::rt::HostRuntime;
 use std::sync::Wait;
-use std::test::Fail;
 use std::thread;
 
 /// Two bare kings with Black to move, where they stand apart.
@@ -179,40 +179,75 @@ fn count_rows(shards: &mut [Shard]) -> Tried
     tried
 }
 
-#[test]
-fn shards_have_their_numbers(rt: HostRuntime) {
-    let cases = [
-        ([0; 5], Color::White, 0),
-        ([0; 5], Color::Black, 1),
-        ([5, 0, 0, 0, 1023], Color::White, 7),
-    ];
-    for (words, winner, number) in cases {
-        let key = Key {
-            packed: Packed { words },
-            winner,
-        };
-        assert_eq!(rt; shard_of(&key), number);
-    }
+/// Asserts the number of the shard of a key.
+fn has_number(rt: &impl Abort, words: [u64; 5], winner: Color, number: u8) {
+    let key = Key {
+        packed: Packed { words },
+        winner,
+    };
+    assert_eq!(rt; shard_of(&key), number);
 }
 
 #[test]
-fn a_shard_of_one_row_keeps_the_last_key(rt: HostRuntime) -> Result<(), Fail> {
-    let (table, mut pass) = Table::new(rt.alloc(), 1)?;
-    let home = kings(4, 60).ok_or("no position")?;
-    let out = kings(4, 37).ok_or("no position")?;
+fn shards_have_their_numbers(rt: HostRuntime) {
+    has_number(&rt, [0; 5], Color::White, 0);
+    has_number(&rt, [0; 5], Color::Black, 1);
+    has_number(&rt, [5, 0, 0, 0, 1023], Color::White, 7);
+}
+
+/// Two bare kings that stand apart, with Black to move.
+fn apart(rt: &impl Abort, white: usize, black: usize) -> Position
+    requires white { white < 64 }
+    requires black { black < 64 }
+{
+    kings(white, black).expect(rt, "a position")
+}
+
+/// That White does not mate within so many plies.
+fn none_within(rt: &impl Abort, position: &Position, depth: u8) -> Proved
+    requires { depth ≤ 1 }
+{
+    no_mate(position, depth).expect(rt, "no mate")
+}
+
+/// Asserts the reply of a table to a row.
+fn replies<R: Wait + Abort>(rt: &R, table: &Table, pass: &mut TablePass, row: Proved, want: Stored)
+    requires { IsOfTable table.now pass.old }
+    ensures { IsOfTable table.now pass.new }
+{
+    assert!(rt; table.store(rt, pass, row) == want);
+}
+
+/// Asserts how much a table knows of a key.
+fn knows<R: Wait + Abort>(rt: &R, table: &Table, pass: &mut TablePass, key: &Key, want: Option<u32>)
+    requires { IsOfTable table.now pass.old }
+    ensures { IsOfTable table.now pass.new }
+{
+    assert!(rt; known_at(rt, table, pass, key) == want);
+}
+
+#[test]
+fn a_shard_of_one_row_keeps_the_last_key(rt: HostRuntime) {
+    let home = apart(&rt, 4, 60);
+    let out = apart(&rt, 4, 37);
     let key = Key::of(&home, Color::White);
     assert_eq!(rt; shard_of(&key), shard_of(&Key::of(&out, Color::White)));
-    let row = no_mate(&home, 0).ok_or("mate")?;
-    assert_eq!(rt; table.store(&rt, &mut pass, row.copy()), Stored::Added);
-    assert_eq!(rt; table.store(&rt, &mut pass, row), Stored::Kept);
-    assert_eq!(rt; known_at(&rt, &table, &mut pass, &key), Some(0));
-    let more = no_mate(&home, 1).ok_or("mate")?;
-    assert_eq!(rt; table.store(&rt, &mut pass, more), Stored::Better);
-    assert_eq!(rt; known_at(&rt, &table, &mut pass, &key), Some(1));
-    let other = no_mate(&out, 0).ok_or("mate")?;
-    assert_eq!(rt; table.store(&rt, &mut pass, other), Stored::Evicted(key));
-    assert_eq!(rt; known_at(&rt, &table, &mut pass, &key), None);
-    Ok(())
+    let row = none_within(&rt, &home, 0);
+    let (table, mut pass) = Table::new(rt.alloc(), 1).expect(&rt, "memory");
+    replies(&rt, &table, &mut pass, row.copy(), Stored::Added);
+    replies(&rt, &table, &mut pass, row, Stored::Kept);
+    knows(&rt, &table, &mut pass, &key, Some(0));
+    replies(
+        &rt,
+        &table,
+        &mut pass,
+        none_within(&rt, &home, 1),
+        Stored::Better,
+    );
+    knows(&rt, &table, &mut pass, &key, Some(1));
+    let other = none_within(&rt, &out, 0);
+    replies(&rt, &table, &mut pass, other, Stored::Evicted(key));
+    knows(&rt, &table, &mut pass, &key, None);
 }
 
 #[test]

@@ -78,7 +78,7 @@ fn sought(
     }
     let two = match quest.width {
         Width::All => None,
-        Width::Telling => two_plies(alloc, position, quest.winner, Choice::all())?,
+        Width::Telling => two_plies(alloc, position, quest.winner, Choice::all(), None)?,
     };
     match two {
         None => search(alloc, position, quest),

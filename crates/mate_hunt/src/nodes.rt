@@ -11,6 +11,9 @@ const USUAL_PATH: usize = 64;
 /// How many slots there are at first.
 const FIRST_SLOTS: usize = 2048;
 
+/// For how many positions there is room at first.
+const FIRST_NODES: usize = 1024;
+
 /// How many times as many slots there are once half of them are taken.
 const GROWTH: usize = 4;
 
@@ -67,7 +70,7 @@ impl Nodes {
         let mut slots = Vec::new(alloc);
         slots.resize(FIRST_SLOTS, None)?;
         let mut nodes = Nodes {
-            nodes: Vec::new(alloc),
+            nodes: Vec::with_capacity(alloc, FIRST_NODES)?,
             slots,
             fronts: [None; 64],
             used: 0,
@@ -190,7 +193,7 @@ impl Nodes {
     }
 
     /// Where the position with a number came from. `None` for the first one.
-    fn origin(&self, name: u32) -> Option<Origin> {
+    pub fn origin(&self, name: u32) -> Option<Origin> {
         self.nodes.get(name as usize)?.origin
     }
 

@@ -14,7 +14,7 @@ pub struct Scene {
     pub losers: SquareSet,
     /// The winner's men that alone stand between the king and another man that aims at it.
     pub screens: SquareSet,
-    /// The squares from which a bishop, and a rook, would aim at the king.
+    /// The squares from which a bishop, and a rook, would aim at the king, where the winner has men that go so.
     pub bishop_checks: SquareSet,
     pub rook_checks: SquareSet,
 }
@@ -56,6 +56,17 @@ fn aims_of(side: Color, kind: Kind, men: SquareSet, over: SquareSet) -> SquareSe
     all
 }
 
+/// The squares from which a man of a kind would aim at a king, where a side has such men or queens.
+fn line_checks(position: &Position, side: Color, kind: Kind, king: Square) -> SquareSet {
+    let men = position.placement();
+    let lines = men.all_of_kind(kind).joined(men.all_of_kind(Kind::Queen));
+    if lines.common(men.of_side(side)).is_empty() {
+        SquareSet::empty()
+    } else {
+        aims(side, kind, king, men.occupied())
+    }
+}
+
 impl Scene {
     /// What is seen of a position.
     pub fn of(position: &Position) -> Scene {
@@ -74,8 +85,8 @@ impl Scene {
             winners,
             losers,
             screens: screens(position, winner, king, occupied),
-            bishop_checks: aims(loser, Kind::Bishop, king, occupied),
-            rook_checks: aims(loser, Kind::Rook, king, occupied),
+            bishop_checks: line_checks(position, winner, Kind::Bishop, king),
+            rook_checks: line_checks(position, winner, Kind::Rook, king),
         }
     }
 

@@ -1,5 +1,8 @@
 //! The search along a guide.
 
+ghost use Rattle.std.specs.Prelude.{Contains};
+ghost use Rattle.cha_moves.specs.Moves.{legal as legal_moves};
+
 use crate::choice::{Choice, Width};
 use crate::cutting::cut_line;
 use crate::mating::seen_mate;
@@ -7,7 +10,7 @@ use crate::nodes::{Nodes, Origin};
 use cha_board::{Color, Kept, Position};
 use cha_list::NoMemory;
 use cha_moves::{Move, after, legal};
-use search_guide::{Guide, guide};
+use search_guide::{Guide, hopeful_guide};
 use std::alloc::Global;
 
 /// What a hunt looks for, and how.
@@ -20,7 +23,41 @@ pub struct Quest {
     pub width: Width,
 }
 
-/// Lets the positions wait that the followed moves of a position reach, unless they were met.
+/// Whether each move of a position leaves the winner nothing to mate with.
+fn is_hopeless(alloc: Global, position: &Position, winner: Color) -> Result<bool, NoMemory> {
+    let moves = legal(alloc, position)?;
+    for m in &moves {
+        let next = after(position, *m);
+        if hopeful_guide(Guide::Corner, &next, winner).is_some() {
+            return Ok(false);
+        }
+    }
+    Ok(true)
+}
+
+/// Lets the position after a move wait, unless it was met or the guide tells that the winner has nothing to mate with.
+#[inline(always)]
+fn add_after(
+    nodes: &mut Nodes,
+    parent: u32,
+    here: &Position,
+    by: Move,
+    quest: &Quest,
+) -> Result<(), NoMemory>
+    requires { Contains (legal_moves here.now) by }
+{
+    let next = after(here, by);
+    let kept = Kept::of(&next);
+    let Some(slot) = nodes.free_slot(&kept) else {
+        return Ok(());
+    };
+    let Some(list) = hopeful_guide(quest.by, &next, quest.winner) else {
+        return Ok(());
+    };
+    nodes.add(slot, kept, Some(Origin { parent, by }), list)
+}
+
+/// Lets the positions wait that the followed moves of a position reach.
 fn expand(
     alloc: Global,
     nodes: &mut Nodes,
@@ -32,16 +69,7 @@ fn expand(
     let moves = legal(alloc, here)?;
     for m in &moves {
         if choice.takes(*m) {
-            let next = after(here, *m);
-            let kept = Kept::of(&next);
-            if let Some(slot) = nodes.free_slot(&kept) {
-                let list = guide(quest.by, &next, quest.winner);
-                let origin = Origin {
-                    parent: name,
-                    by: *m,
-                };
-                nodes.add(slot, kept, Some(origin), list)?;
-            }
+            add_after(nodes, name, here, *m, quest)?;
         }
     }
     Ok(())
@@ -54,6 +82,10 @@ pub fn search(
     position: &Position,
     quest: &Quest,
 ) -> Result<Option<Vec<Move>>, NoMemory> {
+    // The other guide tells by itself.
+    if quest.by == Guide::Flights && is_hopeless(alloc, position, quest.winner)? {
+        return Ok(None);
+    }
     let mut nodes = Nodes::new(alloc, position)?;
     let Some(root) = nodes.pop() else {
         return Ok(None);

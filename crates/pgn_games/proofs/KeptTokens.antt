@@ -212,6 +212,16 @@ pub nothing_more : (fed piece : List ℕ) → fed ≡ [] → piece ≡ [] → To
 unfolding settled_games settled_tokens games_ended has_half_mark has_mark settled_after
 nothing_more fed piece e f = rw (e, f) ([], refl, omega arith, omega arith)
 
+-- where each settled game was given, a piece is needed
+pub needed : (fed bytes piece now : List ℕ) (game behind : List Placed) (place : _) (given g : ℕ) → IsCut (settled_tokens fed) (game ++ behind) given → IsScanned game place → behind ≡ [] → bytes ≡ fed
+    → now ≡ bytes ++ piece → length piece ≤ 8388608 → g ≡ given → (last : List ℕ) × TookNoMore now last g
+needed fed bytes piece now game behind place given g h scanned none e taken few same =
+    (piece, (bytes, taken, few, omega (arith, all_settled fed bytes game behind place given h scanned none e, same)))
+
+-- what was taken stays, and no fewer games are given
+pub waits_on : (taken taken' : List ℕ) (given given' : ℕ) → (piece : List ℕ) × TookNoMore taken piece given → taken' ≡ taken → given ≤ given' → (piece : List ℕ) × TookNoMore taken' piece given'
+waits_on taken taken' given given' w e p = (w.0, (w.1.0, e ∙ w.1.1, w.1.2, omega (arith, w.1.3, p)))
+
 -- the game is given, and those behind it are kept
 pub gave_is_open : (fed : List ℕ) (lexer_ended : Bool) (game behind : List Placed) (piece : List ℕ) (used given taken : ℕ) (game' : List Placed) (given' : ℕ) → IsOpen fed lexer_ended (game ++ behind) piece used given taken
     → first_end Before (game ++ behind) ≡ Some (length game) → game' ≡ [] → given' ≡ given + 1 → IsOpen fed lexer_ended (game' ++ behind) piece used given' taken

@@ -7,6 +7,7 @@ use Rattle.pgn_games.specs.declared.token_turns.Place.TheVariants.{Before}
 use Rattle.pgn_games.specs.declared.cutter.Cutter.{Cutter}
 use Rattle.pgn_games.specs.Games.{is_closed}
 use Rattle.pgn_games.specs.Reading.{TookNoMore}
+use Rattle.pgn_games.specs.Settling.{settled_games}
 use Rattle.pgn_games.specs.Holding.{first_end, IsScanned, IsOpen, IsLast}
 
 -- the bytes that were taken of the source
@@ -24,7 +25,7 @@ IsScannedAt c = IsScanned c.game c.place
 
 -- its last piece was taken when it was needed
 abbrev pub WaitsAt : Cutter → Type 0
-WaitsAt c = TookNoMore (taken_by c) c.piece.items c.given
+WaitsAt c = (piece : List ℕ) × TookNoMore (taken_by c) piece c.given
 
 -- its game is whole
 abbrev pub HasGame : Cutter → Type 0
@@ -42,10 +43,11 @@ pub record IsHeld (c : Cutter) (ended failed : Bool) : Type 0 where
   pub closed_is : ended ≡ true → c.closed ≡ is_closed (taken_by c)
   pub at_last : ended ≡ true → failed ≡ false → IsLastAt c × IsScannedAt c
 
--- the same of a reader of a source, which takes a piece only when it is needed
+-- the same of a reader of a source, which takes a piece, and its end, only when it is needed
 pub record IsReading (c : Cutter) (ended failed : Bool) : Type 0 where
   pub held : IsHeld c ended failed
-  pub waits : ended ≡ false → failed ≡ false → WaitsAt c
+  pub waits : WaitsAt c
+  pub none_settled : ended ≡ true → settled_games (taken_by c) ≤ c.given
 
 -- nothing is left of a cutter's piece
 abbrev pub IsUsedUp : Cutter → Type 0

@@ -193,8 +193,10 @@ impl Cutter {
         ensures given { self.new.given ≡ self.old.given }
         ensures first { take self.old.given (placed_games (taken_by self.new)) ≡ take self.old.given (placed_games (taken_by self.old)) }
         ensures whole { result ≡ Ok Advanced.Whole → IsOpenAt self.new × HasGame self.new }
-        ensures waits { result ≡ Ok Advanced.Whole → WaitsAt self.new }
+        ensures waits { WaitsAt self.new }
         ensures ended { result ≡ Ok Advanced.Ended → IsLastAt self.new × IsScannedAt self.new × IsAtEnd (S.left source.new) }
+        ensures none_settled { result ≡ Ok Advanced.Ended → settled_games (taken_by self.new) ≤ self.old.given }
+        ensures at_hand { self.old.given < settled_games (taken_by self.old) → source.new ≡ source.old }
         ensures closed { result ≡ Ok Advanced.Ended → self.new.closed ≡ is_closed (taken_by self.new) }
         ensures read_fault { result ≡ Err ReadEnd.ReadFault → Rose (S.faults source.old) (S.faults source.new) × (settled_games (taken_by self.new) ≤ self.old.given) }
         ensures too_long { (result ≡ Err ReadEnd.TooLong) ↔ (MOST_BYTES < length (taken_by self.new)) }

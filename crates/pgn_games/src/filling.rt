@@ -10,9 +10,12 @@ use cha_outside::{Got, MOST_BYTES, ReadEnd, Source};
 /// How many bytes the first read asks for, where so many may still be taken.
 const PIECE: usize = 65_536;
 
-/// How many bytes a later read asks for at most. It asks for twice as many as the last one gave: a file comes in large pieces, whose
-/// games are judged side by side, and what comes bit by bit needs no more room than before.
+/// How many bytes a later read asks for at most.
 const MOST_PIECE: usize = 8_388_608;
+
+/// How many times as many bytes a later read asks for as the last one gave: a file soon comes in large pieces, whose games are judged side
+/// by side, and what comes bit by bit needs little room. Before each read all that is judged is written, so that threads wait.
+const GROWTH: usize = 8;
 
 /// The most bytes that are taken of a source: 4,096 more than a text may have, by which it is seen to be too long.
 pub const MOST_TAKEN: usize = MOST_BYTES + 4096;
@@ -26,8 +29,8 @@ pub enum Filled {
     End,
 }
 
-/// Reads the next piece of a source, in place of the last one. It asks for twice as many bytes as the last one has, but for 65,536 at
-/// least, 8,388,608 at most, and never for more than `most`. The room is what is read into; it grows, and serves again.
+/// Reads the next piece of a source, in place of the last one. It asks for eight times as many bytes as the last one has, but for 65,536
+/// at least, 8,388,608 at most, and never for more than `most`. The room is what is read into; it grows, and serves again.
 pub fn fill<S: Source>(
     piece: &mut Vec<u8>,
     room: &mut Vec<u8>,
@@ -45,7 +48,7 @@ pub fn fill<S: Source>(
     ensures not_long { result ≡ Err ReadEnd.TooLong → ⊥ }
     ensures later { S.faults source.old ≤ S.faults source.new }
 {
-    let size = most.min((2 * piece.len()).max(PIECE).min(MOST_PIECE));
+    let size = most.min(piece.len().saturating_mul(GROWTH).clamp(PIECE, MOST_PIECE));
     piece.clear();
     let (Ok(()), Ok(())) = (room.resize(size, 0), piece.try_reserve(size)) else {
         return Err(ReadEnd::NoMemory);

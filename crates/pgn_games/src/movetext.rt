@@ -9,8 +9,8 @@ ghost use Rattle.pgn_games.specs.Summing.{word_outside, with_word};
 use crate::marks::ResultMark;
 use crate::played::Words;
 use crate::token_turns::{mark, word_mark};
-use cha_list::{NoMemory, Text};
-use pgn_lex::{Placed, Token};
+use cha_list::NoMemory;
+use pgn_lex::{Placed, Spelling, Token};
 
 /// How many move words of a game are kept.
 const KEPT: usize = 12_001;
@@ -63,7 +63,7 @@ pub fn unclosed(token: &Token) -> bool
 }
 
 /// Keeps a word that is a move outside variations, while there is room. On a refusal no word is kept.
-pub fn keep_word(depth: usize, word: Text, words: &mut Words) -> Result<(), NoMemory>
+pub fn keep_word(depth: usize, word: Spelling, words: &mut Words) -> Result<(), NoMemory>
     requires { length words.old ≤ 12001 }
     ensures ok { OnOk result (words.new ≡ take 12001 (with_word words.old (word_outside depth (Word word)))) }
     ensures err { OnErr result (words.new ≡ words.old) }

@@ -3,10 +3,11 @@
 use crate::faults::GameFault;
 use crate::marks::ResultMark;
 use cha_board::Position;
-use cha_list::{Listed, Text};
+use cha_list::Listed;
+use pgn_lex::Spelling;
 
 /// Move words in order, each of at least one byte and at most 255.
-pub type Words = Listed<Text>;
+pub type Words = Listed<Spelling>;
 
 /// A game, with what its text says of it. The moves are words that nobody has resolved yet.
 #[derive(Drop)]

@@ -75,11 +75,14 @@ impl Reader {
 
     /// The next game of a source, or None where the source has ended and all its games were given.
     ///
-    /// A game whose tags tell no other position begins at the opening. It reads no further piece, of at most 8,388,608 bytes, than the
-    /// game needs: a game is given once the byte behind its last token was taken. The games given are the first games of the bytes
-    /// taken, in order. `ReadFault` comes only where the source failed in this call, and each game that is settled in the bytes taken
-    /// was given before; `TooLong` comes where the source gave more than 268,435,456 bytes (at most 4,096 more are taken), and
-    /// `NoMemory` where the allocator refused memory. The time of all calls together grows as the number of bytes.
+    /// A game whose tags tell no other position begins at the opening. Nothing is read where a game is at hand that is settled, and no
+    /// further piece, of at most 8,388,608 bytes, than the game needs, whatever the answer: a game is given once the byte behind its last
+    /// token was taken. The end of the source too is taken only where each game that is settled was given before. The games given are the
+    /// first games of the bytes taken, in order.
+    ///
+    /// `ReadFault` comes only where the source failed in this call, and each game that is settled in the bytes taken was given before;
+    /// `TooLong` comes where the source gave more than 268,435,456 bytes (at most 4,096 more are taken), and `NoMemory` where the
+    /// allocator refused memory. The time of all calls together grows as the number of bytes.
     pub fn next<S: Source>(&mut self, source: &mut S) -> Result<Option<PlacedGame>, ReadEnd>
         requires { self.old.failed ≡ false }
         ensures bytes { Takes (S.left source.old) (S.left source.new) self.old.taken self.new.taken }
@@ -93,7 +96,9 @@ impl Reader {
         ensures end { self.old.ended ≡ false → self.new.ended ≡ true → IsAtEnd (S.left source.new) }
         ensures read_fault { result ≡ Err ReadEnd.ReadFault → Rose (S.faults source.old) (S.faults source.new) }
         ensures before_end { self.new.ended ≡ false → IfOk result (λ found. IfSome found (λ game. self.old.given < settled_games self.new.taken)) }
-        ensures no_more { self.new.ended ≡ false → IfOk result (λ found. IfSome found (λ game. (piece : List ℕ) × TookNoMore self.new.taken piece self.old.given)) }
+        ensures no_more { (piece : List ℕ) × TookNoMore self.new.taken piece self.old.given }
+        ensures none_settled { self.new.ended ≡ true → settled_games self.new.taken ≤ self.old.given }
+        ensures at_hand { self.old.given < settled_games self.old.taken → source.new ≡ source.old }
         ensures settled { result ≡ Err ReadEnd.ReadFault → settled_games self.new.taken ≤ self.old.given }
         ensures too_long { (result ≡ Err ReadEnd.TooLong) ↔ (MOST_BYTES < length self.new.taken) }
         ensures few { length self.new.taken ≤ MOST_BYTES + 4096 }
@@ -133,7 +138,8 @@ impl Reader {
         ensures settled { IfOk result (λ found. IfSome found (λ game. self.old.given < settled_games self.new.taken)) }
         ensures open { self.old.ended ≡ false → result ≡ Ok None → settled_games self.new.taken ≤ self.old.given }
         ensures ended { self.old.ended ≡ true → result ≡ Ok None }
-        ensures no_more { self.old.ended ≡ false → (piece : List ℕ) × TookNoMore self.new.taken piece self.old.given }
+        ensures no_more { (piece : List ℕ) × TookNoMore self.new.taken piece self.old.given }
+        ensures none_settled { self.new.ended ≡ true → settled_games self.new.taken ≤ self.old.given }
         ensures few { length self.new.taken ≤ MOST_BYTES }
         ensures failed { self.new.failed ≡ is_err result }
     {

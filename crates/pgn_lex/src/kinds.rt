@@ -1,5 +1,6 @@
 //! The tokens of PGN, and where they stand.
 
+use crate::spelling::Spelling;
 use cha_list::Text;
 
 /// What a piece of a PGN text says. White space, comments, annotations as `$5`, move numbers, and judgements as `!?` that
@@ -13,7 +14,7 @@ pub enum Token {
     /// A bracket that begins no tag pair on its line. It stands for the rest of the line.
     BadTag,
     /// A word, as `e4`, `O-O-O+` or `1/2-1/2`, of which the first 255 bytes are kept.
-    Word(Text),
+    Word(Spelling),
     /// `*`, the mark of a game without a result (PGN standard, 8.2.6).
     Star,
     /// `(`, which begins a variation (PGN standard, 8.2.5).

@@ -2,7 +2,7 @@
 //!
 //! `classes` has the bytes that PGN names, `kinds` the tokens, `reading` goes from piece to piece, `piece_rules` is the
 //! table of what begins a piece, `lines` counts line feeds, and `comments`, `word_tokens`, `tags` and `tag_values` have one function for each
-//! rule; `pieces` has what these give, and `order` the law of the places of tokens.
+//! rule; `pieces` has what these give, `spelling` the bytes of a word, and `order` the law of the places of tokens.
 //!
 //! `machine` is the lexer that takes single bytes, over `stages`, what each byte does, and `saying`, the tokens of pieces that
 //! ended; `history` tells contracts what was fed, and `settling` has the law of the tokens that are known before the rest.
@@ -20,6 +20,7 @@ mod pieces;
 mod reading;
 mod saying;
 mod settling;
+mod spelling;
 mod stages;
 mod tag_values;
 mod tags;
@@ -31,3 +32,4 @@ pub use machine::Lexer;
 pub use order::tokens_stand_in_order;
 pub use reading::tokens_of;
 pub use settling::settled_tokens_are_the_first;
+pub use spelling::Spelling;

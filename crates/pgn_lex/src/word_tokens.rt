@@ -11,7 +11,8 @@ ghost use Rattle.pgn_lex.specs.Pieces.{word_token, word_piece};
 use crate::classes::PgnClass;
 use crate::kinds::Token;
 use crate::pieces::Piece;
-use cha_list::{Class, NoMemory, Text, all_of, run_of, text_of};
+use crate::spelling::Spelling;
+use cha_list::{Class, NoMemory, all_of, run_of};
 use std::alloc::Global;
 
 /// How many bytes of a word are kept.
@@ -26,7 +27,7 @@ fn gives_none(word: &[u8]) -> bool
 
 /// The token of a word, by the bytes that are kept of it.
 #[tactic(auto, unfolding(crate::specs::Pieces::word_token))]
-fn word_said(word: Text) -> Option<Token>
+fn word_said(word: Spelling) -> Option<Token>
     ensures { result ≡ word_token word }
 {
     if gives_none(word.items()) {
@@ -35,7 +36,7 @@ fn word_said(word: Text) -> Option<Token>
     Some(Token::Word(word))
 }
 
-/// The token of the bytes of a word. Where it gives none, no memory is taken.
+/// The token of the bytes of a word. It takes memory only for a word of more than 16 bytes.
 #[tactic(auto, unfolding(crate::specs::Pieces::word_token))]
 pub fn word_token_of(alloc: Global, word: &[u8]) -> Result<Option<Token>, NoMemory>
     ensures { IfOk result (λ token. token ≡ word_token word.now) }
@@ -43,8 +44,7 @@ pub fn word_token_of(alloc: Global, word: &[u8]) -> Result<Option<Token>, NoMemo
     if gives_none(word) {
         return Ok(None);
     }
-    let text = text_of(alloc, word)?;
-    Ok(Some(Token::Word(text)))
+    Ok(Some(Token::Word(Spelling::of(alloc, word)?)))
 }
 
 /// A word, which begins with this byte.
@@ -55,7 +55,7 @@ pub fn word(alloc: Global, byte: u8, rest: &[u8]) -> Result<Piece, NoMemory>
     let size = run_of(PgnClass::WordByte, rest);
     let (run, _) = rest.split_at(size);
     let (kept, _) = run.split_at(size.min(KEPT - 1));
-    let mut text = text_of(alloc, &[byte])?;
+    let mut text = Spelling::of(alloc, &[byte])?;
     text.append(kept)?;
     Ok(Piece {
         more: size,

@@ -1,5 +1,5 @@
 -- The bytes that are kept, and the games among them.
-use Rattle.std.proofs.Common.{◌≡◌, ℕ, zero, suc, ◌+◌, ◌-◌, ◌^◌, ◌<◌, ◌≤◌, List, [], ◌∷◌, ◌++◌, Option, Some, None, IfSome, length, take, drop, slice_get, slice_range, refl, sym, ap, ◌∙◌, arith, append-nil, drop-drop, length-append, length-drop, false}
+use Rattle.std.proofs.Common.{◌≡◌, ℕ, zero, suc, ◌+◌, ◌-◌, ◌^◌, ◌<◌, ◌≤◌, List, [], ◌∷◌, ◌++◌, Option, Some, None, IfSome, length, take, drop, slice_get, slice_range, refl, sym, ap, ◌∙◌, arith, append-nil, drop-drop, length-append, length-drop, Bool, false}
 use Rattle.std.proofs.lemmas.List.{drop-append-le, drop-take}
 use Rattle.std.proofs.lemmas.Slice.{between_is}
 use Rattle.cha_outside.specs.declared.gathering.TheConstants.{MOST_BYTES}
@@ -8,7 +8,7 @@ use Rattle.pgn_games.specs.Games.{placed_games}
 use Rattle.pgn_games.specs.Order.{AreInOrder}
 use Rattle.pgn_games.specs.Settling.{settled_games}
 use Rattle.pgn_games.proofs.InOrder.{placed_games_order}
-use Rattle.pgn_games.proofs.KeptTokens.{nothing_more}
+use Rattle.pgn_games.proofs.KeptTokens.{nothing_more, waits_on}
 use Rattle.pgn_games.proofs.Settled.{settled_grow}
 use Rattle.pgn_results.specs.declared.intake.Intake.{Intake}
 use Rattle.pgn_results.specs.Correcting.{between}
@@ -83,7 +83,8 @@ open_more i j piece h games handed_on now given kept start few short needed =
       size = omega (arith, size, h.size, h.some, start.0, ap length kept, lengths, length-drop i.written i.kept);
       some = omega (arith, start.1);
       settled = λ e. omega (arith, given, h.settled refl, settled_grow i.games.taken piece, ap settled_games taken);
-      waits = λ e. (piece, (i.games.taken, taken, short, omega (arith, needed, given)));
+      waits = (piece, (i.games.taken, taken, short, omega (arith, needed, given)));
+      none_settled = λ e. cc;
     }
 
 -- the first games are the same over two readings
@@ -92,9 +93,13 @@ pub first_on : (given games : ℕ) (now mid before : List ℕ) → games ≡ giv
 first_on given games now mid before e second first =
     ap (λ n. take n (placed_games now)) (sym e) ∙ second ∙ ap (λ n. take n (placed_games mid)) e ∙ first
 
--- the piece that came last was needed for the games that are given behind it too
-pub waits_on : (taken taken' : List ℕ) (given given' : ℕ) → Waits taken given → taken' ≡ taken → given ≤ given' → Waits taken' given'
-waits_on taken taken' given given' w e p = (w.0, (w.1.0, e ∙ w.1.1, w.1.2, omega (arith, w.1.3, p)))
+-- a piece that comes where each settled game was given is needed
+pub piece_waits : (taken piece now : List ℕ) (given : ℕ) → now ≡ taken ++ piece → length piece ≤ 8388608 → settled_games taken ≤ given → Waits now given
+piece_waits taken piece now given e short needed = (piece, (taken, e, short, needed))
+
+-- all of what has come waits, where the piece that came last was handed on
+pub arrived_waits : (i : Intake) (taken : List ℕ) (given : ℕ) (ended : Bool) → IsOpen i ended → taken ≡ i.games.taken → i.games.given ≡ given → Waits (taken ++ i.piece.items) given
+arrived_waits i taken given ended h same e = waits_on _ _ _ _ h.waits (ap (λ xs. taken ++ xs) h.handed_on ∙ append-nil taken ∙ same) (omega (arith, e))
 
 -- where nothing has come, no piece was taken
 pub nothing_waits : (taken : List ℕ) (given : ℕ) → taken ≡ [] → given ≡ 0 → Waits taken given

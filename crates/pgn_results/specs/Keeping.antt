@@ -1,5 +1,5 @@
 -- What a reader keeps of the text of its games, and what is written of each.
-use Rattle.std.specs.Prelude.{◌≡◌, ℕ, ◌+◌, ◌≤◌, Bool, false, List, [], ◌∷◌, ◌++◌, length, drop, Option, Some, None}
+use Rattle.std.specs.Prelude.{◌≡◌, ℕ, ◌+◌, ◌≤◌, Bool, true, false, List, [], ◌∷◌, ◌++◌, length, drop, Option, Some, None}
 use Rattle.cha_outside.specs.declared.gathering.TheConstants.{MOST_BYTES}
 use Rattle.pgn_games.specs.declared.marks.ResultMark.{ResultMark}
 use Rattle.pgn_games.specs.declared.played.Span.{Span}
@@ -27,8 +27,8 @@ abbrev pub Waits : List ℕ → ℕ → Type 0
 Waits taken given = (piece : List ℕ) × TookNoMore taken piece given
 
 -- No call failed: the splitter has taken all bytes, and is open as long as the source is; the bytes that are kept are the last ones of
--- them, as many as were not written at least; and as long as the source has not ended, the games given are settled, and the last piece
--- was taken when it was needed.
+-- them, as many as were not written at least; as long as the source has not ended, the games given are settled; the last piece was taken
+-- when it was needed, and the end when each game that is settled was given.
 pub record IsOpen (i : Intake) (ended : Bool) : Type 0 where
   pub handed_on : i.piece.items ≡ []
   pub games : (i.games.failed ≡ false) × (i.games.ended ≡ ended)
@@ -37,7 +37,8 @@ pub record IsOpen (i : Intake) (ended : Bool) : Type 0 where
   pub size : i.start + length i.kept ≡ length i.games.taken
   pub some : i.written ≤ length i.kept
   pub settled : ended ≡ false → i.games.given ≤ settled_games i.games.taken
-  pub waits : ended ≡ false → Waits i.games.taken i.games.given
+  pub waits : Waits i.games.taken i.games.given
+  pub none_settled : ended ≡ true → settled_games i.games.taken ≤ i.games.given
 
 -- the same, as long as no call failed
 abbrev pub IsKept : Intake → Bool → Bool → Type 0

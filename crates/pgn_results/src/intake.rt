@@ -8,7 +8,7 @@ ghost use Rattle.cha_outside.specs.Gathering.{Gathers};
 ghost use Rattle.pgn_games.specs.Games.{placed_games};
 ghost use Rattle.pgn_games.specs.Settling.{settled_games};
 ghost use Rattle.pgn_results.specs.Correcting.{between};
-ghost use Rattle.pgn_results.specs.Keeping.{IsOpen, arrived};
+ghost use Rattle.pgn_results.specs.Keeping.{IsOpen, Waits, arrived};
 
 use cha_list::{NoMemory, Text, text_of};
 use cha_outside::{MOST_BYTES, ReadEnd, Source};
@@ -50,6 +50,7 @@ impl Intake {
         ensures read_fault { result ≡ Err ReadEnd.ReadFault → Rose (S.faults source.old) (S.faults source.new) × (arrived self.new ≡ arrived self.old) }
         ensures too_long { (result ≡ Err ReadEnd.TooLong) ↔ (MOST_BYTES < length (arrived self.new)) }
         ensures few { length (arrived self.new) ≤ MOST_BYTES + 4096 }
+        ensures waits { Waits (arrived self.new) self.old.games.given }
         ensures later { S.faults source.old ≤ S.faults source.new }
     {
         let most = MOST_TAKEN - self.taken() as usize;

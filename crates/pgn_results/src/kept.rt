@@ -87,7 +87,9 @@ impl KeptReader {
         ensures none { result ≡ Ok None → (self.new.ended ≡ true) × (length (placed_games self.new.taken) ≤ self.old.given) }
         ensures first { take self.old.given (placed_games self.new.taken) ≡ take self.old.given (placed_games self.old.taken) }
         ensures before_end { self.new.ended ≡ false → IfOk result (λ found. IfSome found (λ game. self.old.given < settled_games self.new.taken)) }
-        ensures no_more { self.new.ended ≡ false → IfOk result (λ found. IfSome found (λ game. (piece : List ℕ) × TookNoMore self.new.taken piece self.old.given)) }
+        ensures no_more { (piece : List ℕ) × TookNoMore self.new.taken piece self.old.given }
+        ensures none_settled { self.new.ended ≡ true → settled_games self.new.taken ≤ self.old.given }
+        ensures at_hand { self.old.given < settled_games self.old.taken → source.new ≡ source.old }
         ensures still { self.old.ended ≡ true → (self.new.taken ≡ self.old.taken) × (self.new.ended ≡ true) }
         ensures no_more_reads { self.old.ended ≡ true → source.new ≡ source.old }
         ensures end { self.old.ended ≡ false → self.new.ended ≡ true → IsAtEnd (S.left source.new) }
@@ -131,7 +133,7 @@ impl KeptReader {
         ensures settled { IfOk result (λ found. IfSome found (λ game. self.old.given < settled_games self.new.taken)) }
         ensures open { self.old.ended ≡ false → result ≡ Ok None → settled_games self.new.taken ≤ self.old.given }
         ensures ended { self.old.ended ≡ true → result ≡ Ok None }
-        ensures no_more { self.old.ended ≡ false → (piece : List ℕ) × TookNoMore self.new.taken piece self.old.given }
+        ensures no_more { (piece : List ℕ) × TookNoMore self.new.taken piece self.old.given }
         ensures few { length self.new.taken ≤ MOST_BYTES }
         ensures failed { self.new.failed ≡ is_err result }
     {

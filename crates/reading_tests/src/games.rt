@@ -1,5 +1,7 @@
 //! Games of texts, shown as texts.
 
+ghost use Rattle.std.specs.Prelude.{◌≡◌, false};
+
 mod in_pieces;
 mod long_texts;
 mod places;
@@ -10,59 +12,78 @@ use cha_board::Position;
 use cha_fen::{FenFault, write};
 use cha_outside::Pieces;
 use long_texts::{LONG, Long};
-use pgn_games::{Game, GameFault, ReadEnd, Reader, ResultMark};
+use pgn_games::{Game, GameFault, ReadEnd, Reader, ResultMark, Span};
 use places::PLACES;
 use real_files::FILES;
 use small_texts::{BAD_TOKENS, ENDS, STARTS, TAGS, TWO_FAULTS, VARIATIONS};
 use std::alloc::Global;
 use std::process::Abort;
-use std::test::Fail;
 
 const OPENING: &[u8] = b"rnbqkbnr/pppppppp/8/8/8/8/PPPPPPPP/RNBQKBNR w KQkq -";
 
+/// A source that gives a text in pieces of a size, and fails at the numbered call. No call has the number 0.
+fn pieces_of(rt: &impl Abort, alloc: Global, bytes: &[u8], size: u32, failing: u32) -> Pieces {
+    let bytes = bytes.to_vec(alloc).expect(rt, "memory");
+    let sizes = [size].to_vec(alloc).expect(rt, "memory");
+    let fails = [failing].to_vec(alloc).expect(rt, "memory");
+    Pieces::new(bytes, sizes, fails)
+}
+
 /// The games of a text that comes in pieces of a size, as `e4 e5 1-0 | <4k3/8/8/8/8/8/4P3/4K3 w - -> e4 * time #BadToken 12`: the start where it is not the
 /// opening position, the move words, the result, `time` where the game was forfeited on time, and the fault.
-fn shown(alloc: Global, bytes: &[u8], size: u32) -> Result<Vec<u8>, Fail> {
-    let sizes = [size].to_vec(alloc)?;
-    let mut source = Pieces::new(bytes.to_vec(alloc)?, sizes, Vec::new(alloc));
-    let mut reader = Reader::new(alloc)?;
+fn shown(rt: &impl Abort, alloc: Global, bytes: &[u8], size: u32) -> Vec<u8> {
+    let mut source = pieces_of(rt, alloc, bytes, size, 0);
+    let mut reader = Reader::new(alloc).expect(rt, "memory");
     let mut text = Vec::new(alloc);
+    show_all(rt, alloc, &mut reader, &mut source, &mut text);
+    text
+}
+
+/// Appends the games that a reader gives.
+fn show_all(
+    rt: &impl Abort,
+    alloc: Global,
+    reader: &mut Reader,
+    source: &mut Pieces,
+    text: &mut Vec<u8>,
+) {
     for _call in 0..100 {
         if reader.failed() {
-            return Ok(text);
+            return;
         }
-        let Some(found) = reader.next(&mut source)? else {
-            return Ok(text);
-        };
-        show(alloc, &found.game, &mut text)?;
+        match reader.next(source).expect(rt, "no fault") {
+            Some(found) => show(rt, alloc, &found.game, text),
+            None => return,
+        }
     }
-    Ok(text)
 }
 
-fn show(alloc: Global, game: &Game, text: &mut Vec<u8>) -> Result<(), Fail> {
-    let fault = fault_text(alloc, game.fault)?;
+/// Appends a text.
+fn put(rt: &impl Abort, text: &mut Vec<u8>, more: &[u8]) {
+    text.extend_from_slice(more).expect(rt, "memory");
+}
+
+fn show(rt: &impl Abort, alloc: Global, game: &Game, text: &mut Vec<u8>) {
     if !text.is_empty() {
-        text.extend_from_slice(b" | ")?;
+        put(rt, text, b" | ");
     }
-    show_start(alloc, &game.start, text)?;
+    show_start(rt, alloc, &game.start, text);
     for word in game.words.items() {
-        text.extend_from_slice(word.items())?;
-        text.push(b' ')?;
+        put(rt, text, word.items());
+        put(rt, text, b" ");
     }
-    text.extend_from_slice(marked(game.recorded))?;
-    text.extend_from_slice(if game.forfeit { b" time" } else { b"" })?;
-    text.extend_from_slice(fault.as_bytes())?;
-    Ok(())
+    put(rt, text, marked(game.recorded));
+    put(rt, text, if game.forfeit { b" time" } else { b"" });
+    show_fault(rt, alloc, game.fault, text);
 }
 
-fn show_start(alloc: Global, start: &Position, text: &mut Vec<u8>) -> Result<(), Fail> {
-    let start = write(alloc, start)?;
+fn show_start(rt: &impl Abort, alloc: Global, start: &Position, text: &mut Vec<u8>) {
+    let start = write(alloc, start).expect(rt, "memory");
     if start.items() != OPENING {
-        text.push(b'<')?;
-        text.extend_from_slice(start.items())?;
-        text.extend_from_slice(b"> ")?;
+        put(rt, text, b"<");
+        put(rt, text, start.items());
+        put(rt, text, b"> ");
     }
-    Ok(())
 }
 
 fn marked(mark: ResultMark) -> &'static [u8] {
@@ -74,11 +95,15 @@ fn marked(mark: ResultMark) -> &'static [u8] {
     }
 }
 
-fn fault_text(alloc: Global, fault: Option<GameFault>) -> Result<String, Fail> {
-    match fault {
-        None => Ok(String::new(alloc)),
-        Some(GameFault::BadToken(offset)) => Ok(format!(in alloc; " #BadToken {offset}")?),
-        Some(fault) => Ok(format!(in alloc; " #{}", named(fault))?),
+fn show_fault(rt: &impl Abort, alloc: Global, fault: Option<GameFault>, text: &mut Vec<u8>) {
+    let Some(fault) = fault else {
+        return;
+    };
+    put(rt, text, b" #");
+    put(rt, text, named(fault).as_bytes());
+    if let GameFault::BadToken(offset) = fault {
+        let offset = format!(in alloc; " {offset}").expect(rt, "memory");
+        put(rt, text, offset.as_bytes());
     }
 }
 
@@ -97,104 +122,140 @@ fn named(fault: GameFault) -> &'static str {
 }
 
 /// Asserts the games of a text, whatever pieces it comes in.
-fn has_games(rt: &impl Abort, alloc: Global, text: &[u8], want: &[u8]) -> Result<(), Fail> {
-    for size in [1, 2, 7, 4096] {
-        let found = shown(alloc, text, size)?;
+fn has_games(rt: &impl Abort, alloc: Global, text: &[u8], want: &[u8]) {
+    for size in &[1, 2, 7, 4096] {
+        let found = shown(rt, alloc, text, *size);
         assert_eq!(rt; found.as_slice(), want, "{text:?}");
     }
-    Ok(())
+}
+
+/// Asserts the games of each text of a table.
+fn have_games(rt: &impl Abort, alloc: Global, table: &[(&str, &str)]) {
+    for (text, want) in table {
+        has_games(rt, alloc, text.as_bytes(), want.as_bytes());
+    }
 }
 
 #[test]
-fn texts_have_their_games(rt: HostRuntime) -> Result<(), Fail> {
-    for table in [ENDS, VARIATIONS, STARTS, TAGS, TWO_FAULTS, FILES] {
-        for (text, want) in table {
-            has_games(&rt, rt.alloc(), text.as_bytes(), want.as_bytes())?;
-        }
-    }
+fn texts_have_their_games(rt: HostRuntime) {
+    have_games(&rt, rt.alloc(), ENDS);
+    have_games(&rt, rt.alloc(), VARIATIONS);
+    have_games(&rt, rt.alloc(), STARTS);
+    have_games(&rt, rt.alloc(), TAGS);
+    have_games(&rt, rt.alloc(), TWO_FAULTS);
+    have_games(&rt, rt.alloc(), FILES);
     for (text, want) in BAD_TOKENS {
-        has_games(&rt, rt.alloc(), text, want.as_bytes())?;
+        has_games(&rt, rt.alloc(), text, want.as_bytes());
     }
-    Ok(())
 }
 
 /// Where the games of a text stand that comes in pieces of a size, and whether it is closed, as `0-7:1 closed`.
-fn stands(alloc: Global, bytes: &[u8], size: u32) -> Result<Vec<u8>, Fail> {
-    let sizes = [size].to_vec(alloc)?;
-    let mut source = Pieces::new(bytes.to_vec(alloc)?, sizes, Vec::new(alloc));
-    let mut reader = Reader::new(alloc)?;
+fn stands(rt: &impl Abort, alloc: Global, bytes: &[u8], size: u32) -> Vec<u8> {
+    let mut source = pieces_of(rt, alloc, bytes, size, 0);
+    let mut reader = Reader::new(alloc).expect(rt, "memory");
     let mut text = Vec::new(alloc);
+    put_all_places(rt, alloc, &mut reader, &mut source, &mut text);
+    text
+}
+
+/// Appends the places of the games that a reader gives, and whether the text is closed.
+fn put_all_places(
+    rt: &impl Abort,
+    alloc: Global,
+    reader: &mut Reader,
+    source: &mut Pieces,
+    text: &mut Vec<u8>,
+) {
     for _call in 0..100 {
         if reader.failed() {
-            return Ok(text);
+            return;
         }
-        let Some(found) = reader.next(&mut source)? else {
-            text.extend_from_slice(if reader.is_closed() {
-                b"closed"
-            } else {
-                b"open"
-            })?;
-            return Ok(text);
+        let Some(span) = next_span(rt, reader, source) else {
+            put(
+                rt,
+                text,
+                if reader.is_closed() {
+                    b"closed"
+                } else {
+                    b"open"
+                },
+            );
+            return;
         };
-        let span = found.span;
-        let place = format!(in alloc; "{}-{}:{} ", span.start, span.end, span.line)?;
-        text.extend_from_slice(place.as_bytes())?;
+        put_span(rt, alloc, span, text);
     }
-    Ok(text)
+}
+
+/// Where the next game of a source stands.
+fn next_span(rt: &impl Abort, reader: &mut Reader, source: &mut Pieces) -> Option<Span>
+    requires { reader.old.failed ≡ false }
+{
+    match reader.next(source).expect(rt, "no fault") {
+        Some(found) => Some(found.span),
+        None => None,
+    }
+}
+
+/// Appends a place, as `0-7:1 `.
+fn put_span(rt: &impl Abort, alloc: Global, span: Span, text: &mut Vec<u8>) {
+    let place = format!(in alloc; "{}-{}:{} ", span.start, span.end, span.line);
+    put(rt, text, place.expect(rt, "memory").as_bytes());
 }
 
 #[test]
-fn games_stand_in_their_places(rt: HostRuntime) -> Result<(), Fail> {
+fn games_stand_in_their_places(rt: HostRuntime) {
     for (text, want) in PLACES {
-        for size in [1, 2, 7, 4096] {
-            let found = stands(rt.alloc(), text, size)?;
+        for size in &[1, 2, 7, 4096] {
+            let found = stands(&rt, rt.alloc(), text, *size);
             assert_eq!(rt; found.as_slice(), want.as_bytes(), "{text:?}");
         }
     }
-    Ok(())
 }
 
-fn long_text(alloc: Global, long: Long) -> Result<Vec<u8>, Fail> {
+fn long_text(rt: &impl Abort, alloc: Global, long: Long) -> Vec<u8> {
     let mut text = Vec::new(alloc);
     for (part, count) in long {
         for _part in 0..*count {
-            text.extend_from_slice(part.as_bytes())?;
+            put(rt, &mut text, part.as_bytes());
         }
     }
-    Ok(text)
+    text
 }
 
 #[test]
-fn long_texts_have_their_games(rt: HostRuntime) -> Result<(), Fail> {
+fn long_texts_have_their_games(rt: HostRuntime) {
     for (long, want) in LONG {
-        let text = long_text(rt.alloc(), long)?;
-        let want = long_text(rt.alloc(), want)?;
-        has_games(&rt, rt.alloc(), text.as_slice(), want.as_slice())?;
+        let text = long_text(&rt, rt.alloc(), long);
+        let want = long_text(&rt, rt.alloc(), want);
+        has_games(&rt, rt.alloc(), text.as_slice(), want.as_slice());
     }
-    Ok(())
 }
 
 /// Whether the reader of eight bytes in pieces of three failed, and how reading the first game ended, where a read fails.
-fn first_game(alloc: Global, failing: u32) -> Result<(bool, Option<ReadEnd>), Fail> {
-    let bytes = b"e4 * d4 ".to_vec(alloc)?;
-    let sizes = [3].to_vec(alloc)?;
-    let fails = [failing].to_vec(alloc)?;
-    let mut source = Pieces::new(bytes, sizes, fails);
-    let mut reader = Reader::new(alloc)?;
-    match reader.next(&mut source) {
-        Ok(Some(_game)) => Ok((reader.failed(), None)),
-        Ok(None) => Err("no game")?,
-        Err(end) => Ok((reader.failed(), Some(end))),
+fn first_game(rt: &impl Abort, alloc: Global, failing: u32) -> (bool, Option<ReadEnd>) {
+    let mut source = pieces_of(rt, alloc, b"e4 * d4 ", 3, failing);
+    let mut reader = Reader::new(alloc).expect(rt, "memory");
+    let end = first_end(rt, &mut reader, &mut source);
+    (reader.failed(), end)
+}
+
+/// How reading a game ended.
+fn first_end(rt: &impl Abort, reader: &mut Reader, source: &mut Pieces) -> Option<ReadEnd>
+    requires { reader.old.failed ≡ false }
+{
+    match reader.next(source) {
+        Ok(Some(_game)) => None,
+        Ok(None) => panic!(rt; "no game"),
+        Err(end) => Some(end),
     }
 }
 
 /// The first game needs two reads: the byte behind its last token is in the second piece.
 #[test]
-fn a_reader_fails_where_its_source_fails(rt: HostRuntime) -> Result<(), Fail> {
+fn a_reader_fails_where_its_source_fails(rt: HostRuntime) {
     for failing in 1..7 {
-        let (failed, end) = first_game(rt.alloc(), failing)?;
+        let (failed, end) = first_game(&rt, rt.alloc(), failing);
         assert_eq!(rt; failed, failing <= 2, "call {failing}");
         assert!(rt; end.is_none() || end == Some(ReadEnd::ReadFault));
     }
-    Ok(())
 }

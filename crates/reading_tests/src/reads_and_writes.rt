@@ -6,7 +6,6 @@ use cha_outside::{
 use std::alloc::Global;
 use std::io::{self, Read, Write};
 use std::process::Abort;
-use std::test::Fail;
 
 const TEXT: &[u8] = b"4k3/8/8/8/8/8/8/4K3 w - -\r\n";
 
@@ -34,23 +33,30 @@ const UNCUT: Calls = &[
 
 fn gives(rt: &impl Abort, mut source: Pieces, calls: Calls) {
     for (want, bytes) in calls {
-        let mut room = *b"____";
-        assert_eq!(rt; source.read(&mut room), *want);
-        assert_eq!(rt; room.as_slice(), *bytes);
+        gives_once(rt, &mut source, *want, bytes);
     }
 }
 
+fn gives_once(rt: &impl Abort, source: &mut Pieces, want: Got, bytes: &[u8]) {
+    let mut room = *b"____";
+    assert_eq!(rt; source.read(&mut room), want);
+    assert_eq!(rt; room.as_slice(), bytes);
+}
+
+/// A source of these bytes, with the sizes of its pieces, that fails at the numbered calls.
+fn pieces_of(rt: &impl Abort, alloc: Global, bytes: &[u8], sizes: &[u32], fails: &[u32]) -> Pieces {
+    let bytes = bytes.to_vec(alloc).expect(rt, "memory");
+    let sizes = sizes.to_vec(alloc).expect(rt, "memory");
+    let fails = fails.to_vec(alloc).expect(rt, "memory");
+    Pieces::new(bytes, sizes, fails)
+}
+
 #[test]
-fn pieces_are_cut_and_fail_as_asked(rt: HostRuntime) -> Result<(), Fail> {
-    let alloc = rt.alloc();
-    let fails = [2, 5].to_vec(alloc)?;
-    let sizes = [1, 0, 3, 9].to_vec(alloc)?;
-    let bytes = b"abcdefghij".to_vec(alloc)?;
-    gives(&rt, Pieces::new(bytes, sizes, fails), CUT);
-    let bytes = b"ab".to_vec(alloc)?;
-    let source = Pieces::new(bytes, Vec::new(alloc), Vec::new(alloc));
-    gives(&rt, source, UNCUT);
-    Ok(())
+fn pieces_are_cut_and_fail_as_asked(rt: HostRuntime) {
+    let cut = pieces_of(&rt, rt.alloc(), b"abcdefghij", &[1, 0, 3, 9], &[2, 5]);
+    gives(&rt, cut, CUT);
+    let uncut = pieces_of(&rt, rt.alloc(), b"ab", &[], &[]);
+    gives(&rt, uncut, UNCUT);
 }
 
 /// How many bytes, the size of a piece, and the calls that they take, the end among them: each asks for 4,096.
@@ -64,16 +70,15 @@ const IN_PIECES: &[(usize, u32, u32)] = &[
 
 /// How reading so many bytes in pieces ends early, where a call fails.
 fn end_in_pieces(
+    rt: &impl Abort,
     alloc: Global,
     count: usize,
     size: u32,
     failing: u32,
-) -> Result<Option<ReadEnd>, Fail> {
-    let bytes = vec![in alloc; b' '; count]?;
-    let sizes = [size].to_vec(alloc)?;
-    let fails = [failing].to_vec(alloc)?;
-    let mut source = Pieces::new(bytes, sizes, fails);
-    Ok(read_all(alloc, &mut source, count).err())
+) -> Option<ReadEnd> {
+    let bytes = vec![in alloc; b' '; count].expect(rt, "memory");
+    let mut source = pieces_of(rt, alloc, bytes.as_slice(), &[size], &[failing]);
+    read_all(alloc, &mut source, count).err()
 }
 
 /// How many bytes there are and may be, and how reading them ends early.
@@ -87,10 +92,10 @@ const LIMITS: &[(u64, usize, Option<ReadEnd>)] = &[
 ];
 
 #[test]
-fn a_whole_input_is_read_or_fails(rt: HostRuntime) -> Result<(), Fail> {
+fn a_whole_input_is_read_or_fails(rt: HostRuntime) {
     for (count, size, calls) in IN_PIECES {
         for failing in 1..calls.saturating_add(3) {
-            let end = end_in_pieces(rt.alloc(), *count, *size, failing)?;
+            let end = end_in_pieces(&rt, rt.alloc(), *count, *size, failing);
             assert_eq!(rt; end.is_some(), failing <= *calls);
             assert!(rt; end.is_none() || end == Some(ReadEnd::ReadFault));
         }
@@ -99,17 +104,15 @@ fn a_whole_input_is_read_or_fails(rt: HostRuntime) -> Result<(), Fail> {
         let found = read_all(rt.alloc(), &mut Repeat::new(b' ', *count), *limit);
         assert_eq!(rt; found.err(), *want);
     }
-    Ok(())
 }
 
 #[test]
-fn readers_and_bytes_are_read_to_their_ends(rt: HostRuntime) -> Result<(), Fail> {
-    let alloc = rt.alloc();
-    let found = read_all(alloc, &mut ReadFrom::new(TEXT), 100);
+fn readers_and_bytes_are_read_to_their_ends(rt: HostRuntime) {
+    let found = read_all(rt.alloc(), &mut ReadFrom::new(TEXT), 100);
     assert_eq!(rt; found.err(), None);
-    let found = read_all(alloc, &mut Bytes::new(TEXT.to_vec(alloc)?), 100);
+    let bytes = TEXT.to_vec(rt.alloc()).expect(&rt, "memory");
+    let found = read_all(rt.alloc(), &mut Bytes::new(bytes), 100);
     assert_eq!(rt; found.err(), None);
-    Ok(())
 }
 
 /// A reader whose first call fails.
@@ -140,8 +143,11 @@ fn a_reader_of_std_gives_bytes_after_an_error(rt: HostRuntime) {
     assert_eq!(rt; room, *b"ab__");
 }
 
+/// What a sink answers to `ab`, `cde` and `f`.
+type Answers = [Wrote; 3];
+
 /// Sinks by their room, the call that is to fail, the answers to `ab`, `cde` and `f`, and what they keep.
-const SINKS: &[(u32, u32, [Wrote; 3], &[u8])] = &[
+const SINKS: &[(u32, u32, Answers, &[u8])] = &[
     (
         0,
         0,
@@ -177,16 +183,19 @@ const SINKS: &[(u32, u32, [Wrote; 3], &[u8])] = &[
     (100, 2, [Wrote::All, Wrote::Failed(0), Wrote::All], b"abf"),
 ];
 
+fn keeps(rt: &impl Abort, alloc: Global, room: u32, failing: u32, want: &Answers, bytes: &[u8]) {
+    let fails = [failing].to_vec(alloc).expect(rt, "memory");
+    let mut sink = Kept::new(alloc, room, fails).expect(rt, "memory");
+    let answers = [sink.write(b"ab"), sink.write(b"cde"), sink.write(b"f")];
+    assert_eq!(rt; answers, *want, "room {room}");
+    assert_eq!(rt; sink.bytes(), bytes, "room {room}");
+}
+
 #[test]
-fn a_sink_keeps_what_fits_and_fails_as_asked(rt: HostRuntime) -> Result<(), Fail> {
+fn a_sink_keeps_what_fits_and_fails_as_asked(rt: HostRuntime) {
     for (room, failing, want, bytes) in SINKS {
-        let fails = [*failing].to_vec(rt.alloc())?;
-        let mut sink = Kept::new(rt.alloc(), *room, fails)?;
-        let answers = [sink.write(b"ab"), sink.write(b"cde"), sink.write(b"f")];
-        assert_eq!(rt; answers, *want, "room {room}");
-        assert_eq!(rt; sink.bytes(), *bytes, "room {room}");
+        keeps(&rt, rt.alloc(), *room, *failing, want, bytes);
     }
-    Ok(())
 }
 
 /// A writer that takes so many bytes at each call, and that fails at the call that is to fail, or at its flush where it
@@ -233,7 +242,7 @@ const WRITERS: &[(usize, u32, bool, Wrote, &[u8])] = &[
 ];
 
 #[test]
-fn a_writer_of_std_takes_all_or_fails(rt: HostRuntime) -> Result<(), Fail> {
+fn a_writer_of_std_takes_all_or_fails(rt: HostRuntime) {
     for (most, failing, flushes, want, bytes) in WRITERS {
         let mut out = Vec::new(rt.alloc());
         let mut sink = WriteTo::new(Slow {
@@ -246,5 +255,4 @@ fn a_writer_of_std_takes_all_or_fails(rt: HostRuntime) -> Result<(), Fail> {
         assert_eq!(rt; sink.write(b"abcde"), *want);
         assert_eq!(rt; out.as_slice(), *bytes);
     }
-    Ok(())
 }

@@ -5,7 +5,6 @@ mod kept;
 use cha_list::Text;
 use pgn_games::ResultMark;
 use pgn_results::put_with_mark;
-use std::test::Fail;
 
 /// The bytes of a game, the result that it gets, the bytes behind it, and what is written.
 type Row = (&'static str, ResultMark, &'static str, &'static str);
@@ -77,17 +76,17 @@ const ROWS: &[Row] = &[
 ];
 
 #[test]
-fn games_get_other_results(rt: HostRuntime) -> Result<(), Fail> {
+fn games_get_other_results(rt: HostRuntime) {
     for (game, mark, behind, want) in ROWS {
         let mut text = Text::new(rt.alloc());
-        put_with_mark(
+        let put = put_with_mark(
             rt.alloc(),
             *mark,
             game.as_bytes(),
             behind.as_bytes(),
             &mut text,
-        )?;
+        );
+        put.expect(&rt, "memory");
         assert_eq!(rt; text.items(), want.as_bytes(), "{game:?}");
     }
-    Ok(())
 }

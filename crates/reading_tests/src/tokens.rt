@@ -1,51 +1,62 @@
 //! Texts and their tokens, by the PGN standard and by the habits of real files.
 
+ghost use Rattle.std.specs.Prelude.{◌≡◌, [], false};
+
 use pgn_lex::{Lexer, Placed, Token, tokens_of};
 use std::alloc::Global;
 use std::process::Abort;
-use std::test::Fail;
 
 /// The tokens of a text that is fed byte by byte.
-fn lexed(alloc: Global, bytes: &[u8]) -> Result<Vec<Placed>, Fail> {
+fn lexed(rt: &impl Abort, alloc: Global, bytes: &[u8]) -> Vec<Placed> {
     let mut found = Vec::new(alloc);
-    let mut lexer = Lexer::new(alloc)?;
+    let mut lexer = Lexer::new(alloc).expect(rt, "memory");
+    feed(rt, &mut lexer, bytes, &mut found);
+    found
+}
+
+/// Feeds a whole text.
+fn feed(rt: &impl Abort, lexer: &mut Lexer, bytes: &[u8], found: &mut Vec<Placed>)
+    requires { (lexer.old.fed ≡ []) × (lexer.old.ended ≡ false) }
+{
     for byte in bytes {
-        lexer.feed(*byte, &mut found)?;
+        lexer.feed(*byte, found).expect(rt, "memory");
     }
-    lexer.end(&mut found)?;
-    Ok(found)
+    lexer.end(found).expect(rt, "memory");
+}
+
+/// Appends a text.
+fn put(rt: &impl Abort, text: &mut Vec<u8>, more: &[u8]) {
+    text.extend_from_slice(more).expect(rt, "memory");
 }
 
 /// Tokens, each with its offset, as `[White=Carlsen]@0 e4@20 (@23 BadTag@30`. A value that was cut has `+` behind it.
-fn shown(alloc: Global, found: &[Placed]) -> Result<Vec<u8>, Fail> {
+fn shown(rt: &impl Abort, alloc: Global, found: &[Placed]) -> Vec<u8> {
     let mut text = Vec::new(alloc);
     for placed in found {
-        show(alloc, placed, &mut text)?;
+        show(rt, alloc, placed, &mut text);
     }
-    Ok(text)
+    text
 }
 
-fn show(alloc: Global, placed: &Placed, text: &mut Vec<u8>) -> Result<(), Fail> {
-    let offset = format!(in alloc; "@{}", placed.offset)?;
+fn show(rt: &impl Abort, alloc: Global, placed: &Placed, text: &mut Vec<u8>) {
     if !text.is_empty() {
-        text.push(b' ')?;
+        put(rt, text, b" ");
     }
     match &placed.token {
-        Token::Tag { name, value, cut } => show_tag(name.items(), value.items(), *cut, text)?,
-        Token::Word(word) => text.extend_from_slice(word.items())?,
-        token => text.extend_from_slice(named(token))?,
+        Token::Tag { name, value, cut } => show_tag(rt, name.items(), value.items(), *cut, text),
+        Token::Word(word) => put(rt, text, word.items()),
+        token => put(rt, text, named(token)),
     }
-    text.extend_from_slice(offset.as_bytes())?;
-    Ok(())
+    let offset = format!(in alloc; "@{}", placed.offset).expect(rt, "memory");
+    put(rt, text, offset.as_bytes());
 }
 
-fn show_tag(name: &[u8], value: &[u8], cut: bool, text: &mut Vec<u8>) -> Result<(), Fail> {
-    text.push(b'[')?;
-    text.extend_from_slice(name)?;
-    text.push(b'=')?;
-    text.extend_from_slice(value)?;
-    text.extend_from_slice(if cut { b"+]" } else { b"]" })?;
-    Ok(())
+fn show_tag(rt: &impl Abort, name: &[u8], value: &[u8], cut: bool, text: &mut Vec<u8>) {
+    put(rt, text, b"[");
+    put(rt, text, name);
+    put(rt, text, b"=");
+    put(rt, text, value);
+    put(rt, text, if cut { b"+]" } else { b"]" });
 }
 
 fn named(token: &Token) -> &'static [u8] {
@@ -61,12 +72,13 @@ fn named(token: &Token) -> &'static [u8] {
 }
 
 /// Asserts the tokens of a text, taken whole and byte by byte.
-fn has_tokens(rt: &impl Abort, alloc: Global, text: &[u8], want: &[u8]) -> Result<(), Fail> {
-    let whole = shown(alloc, tokens_of(alloc, text)?.as_slice())?;
+fn has_tokens(rt: &impl Abort, alloc: Global, text: &[u8], want: &[u8]) {
+    let whole = tokens_of(alloc, text).expect(rt, "memory");
+    let whole = shown(rt, alloc, whole.as_slice());
     assert_eq!(rt; whole.as_slice(), want, "{text:?}");
-    let fed = shown(alloc, lexed(alloc, text)?.as_slice())?;
+    let fed = lexed(rt, alloc, text);
+    let fed = shown(rt, alloc, fed.as_slice());
     assert_eq!(rt; fed.as_slice(), want, "{text:?}");
-    Ok(())
 }
 
 /// Comments and skipped lines.
@@ -179,17 +191,21 @@ const BYTES: &[(&[u8], &str)] = &[
     (b"\xEF\xBB\xBF[A \"b\"]", "[A=b]@3"),
 ];
 
+/// Asserts the tokens of each text of a table.
+fn have_tokens(rt: &impl Abort, alloc: Global, table: &[(&str, &str)]) {
+    for (text, want) in table {
+        has_tokens(rt, alloc, text.as_bytes(), want.as_bytes());
+    }
+}
+
 #[test]
-fn texts_have_their_tokens(rt: HostRuntime) -> Result<(), Fail> {
-    for table in [COMMENTS, WORDS, TAGS] {
-        for (text, want) in table {
-            has_tokens(&rt, rt.alloc(), text.as_bytes(), want.as_bytes())?;
-        }
-    }
+fn texts_have_their_tokens(rt: HostRuntime) {
+    have_tokens(&rt, rt.alloc(), COMMENTS);
+    have_tokens(&rt, rt.alloc(), WORDS);
+    have_tokens(&rt, rt.alloc(), TAGS);
     for (text, want) in BYTES {
-        has_tokens(&rt, rt.alloc(), text, want.as_bytes())?;
+        has_tokens(&rt, rt.alloc(), text, want.as_bytes());
     }
-    Ok(())
 }
 
 /// A long text: each part as often as it says.
@@ -231,22 +247,21 @@ const LONG: &[(Long, Long)] = &[
     ),
 ];
 
-fn long_text(alloc: Global, long: Long) -> Result<Vec<u8>, Fail> {
+fn long_text(rt: &impl Abort, alloc: Global, long: Long) -> Vec<u8> {
     let mut text = Vec::new(alloc);
     for (part, count) in long {
         for _part in 0..*count {
-            text.extend_from_slice(part.as_bytes())?;
+            put(rt, &mut text, part.as_bytes());
         }
     }
-    Ok(text)
+    text
 }
 
 #[test]
-fn long_words_names_and_values_are_cut(rt: HostRuntime) -> Result<(), Fail> {
+fn long_words_names_and_values_are_cut(rt: HostRuntime) {
     for (long, want) in LONG {
-        let text = long_text(rt.alloc(), long)?;
-        let want = long_text(rt.alloc(), want)?;
-        has_tokens(&rt, rt.alloc(), text.as_slice(), want.as_slice())?;
+        let text = long_text(&rt, rt.alloc(), long);
+        let want = long_text(&rt, rt.alloc(), want);
+        has_tokens(&rt, rt.alloc(), text.as_slice(), want.as_slice());
     }
-    Ok(())
 }

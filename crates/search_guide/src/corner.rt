@@ -11,8 +11,8 @@ use cha_board::{Color, Position};
 /// What each man of the loser but its king counts.
 const LOSERS_MAN: u32 = 3;
 
-/// The value of a position in which nothing is to be found.
-const HOPELESS: u8 = 63;
+/// The value of a position in which nothing is to be found, and of no other.
+pub const HOPELESS: u8 = 63;
 
 /// How far a position is from a mate in a corner.
 pub fn corner_guide(position: &Position, winner: Color) -> u8

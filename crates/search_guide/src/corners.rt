@@ -46,10 +46,10 @@ fn knights_away(knights: SquareSet, corner: Square) -> u32
     away
 }
 
-/// The loser's men that can come to a square as they are, where the winner has a lone minor piece. Against bishops a rook would
-/// end the check.
-fn blockers(own: &Army, other: &Army, to: Square) -> SquareSet {
-    let men = other.knights.joined(other.bishops.common(color_of(to)));
+/// The loser's men that can come to squares of a colour as they are, where the winner has a lone minor piece. Against bishops a rook
+/// would end the check.
+fn blockers(own: &Army, other: &Army, color: SquareSet) -> SquareSet {
+    let men = other.knights.joined(other.bishops.common(color));
     if own.bishops.is_empty() {
         men.joined(other.rooks)
     } else {
@@ -57,11 +57,11 @@ fn blockers(own: &Army, other: &Army, to: Square) -> SquareSet {
     }
 }
 
-/// How far the loser's pawns are from blocking a square: nothing where one stands there, and else the way to promotion.
-fn pawn_away(other: &Army, to: Square) -> u32
+/// How far the loser's pawns are from blocking one of some squares: nothing where one stands there, and else the way to promotion.
+fn pawn_away(other: &Army, to: SquareSet) -> u32
     ensures { result ≤ NO_BLOCKER }
 {
-    if other.pawns.has(to) {
+    if !other.pawns.common(to).is_empty() {
         return 0;
     }
     match ranks_to_promotion(other.side, other.pawns) {
@@ -70,18 +70,8 @@ fn pawn_away(other: &Army, to: Square) -> u32
     }
 }
 
-/// How far the nearest man of the loser is from blocking a square beside the corner.
-fn blocker_away(own: &Army, other: &Army, to: Square) -> u32
-    ensures { result ≤ NO_BLOCKER }
-{
-    let by_pawn = pawn_away(other, to);
-    match steps_to_nearest(to, blockers(own, other, to)) {
-        None => by_pawn,
-        Some(steps) => by_pawn.min(u32::from(steps)),
-    }
-}
-
 /// How far the loser's men are from blocking one of the two squares beside a corner along its rank and its file.
+// Both squares have the colour that the corner has not, so the men that come to one come to the other.
 fn least_blocker(own: &Army, other: &Army, corner: Square) -> u32
     ensures { result ≤ NO_BLOCKER }
 {
@@ -90,13 +80,12 @@ fn least_blocker(own: &Army, other: &Army, corner: Square) -> u32
         Kind::Rook,
         corner,
     ));
-    let mut least = NO_BLOCKER;
-    let mut left = beside;
-    while let Some(to) = left.first() {
-        least = least.min(blocker_away(own, other, to));
-        left = left.without(to);
+    let color = SquareSet::from_bits(u64::MAX).minus(color_of(corner));
+    let by_pawn = pawn_away(other, beside);
+    match steps_to_nearest(beside, blockers(own, other, color)) {
+        None => by_pawn,
+        Some(steps) => by_pawn.min(u32::from(steps)),
     }
-    least
 }
 
 /// How far a mate in a corner is for minor pieces, where the winner has no others, or `least` where it is no nearer. Where one of

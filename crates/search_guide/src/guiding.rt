@@ -1,9 +1,9 @@
 //! The value of a position by a guide.
 
-ghost use Rattle.std.specs.Prelude.{◌<◌};
+ghost use Rattle.std.specs.Prelude.{◌<◌, IfSome};
 
 use crate::choice::Guide;
-use crate::corner::corner_guide;
+use crate::corner::{HOPELESS, corner_guide};
 use crate::flights::flight_guide;
 use cha_board::{Color, Position};
 
@@ -15,5 +15,19 @@ pub fn guide(by: Guide, position: &Position, winner: Color) -> u8
     match by {
         Guide::Corner => corner_guide(position, winner),
         Guide::Flights => flight_guide(position, winner),
+    }
+}
+
+/// The same, or `None` where the guide into a corner tells that a side has nothing to mate with, now or after any moves: a bare king,
+/// a lone knight against queens alone, or bishops of one colour against rooks, queens and bishops of that colour alone. The other guide
+/// never tells. Nothing is claimed of that either.
+pub fn hopeful_guide(by: Guide, position: &Position, winner: Color) -> Option<u8>
+    ensures { IfSome result (λ number. number < 64) }
+{
+    let number = guide(by, position, winner);
+    if by == Guide::Corner && number == HOPELESS {
+        None
+    } else {
+        Some(number)
     }
 }

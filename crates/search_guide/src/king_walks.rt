@@ -23,14 +23,14 @@ pub fn reaches(from: Square, over: SquareSet, goals: SquareSet) -> bool {
     false
 }
 
-/// How many king's steps the nearest square of a set is from a square. `None` where the set has none.
-pub fn steps_to_nearest(from: Square, set: SquareSet) -> Option<u8>
+/// How many king's steps the nearest square of a set is from one of some squares. `None` where the set has none.
+pub fn steps_to_nearest(from: SquareSet, set: SquareSet) -> Option<u8>
     ensures { IfSome result (λ steps. steps < 8) }
 {
     if set.is_empty() {
         return None;
     }
-    let mut at = SquareSet::single(from);
+    let mut at = from;
     for steps in 0..8 {
         if !at.common(set).is_empty() {
             return Some(steps);

@@ -19,4 +19,4 @@ mod kings;
 mod pawns;
 
 pub use choice::Guide;
-pub use guiding::guide;
+pub use guiding::{guide, hopeful_guide};

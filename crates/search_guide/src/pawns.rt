@@ -64,25 +64,24 @@ fn helpers(own: &Army, pawn: Square, to: Square) -> SquareSet {
         .without(pawn)
 }
 
-/// What it counts that a pawn of the loser stands in front of a pawn, on these squares: how far the nearest helper is from it.
-/// Nothing where none stands there.
-fn blocked(own: &Army, other: &Army, pawn: Square, squares: SquareSet) -> u32
+/// What it counts that a pawn of the loser stands in front of a pawn: how far the nearest helper is from it.
+// Few pawns are asked, and the others are not to make room for it.
+#[inline(never)]
+fn blocked(own: &Army, other: &Army, pawn: Square) -> u32
     ensures { result ≤ 28 }
 {
-    if squares.common(other.pawns).is_empty() {
-        return 0;
-    }
     let Some(blocker) = first_in_front(own.side, pawn, other.pawns) else {
         return 0;
     };
-    match steps_to_nearest(blocker, helpers(own, pawn, blocker)) {
+    match steps_to_nearest(SquareSet::single(blocker), helpers(own, pawn, blocker)) {
         None => 0,
         Some(steps) => STEP_TO_PAWN * u32::from(steps),
     }
 }
 
 /// What the way of a pawn to the last rank counts, or `least` where it is no less.
-// What counts most is asked for last, and only where what is known already is less.
+// What counts most is asked for last, and only where what is known already is less. No helper stands where the first pawn in
+// front does, so it is a step away at least.
 fn way(own: &Army, other: &Army, occupied: SquareSet, pawn: Square, least: u32) -> u32
     requires { least ≤ LONGEST_WAY }
     ensures { result ≤ LONGEST_WAY }
@@ -94,10 +93,13 @@ fn way(own: &Army, other: &Army, occupied: SquareSet, pawn: Square, least: u32) 
     let squares = in_front(own.side, pawn);
     let men = u32::from(squares.common(occupied).len());
     let open = RANK * ranks + MAN_IN_FRONT * men;
-    if open >= least {
+    if squares.common(other.pawns).is_empty() {
+        return least.min(open);
+    }
+    if open + STEP_TO_PAWN >= least {
         return least;
     }
-    least.min(open + blocked(own, other, pawn, squares))
+    least.min(open + blocked(own, other, pawn))
 }
 
 /// What the way of a side's pawns to promotion counts: the least over its pawns, at most `LONGEST_WAY`.

@@ -226,6 +226,10 @@ still_waits (Ok x) P taken taken' given given' held same more waits =
     (held, (waits.0, (waits.1.0, same ∙ waits.1.1, waits.1.2, omega (arith, waits.1.3, more))))
 still_waits (Err e) P taken taken' given given' held same more waits = tt
 
+-- what was taken stays, and no fewer lines are given
+pub waits_on : (taken taken' : List ℕ) (given given' : ℕ) → (piece : List ℕ) × TookNoMore taken piece given → taken' ≡ taken → given ≤ given' → (piece : List ℕ) × TookNoMore taken' piece given'
+waits_on taken taken' given given' w e p = (w.0, (w.1.0, e ∙ w.1.1, w.1.2, omega (arith, w.1.3, p)))
+
 -- a call takes no line back
 pub last_given : (r : Result (Option TextLine) ReadEnd) (given given' : ℕ) → given' ≡ (if gives_line r then given + 1 else given) → given ≤ given'
 last_given (Ok (Some line)) given given' e = omega (arith, e)

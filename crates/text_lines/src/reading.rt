@@ -46,13 +46,13 @@ pub struct LineReader {
 impl Model for LineReader {
     ghost use Rattle.std.specs.Prelude.{◌≡◌, false};
     ghost use Rattle.text_lines.specs.Reading.{ReaderState};
-    ghost use Rattle.text_lines.specs.Keeping.{taken_by, IsHeldBy, WaitsAt};
+    ghost use Rattle.text_lines.specs.Keeping.{taken_by, IsHeldBy, WaitsAt, IsSpentAt};
 
     ghost Value = { ReaderState };
 
     ghost view = { λ s. record { taken = taken_by s.lines; given = s.lines.given; ended = s.lines.ended; failed = s.failed } };
 
-    ghost invariant = { λ s. s.failed ≡ false → IsHeldBy s.lines × WaitsAt s.lines };
+    ghost invariant = { λ s. s.failed ≡ false → IsHeldBy s.lines × WaitsAt s.lines × IsSpentAt s.lines };
 }
 
 /// How many lines were found: one or none.
@@ -66,7 +66,7 @@ fn one_if(found: &Option<TextLine>) -> usize
 }
 
 impl Lines {
-    ghost use Rattle.text_lines.specs.Keeping.{taken_by, IsHeldBy, WaitsAt, HasNoFeed};
+    ghost use Rattle.text_lines.specs.Keeping.{taken_by, IsHeldBy, WaitsAt, IsSpentAt, HasNoFeed};
 
     /// Takes the line that a line feed at this place ends, and gives it unless it is blank.
     fn take_line(&mut self, alloc: Global, end: usize) -> Result<Option<TextLine>, NoMemory>
@@ -148,6 +148,7 @@ impl Lines {
         ensures first { take self.old.given (text_lines (taken_by self.new)) ≡ take self.old.given (text_lines (taken_by self.old)) }
         ensures more { result ≡ Ok Filled.More → length (taken_by self.old) < length (taken_by self.new) }
         ensures end { result ≡ Ok Filled.End → IsAtEnd (S.left source.new) × HasNoFeed self.new }
+        ensures none_settled { result ≡ Ok Filled.End → settled_lines (taken_by self.new) ≤ self.old.given }
         ensures fault { result ≡ Err ReadEnd.ReadFault → Rose (S.faults source.old) (S.faults source.new) × (settled_lines (taken_by self.new) ≤ self.old.given) }
         ensures too_long { (result ≡ Err ReadEnd.TooLong) ↔ (MOST_BYTES < length (taken_by self.new)) }
         ensures few { length (taken_by self.new) ≤ MOST_BYTES + 4096 }
@@ -164,6 +165,7 @@ impl Lines {
     ) -> Result<Option<TextLine>, ReadEnd>
         requires held { IsHeldBy self.old }
         requires waits { WaitsAt self.old }
+        requires spent { IsSpentAt self.old }
         ensures bytes { Gathers (S.left source.old) (S.left source.new) (taken_by self.old) (taken_by self.new) }
         ensures held { OnOk result (IsHeldBy self.new × WaitsAt self.new) }
         ensures line { IfOk result (λ found. IfSome found (λ line. slice_get (text_lines (taken_by self.new)) self.old.given ≡ Some line)) }
@@ -175,7 +177,9 @@ impl Lines {
         ensures end { self.old.ended ≡ false → self.new.ended ≡ true → IsAtEnd (S.left source.new) }
         ensures read_fault { result ≡ Err ReadEnd.ReadFault → Rose (S.faults source.old) (S.faults source.new) }
         ensures before_end { self.new.ended ≡ false → IfOk result (λ found. IfSome found (λ line. self.old.given < settled_lines (taken_by self.new))) }
-        ensures no_more { self.new.ended ≡ false → IfOk result (λ found. IfSome found (λ line. (piece : List ℕ) × TookNoMore (taken_by self.new) piece self.old.given)) }
+        ensures no_more { (piece : List ℕ) × TookNoMore (taken_by self.new) piece self.old.given }
+        ensures none_settled { self.new.ended ≡ true → settled_lines (taken_by self.new) ≤ self.old.given }
+        ensures at_hand { self.old.given < settled_lines (taken_by self.old) → source.new ≡ source.old }
         ensures settled { result ≡ Err ReadEnd.ReadFault → settled_lines (taken_by self.new) ≤ self.old.given }
         ensures too_long { (result ≡ Err ReadEnd.TooLong) ↔ (MOST_BYTES < length (taken_by self.new)) }
         ensures few { length (taken_by self.new) ≤ MOST_BYTES + 4096 }
@@ -222,11 +226,13 @@ impl LineReader {
 
     /// The next line that is not blank, or None where the source has ended and all its lines were given.
     ///
-    /// It reads no further piece, of at most 65,536 bytes, than the line needs: a line is given once the line feed behind it was
-    /// taken. The lines given are the first lines of the bytes taken, in order. `ReadFault` comes only where the source failed in this
-    /// call, and each line that a line feed ends in the bytes taken was given before; `TooLong` comes where the source gave more than
-    /// 268,435,456 bytes (at most 4,096 more are taken), and `NoMemory` where the allocator refused memory. The time of all calls
-    /// together grows as the number of bytes.
+    /// Nothing is read where a line is at hand that a line feed ends, and no further piece, of at most 65,536 bytes, than the line needs,
+    /// whatever the answer: a line is given once the line feed behind it was taken. The end of the source too is taken only where each
+    /// line that a line feed ends was given before. The lines given are the first lines of the bytes taken, in order.
+    ///
+    /// `ReadFault` comes only where the source failed in this call, and each line that a line feed ends in the bytes taken was given
+    /// before; `TooLong` comes where the source gave more than 268,435,456 bytes (at most 4,096 more are taken), and `NoMemory` where the
+    /// allocator refused memory. The time of all calls together grows as the number of bytes.
     pub fn next<S: Source>(&mut self, source: &mut S) -> Result<Option<TextLine>, ReadEnd>
         requires { self.old.failed ≡ false }
         ensures bytes { Gathers (S.left source.old) (S.left source.new) self.old.taken self.new.taken }
@@ -239,7 +245,9 @@ impl LineReader {
         ensures end { self.old.ended ≡ false → self.new.ended ≡ true → IsAtEnd (S.left source.new) }
         ensures read_fault { result ≡ Err ReadEnd.ReadFault → Rose (S.faults source.old) (S.faults source.new) }
         ensures before_end { self.new.ended ≡ false → IfOk result (λ found. IfSome found (λ line. self.old.given < settled_lines self.new.taken)) }
-        ensures no_more { self.new.ended ≡ false → IfOk result (λ found. IfSome found (λ line. (piece : List ℕ) × TookNoMore self.new.taken piece self.old.given)) }
+        ensures no_more { (piece : List ℕ) × TookNoMore self.new.taken piece self.old.given }
+        ensures none_settled { self.new.ended ≡ true → settled_lines self.new.taken ≤ self.old.given }
+        ensures at_hand { self.old.given < settled_lines self.old.taken → source.new ≡ source.old }
         ensures settled { result ≡ Err ReadEnd.ReadFault → settled_lines self.new.taken ≤ self.old.given }
         ensures too_long { (result ≡ Err ReadEnd.TooLong) ↔ (MOST_BYTES < length self.new.taken) }
         ensures few { length self.new.taken ≤ MOST_BYTES + 4096 }
@@ -264,6 +272,7 @@ impl LineReader {
         ensures open { self.old.ended ≡ false → result ≡ Ok None → settled_lines self.new.taken ≤ self.old.given }
         ensures ended { self.old.ended ≡ true → result ≡ Ok None }
         ensures no_more { (piece : List ℕ) × TookNoMore self.new.taken piece self.old.given }
+        ensures none_settled { self.new.ended ≡ true → settled_lines self.new.taken ≤ self.old.given }
         ensures few { length self.new.taken ≤ MOST_BYTES }
         ensures failed { self.new.failed ≡ is_err result }
     {

@@ -18,7 +18,7 @@ class Zstd:
         try:
             import zstandard
         except ImportError:
-            raise OSError(0, "zstd needs the package zstandard: pip install 'cha[db]'") from None
+            raise OSError(0, "zstd needs the package zstandard: pip install zstandard") from None
         self._zstandard: Any = zstandard
         self._source, self._frame, self._rest = read, None, b""
 

@@ -22,7 +22,7 @@ after_castling-requires-clause-men c =
     let same : c.files_between.result ≡ files_apart m.from m.to = c.files_between.ensures.value ∙ ap (λ (m : Move). files_apart m.from m.to) c.m.view_is in
     let from : c.index.result ≡ m.from = c.index.ensures.value ∙ ap (λ (m : Move). m.from) c.m.view_is in
     let to : c.index-2.result ≡ m.to = c.index-2.ensures.value ∙ ap (λ (m : Move). m.to) c.m.view_is in
-    castles_up q m c.short_home.result c.short_crossing.result c.requires.legal c.requires.man (omega (arith, same, c.if-files_between-le1.false)) (omega (arith, from, to, c.if-index.true)) (c.short_home.ensures ∙ ap short_home_of c.side-side.ensures) (c.short_crossing.ensures ∙ ap (λ c. home_of c + 1) c.side-side.ensures)
+    castles_up q m c.short_home.result c.short_crossing.result c.requires.legal c.requires.man (omega (arith, same, c.if-files_between-le1.false)) (omega (arith, from, to, c.if-index.true)) (c.short_home.ensures ∙ ap short_home_of c.requires.side) (c.short_crossing.ensures ∙ ap (λ c. home_of c + 1) c.requires.side)
 
 pub after_castling-requires-clause-target : goal.after_castling-requires-clause-target
 after_castling-requires-clause-target c = no_target c.args.position.now c.args.m King c.requires.man refl
@@ -34,7 +34,7 @@ after_castling-requires-else-index-clause-men c =
     let same : c.files_between.result ≡ files_apart m.from m.to = c.files_between.ensures.value ∙ ap (λ (m : Move). files_apart m.from m.to) c.m.view_is in
     let from : c.index.result ≡ m.from = c.index.ensures.value ∙ ap (λ (m : Move). m.from) c.m.view_is in
     let to : c.index-2.result ≡ m.to = c.index-2.ensures.value ∙ ap (λ (m : Move). m.to) c.m.view_is in
-    castles_down q m c.long_home.result c.long_crossing.result c.requires.legal c.requires.man (omega (arith, same, c.if-files_between-le1.false)) (omega (arith, from, to, c.if-index.false)) (c.long_home.ensures ∙ ap long_home_of c.side-side.ensures) (c.long_crossing.ensures ∙ ap (λ c. home_of c - 1) c.side-side.ensures)
+    castles_down q m c.long_home.result c.long_crossing.result c.requires.legal c.requires.man (omega (arith, same, c.if-files_between-le1.false)) (omega (arith, from, to, c.if-index.false)) (c.long_home.ensures ∙ ap long_home_of c.requires.side) (c.long_crossing.ensures ∙ ap (λ c. home_of c - 1) c.requires.side)
 
 pub after_castling-requires-else-index-clause-target : goal.after_castling-requires-else-index-clause-target
 after_castling-requires-else-index-clause-target c = no_target c.args.position.now c.args.m King c.requires.man refl

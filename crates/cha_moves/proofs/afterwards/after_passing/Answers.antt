@@ -19,8 +19,8 @@ captured_on-captured-requires c =
     let m = c.args.m in
     let aims = (and_parts (aims_at q.side Pawn m.from m.to) (is_target q.target m.to) c.requires.passing).0 in
     let P : Color → Type 0 = λ side. rank_of m.to ≢ last_rank (other_color side) in
-    let ahead : P c.side-color.result = subst P (sym c.side-color.ensures) (captures_ahead q.side m.from m.to c.known-2.ensures.from aims) in
-    subst (λ t. rank_of t ≢ last_rank (other_color c.side-color.result)) (sym (ap (λ (k : Move). k.to) c.m.view_is)) ahead
+    let ahead : P c.args.side = subst P (sym c.requires.side) (captures_ahead q.side m.from m.to c.known-2.ensures.from aims) in
+    subst (λ t. rank_of t ≢ last_rank (other_color c.args.side)) (sym (ap (λ (k : Move). k.to) c.m.view_is)) ahead
 
 pub of_parts-requires : goal.of_parts-requires
 unfolding after
@@ -30,8 +30,8 @@ of_parts-requires c =
     let found = is_listed q m c.requires.legal in
     let from = ap (λ (m : Move). m.from) c.m.view_is in
     let to = ap (λ (m : Move). m.to) c.m.view_is in
-    let men : c.lifted-men.result ≡ men_after q m = rw (c.lifted-men.ensures, c.moved.ensures, c.captured_on-captured.ensures, from, to, c.placement.ensures.value, c.side-color.ensures) (sym (passes q m c.requires.man c.requires.plain c.requires.passing)) in
-    rw (men, c.other.ensures, c.side-color.ensures, c.rights_made-rights.ensures, c.rights.ensures, passes_no_target q m c.requires.passing) (after_is_valid q m c.known.ensures found.from found.to found.legal)
+    let men : c.lifted-men.result ≡ men_after q m = rw (c.lifted-men.ensures, c.moved.ensures, c.captured_on-captured.ensures, from, to, c.placement.ensures.value, c.requires.side) (sym (passes q m c.requires.man c.requires.plain c.requires.passing)) in
+    rw (men, c.other.ensures, c.requires.side, c.rights_made-rights.ensures, c.rights.ensures, passes_no_target q m c.requires.passing) (after_is_valid q m c.known.ensures found.from found.to found.legal)
 
 pub returns : goal.returns
 unfolding after
@@ -40,5 +40,5 @@ returns c =
     let m = c.args.m in
     let from = ap (λ (m : Move). m.from) c.m.view_is in
     let to = ap (λ (m : Move). m.to) c.m.view_is in
-    let men : c.lifted-men.result ≡ men_after q m = rw (c.lifted-men.ensures, c.moved.ensures, c.captured_on-captured.ensures, from, to, c.placement.ensures.value, c.side-color.ensures) (sym (passes q m c.requires.man c.requires.plain c.requires.passing)) in
-    c.of_parts.ensures ∙ rw (men, c.other.ensures, c.side-color.ensures, c.rights_made-rights.ensures, c.rights.ensures, passes_no_target q m c.requires.passing) refl
+    let men : c.lifted-men.result ≡ men_after q m = rw (c.lifted-men.ensures, c.moved.ensures, c.captured_on-captured.ensures, from, to, c.placement.ensures.value, c.requires.side) (sym (passes q m c.requires.man c.requires.plain c.requires.passing)) in
+    c.of_parts.ensures ∙ rw (men, c.other.ensures, c.requires.side, c.rights_made-rights.ensures, c.rights.ensures, passes_no_target q m c.requires.passing) refl

@@ -1,13 +1,16 @@
-use Rattle.std.proofs.Common.{◌<◌, ap, ◌∙◌, arith}
-use Rattle.std.proofs.lemmas.Bool.{OnFalse_at}
-use Rattle.cha_board.specs.SquareSets.{set_common}
-use Rattle.cha_moves.proofs.GoingLegally.{free_ways}
+use Rattle.std.proofs.Common.{sym, ap, ◌∙◌}
+use Rattle.cha_board.specs.Men.{same_color, is_of}
+use Rattle.cha_board.proofs.Identity.{same_color_equal}
+use Rattle.cha_moves.proofs.GoingLegally.{no_goings}
 use Rattle.cha_moves.proofs.legally.legal_ways.Goals as goal
 
-pub returns-else-has_to_ask : goal.returns-else-has_to_ask
-returns-else-has_to_ask c =
+pub returns-then-not-is : goal.returns-then-not-is
+returns-then-not-is c =
     let q = c.args.position.now in
-    let small : c.args.from < 64 = omega arith in
-    let free = OnFalse_at c.if-has_to_ask.false c.has_to_ask.ensures in
-    c.common.ensures ∙ ap (λ x. set_common x c.args.shields.now.answers) c.ways_of-ways.ensures
-    ∙ free_ways q c.args.from c.args.man c.args.shields.now.answers c.args.shields.now.screens c.known.ensures small c.requires.man c.requires.shields free
+    let other = ap (same_color c.args.man.color) (sym c.side.ensures) ∙ sym c.is.ensures ∙ c.if-not-is.true in
+    c.empty.ensures ∙ no_goings q c.args.from (ap (is_of q.side) c.requires.man ∙ other)
+
+pub legal_ways_by-requires-clause-side : goal.legal_ways_by-requires-clause-side
+legal_ways_by-requires-clause-side c =
+    let q = c.args.position.now in
+    same_color_equal c.args.man.color q.side (ap (same_color c.args.man.color) (sym c.side.ensures) ∙ sym c.is.ensures ∙ c.if-not-is.false)

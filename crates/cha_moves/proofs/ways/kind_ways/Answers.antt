@@ -19,4 +19,4 @@ returns-in_default c =
     let k = c.args.kind in
     let no_pawn : same_kind k Pawn ≡ false = false_from_ne_true (same_kind k Pawn) (λ h. c.in_default.not-Pawn (same_kind_equal k Pawn h)) in
     let no_king : same_kind k King ≡ false = false_from_ne_true (same_kind k King) (λ h. c.in_default.not-King (same_kind_equal k King h)) in
-    c.aims.ensures ∙ rw (c.side.ensures, c.occupied.ensures) (others_go q k c.args.s no_pawn no_king)
+    c.aims.ensures ∙ rw (c.requires, c.occupied.ensures) (others_go q k c.args.s no_pawn no_king)

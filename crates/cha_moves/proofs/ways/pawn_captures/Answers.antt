@@ -12,7 +12,7 @@ returns-in-None c =
     let q = c.args.position.now in
     let s = c.args.s in
     let small : s < 64 = omega arith in
-    let aimed : c.aims-aimed.result ≡ set_of (aims_at q.side Pawn s) = c.aims-aimed.ensures ∙ rw (c.side.ensures, c.occupied-occupied.ensures) (pawn_aimed q.men q.side s small) in
+    let aimed : c.aims-aimed.result ≡ set_of (aims_at q.side Pawn s) = c.aims-aimed.ensures ∙ rw (c.requires, c.occupied-occupied.ensures) (pawn_aimed q.men q.side s small) in
     let captures : c.common-captures.result ≡ set_of (λ t. aims_at q.side Pawn s t && not (is_empty q.men t)) = c.common-captures.ensures ∙ rw (aimed, c.occupied-occupied.ensures) (common_of (aims_at q.side Pawn s) (λ t. not (is_empty q.men t))) in
     captures ∙ captures_plain q s (sym c.target.ensures ∙ c.in-None.is)
 
@@ -23,7 +23,7 @@ returns-in-Some c =
     let u = c.in-Some.target in
     let small : s < 64 = omega arith in
     let small' : u < 64 = omega arith in
-    let aimed : c.aims-aimed.result ≡ set_of (aims_at q.side Pawn s) = c.aims-aimed.ensures ∙ rw (c.side.ensures, c.occupied-occupied.ensures) (pawn_aimed q.men q.side s small) in
+    let aimed : c.aims-aimed.result ≡ set_of (aims_at q.side Pawn s) = c.aims-aimed.ensures ∙ rw (c.requires, c.occupied-occupied.ensures) (pawn_aimed q.men q.side s small) in
     let captures : c.common-captures.result ≡ set_of (λ t. aims_at q.side Pawn s t && not (is_empty q.men t)) = c.common-captures.ensures ∙ rw (aimed, c.occupied-occupied.ensures) (common_of (aims_at q.side Pawn s) (λ t. not (is_empty q.men t))) in
     let at : c.has.result ≡ aims_at q.side Pawn s u = c.has.ensures ∙ rw aimed (has-set_of (aims_at q.side Pawn s) u small') in
     where_is (λ t. aims_at q.side Pawn s t && not (is_empty q.men t)) c.common-captures.result c.with_where.result u u c.has.result (aims_at q.side Pawn s u) c.with_where.ensures captures at refl

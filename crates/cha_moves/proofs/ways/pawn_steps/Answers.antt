@@ -12,7 +12,7 @@ pub returns-then-rank-promotion_rank : goal.returns-then-rank-promotion_rank
 returns-then-rank-promotion_rank c =
     let q = c.args.position.now in
     let small : c.args.s < 64 = omega arith in
-    let last : rank_of c.args.s ≡ last_rank q.side = sym c.rank.ensures.value ∙ c.if-rank-promotion_rank.true ∙ c.promotion_rank.ensures ∙ ap last_rank c.side-side.ensures in
+    let last : rank_of c.args.s ≡ last_rank q.side = sym c.rank.ensures.value ∙ c.if-rank-promotion_rank.true ∙ c.promotion_rank.ensures ∙ ap last_rank c.requires in
     c.empty.ensures ∙ pushes_at_end q c.args.s small (eq-eqb (rank_of c.args.s) (last_rank q.side) last)
 
 pub returns-then-has : goal.returns-then-has
@@ -20,8 +20,8 @@ returns-then-has c =
     let q = c.args.position.now in
     let s = c.args.s in
     let small : s < 64 = omega arith in
-    let inner = ne_eqb (rank_of s) (last_rank q.side) (λ e. c.if-rank-promotion_rank.false (c.rank.ensures.value ∙ e ∙ sym (c.promotion_rank.ensures ∙ ap last_rank c.side-side.ensures))) in
-    let one = c.ahead-one.ensures ∙ ap (λ x. ahead_of x s) c.side-side.ensures in
+    let inner = ne_eqb (rank_of s) (last_rank q.side) (λ e. c.if-rank-promotion_rank.false (c.rank.ensures.value ∙ e ∙ sym (c.promotion_rank.ensures ∙ ap last_rank c.requires))) in
+    let one = c.ahead-one.ensures ∙ ap (λ x. ahead_of x s) c.requires in
     let stands = stands_at q.men c.occupied-occupied.result c.ahead-one.result (ahead_of q.side s) c.has.result c.occupied-occupied.ensures one (ahead_small q.side s small inner) c.has.ensures ∙ ap not c.if-has.true in
     c.empty-then-has.ensures ∙ pushes_blocked q s small inner stands
 
@@ -30,10 +30,10 @@ returns-then-rank-first_pawn_rank c =
     let q = c.args.position.now in
     let s = c.args.s in
     let small : s < 64 = omega arith in
-    let inner = ne_eqb (rank_of s) (last_rank q.side) (λ e. c.if-rank-promotion_rank.false (c.rank.ensures.value ∙ e ∙ sym (c.promotion_rank.ensures ∙ ap last_rank c.side-side.ensures))) in
-    let one = c.ahead-one.ensures ∙ ap (λ x. ahead_of x s) c.side-side.ensures in
+    let inner = ne_eqb (rank_of s) (last_rank q.side) (λ e. c.if-rank-promotion_rank.false (c.rank.ensures.value ∙ e ∙ sym (c.promotion_rank.ensures ∙ ap last_rank c.requires))) in
+    let one = c.ahead-one.ensures ∙ ap (λ x. ahead_of x s) c.requires in
     let free = stands_at q.men c.occupied-occupied.result c.ahead-one.result (ahead_of q.side s) c.has.result c.occupied-occupied.ensures one (ahead_small q.side s small inner) c.has.ensures ∙ ap not c.if-has.false in
-    let late = ne_eqb (rank_of s) (second_rank q.side) (λ e. c.if-rank-first_pawn_rank.true (c.rank-2.ensures.value ∙ e ∙ sym (c.first_pawn_rank.ensures ∙ ap second_rank c.side-side.ensures))) in
+    let late = ne_eqb (rank_of s) (second_rank q.side) (λ e. c.if-rank-first_pawn_rank.true (c.rank-2.ensures.value ∙ e ∙ sym (c.first_pawn_rank.ensures ∙ ap second_rank c.requires))) in
     c.single-steps.ensures ∙ rw one (with_of (λ _. false) (ahead_of q.side s))
     ∙ pushes_one q s small inner free (and_left (rank_of s == second_rank q.side) (is_empty q.men (ahead_of q.side (ahead_of q.side s))) late)
 
@@ -42,11 +42,11 @@ returns-then-has-2 c =
     let q = c.args.position.now in
     let s = c.args.s in
     let small : s < 64 = omega arith in
-    let inner = ne_eqb (rank_of s) (last_rank q.side) (λ e. c.if-rank-promotion_rank.false (c.rank.ensures.value ∙ e ∙ sym (c.promotion_rank.ensures ∙ ap last_rank c.side-side.ensures))) in
-    let one = c.ahead-one.ensures ∙ ap (λ x. ahead_of x s) c.side-side.ensures in
+    let inner = ne_eqb (rank_of s) (last_rank q.side) (λ e. c.if-rank-promotion_rank.false (c.rank.ensures.value ∙ e ∙ sym (c.promotion_rank.ensures ∙ ap last_rank c.requires))) in
+    let one = c.ahead-one.ensures ∙ ap (λ x. ahead_of x s) c.requires in
     let free = stands_at q.men c.occupied-occupied.result c.ahead-one.result (ahead_of q.side s) c.has.result c.occupied-occupied.ensures one (ahead_small q.side s small inner) c.has.ensures ∙ ap not c.if-has.false in
-    let begins = eq-eqb (rank_of s) (second_rank q.side) (sym c.rank-2.ensures.value ∙ c.if-rank-first_pawn_rank.false ∙ c.first_pawn_rank.ensures ∙ ap second_rank c.side-side.ensures) in
-    let two = c.ahead-two.ensures ∙ ap (λ x. ahead_of x c.ahead-one.result) c.side-side.ensures ∙ ap (ahead_of q.side) one in
+    let begins = eq-eqb (rank_of s) (second_rank q.side) (sym c.rank-2.ensures.value ∙ c.if-rank-first_pawn_rank.false ∙ c.first_pawn_rank.ensures ∙ ap second_rank c.requires) in
+    let two = c.ahead-two.ensures ∙ ap (λ x. ahead_of x c.ahead-one.result) c.requires ∙ ap (ahead_of q.side) one in
     let stands = stands_at q.men c.occupied-occupied.result c.ahead-two.result (ahead_of q.side (ahead_of q.side s)) c.has-2.result c.occupied-occupied.ensures two (two_small q.side s small begins) c.has-2.ensures ∙ ap not c.if-has-2.true in
     c.single-steps.ensures ∙ rw one (with_of (λ _. false) (ahead_of q.side s))
     ∙ pushes_one q s small inner free (and_right (rank_of s == second_rank q.side) (is_empty q.men (ahead_of q.side (ahead_of q.side s))) stands)
@@ -56,11 +56,11 @@ returns c =
     let q = c.args.position.now in
     let s = c.args.s in
     let small : s < 64 = omega arith in
-    let inner = ne_eqb (rank_of s) (last_rank q.side) (λ e. c.if-rank-promotion_rank.false (c.rank.ensures.value ∙ e ∙ sym (c.promotion_rank.ensures ∙ ap last_rank c.side-side.ensures))) in
-    let one = c.ahead-one.ensures ∙ ap (λ x. ahead_of x s) c.side-side.ensures in
+    let inner = ne_eqb (rank_of s) (last_rank q.side) (λ e. c.if-rank-promotion_rank.false (c.rank.ensures.value ∙ e ∙ sym (c.promotion_rank.ensures ∙ ap last_rank c.requires))) in
+    let one = c.ahead-one.ensures ∙ ap (λ x. ahead_of x s) c.requires in
     let free = stands_at q.men c.occupied-occupied.result c.ahead-one.result (ahead_of q.side s) c.has.result c.occupied-occupied.ensures one (ahead_small q.side s small inner) c.has.ensures ∙ ap not c.if-has.false in
-    let begins = eq-eqb (rank_of s) (second_rank q.side) (sym c.rank-2.ensures.value ∙ c.if-rank-first_pawn_rank.false ∙ c.first_pawn_rank.ensures ∙ ap second_rank c.side-side.ensures) in
-    let two = c.ahead-two.ensures ∙ ap (λ x. ahead_of x c.ahead-one.result) c.side-side.ensures ∙ ap (ahead_of q.side) one in
+    let begins = eq-eqb (rank_of s) (second_rank q.side) (sym c.rank-2.ensures.value ∙ c.if-rank-first_pawn_rank.false ∙ c.first_pawn_rank.ensures ∙ ap second_rank c.requires) in
+    let two = c.ahead-two.ensures ∙ ap (λ x. ahead_of x c.ahead-one.result) c.requires ∙ ap (ahead_of q.side) one in
     let free' = stands_at q.men c.occupied-occupied.result c.ahead-two.result (ahead_of q.side (ahead_of q.side s)) c.has-2.result c.occupied-occupied.ensures two (two_small q.side s small begins) c.has-2.ensures ∙ ap not c.if-has-2.false in
     let steps : c.single-steps.result ≡ set_of (λ t. (t == ahead_of q.side s) || false) = c.single-steps.ensures ∙ rw one (with_of (λ _. false) (ahead_of q.side s)) in
     c.with.ensures ∙ rw (steps, two) (with_of (λ t. (t == ahead_of q.side s) || false) (ahead_of q.side (ahead_of q.side s))) ∙ pushes_two q s small inner free begins free'

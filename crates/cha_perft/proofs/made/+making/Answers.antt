@@ -1,71 +1,83 @@
-use Rattle.std.proofs.Common.{◌≡◌, ℕ, ◌+◌, ◌-◌, ◌<◌, ◌^◌, ◌∷◌, Option, Some, None, refl, sym, ap, subst, ◌∙◌, arith, rules}
+use Rattle.std.proofs.Common.{◌≡◌, ℕ, Bool, List, ◌+◌, ◌-◌, ◌<◌, ◌^◌, ◌∷◌, Option, Some, None, refl, sym, ap, subst, ◌∙◌, arith, rules}
 use Rattle.std.specs.List.{filter, flat_map}
-use Rattle.cha_board.specs.declared.men.Kind.TheVariants.{Queen, Rook, Bishop, Knight}
-use Rattle.cha_board.specs.Men.{is_of}
-use Rattle.cha_board.specs.Board.{man_at}
-use Rattle.cha_board.specs.SquareSets.{set_of, squares_in}
-use Rattle.cha_board.proofs.SetLaws.{squares_from_first, no_first_square}
-use Rattle.cha_moves.specs.Moves.{is_legal_in, moves_between, moves_from, after}
-use Rattle.cha_moves.specs.Ways.{legal_between}
+use Rattle.cha_board.specs.declared.men.Color.TheVariants.{White, Black}
+use Rattle.cha_board.specs.declared.men.Kind.TheVariants.{Queen, Rook, Bishop, Knight, King}
+use Rattle.cha_board.specs.SquareSets.{set_of, has_square, squares_in}
+use Rattle.cha_board.proofs.SetLaws.{has-set_of, squares_from_first, no_first_square}
+use Rattle.cha_moves.specs.Moves.{is_legal_in, moves_between, moves_from, legal, after}
 use Rattle.cha_moves.proofs.Contained.{Contains-cons_there}
-use Rattle.cha_moves.proofs.WayLaws.{no_own_move, legal_by_men, fewer}
+use Rattle.cha_moves.proofs.WayLaws.{fewer}
+use Rattle.cha_moves.proofs.ByKind.{legal_from, men_of, each_man, by_kinds}
 use Rattle.cha_moves.proofs.GoingLegally.{legal_by_goings, each_goes}
+use Rattle.cha_moves.specs.Ways.{is_promoted, is_calm, legal_between}
 use Rattle.cha_perft.specs.Counts.{lines_from, lines_with, Tells}
-use Rattle.cha_perft.proofs.Sums.{one_line, lines_by_move, no_lines, man_counted, man_beyond, way_counted, way_beyond, all_counted, one_move}
-use Rattle.cha_perft.proofs.Ways.{Legally, move_of, plain_way, plain_legal, promoted_way, queen_legal, rook_legal, bishop_legal, knight_legal, promoted_at, asked, four_lines}
+use Rattle.cha_perft.proofs.Sums.{one_line, lines_by_move, lines_add, man_counted, man_beyond, way_counted, way_beyond, all_counted, one_move}
+use Rattle.cha_perft.proofs.Ways.{Legally, move_of, plain_way, plain_legal, promoted_way, queen_legal, rook_legal, bishop_legal, knight_legal, promoted_at, calm_plain, asked, four_lines}
 use Rattle.cha_perft.proofs.made.+making.Goals as goal
 
-pub made_all-loop-from-init : goal.made_all-loop-from-init
-made_all-loop-from-init t c =
+pub made_all-returns-in-White : goal.made_all-returns-in-White
+made_all-returns-in-White t c =
     let q = c.args.position.now in
     let e = c.args.depth - 1 in
-    let own : c.of_side-left.result ≡ set_of (λ s. is_of q.side (man_at q.men s)) = c.of_side-left.ensures ∙ rw (c.placement.ensures.value, c.side.ensures) refl in
     let same : c.args.depth ≡ e + 1 = omega (arith, c.requires) in
-    let listed = ap (λ xs. lines_with e q (filter (is_legal_in q) (flat_map moves_from (squares_in xs)))) own ∙ ap (lines_with e q) (legal_by_men q) in
-    let all : lines_with e q (filter (is_legal_in q) (flat_map moves_from (squares_in c.of_side-left.result))) ≡ lines_from c.args.depth q = listed ∙ sym (lines_by_move c.args.depth e q same) in
-    omega (arith, all)
+    subst (λ (n : ℕ). Tells c.made_by_white.result n) (sym (lines_by_move c.args.depth e q same)) c.made_by_white.ensures
 
-pub made_all-loop-from-smaller : goal.made_all-loop-from-smaller
-made_all-loop-from-smaller t c =
+pub made_all-returns-in-Black : goal.made_all-returns-in-Black
+made_all-returns-in-Black t c =
+    let q = c.args.position.now in
+    let e = c.args.depth - 1 in
+    let same : c.args.depth ≡ e + 1 = omega (arith, c.requires) in
+    subst (λ (n : ℕ). Tells c.made_by_black.result n) (sym (lines_by_move c.args.depth e q same)) c.made_by_black.ensures
+
+pub made_kind-loop-from-init : goal.made_kind-loop-from-init
+made_kind-loop-from-init t c =
+    let q = c.args.position.now in
+    record {
+      so_far = ap (λ xs. c.args.before + lines_with c.args.depth q (legal_from q (squares_in xs))) c.men-left.ensures;
+      men = λ t inside. each_man q c.args.side c.args.kind t c.men-left.result c.men-left.ensures inside;
+    }
+
+pub made_kind-loop-from-smaller : goal.made_kind-loop-from-smaller
+made_kind-loop-from-smaller t c =
     let next = squares_from_first c.loop-from.left c.in-Some.from (sym c.first.ensures ∙ c.in-Some.is) in
     rw c.without-left.ensures (fewer _ _ c.in-Some.from next)
 
-pub made_all-loop-from-preserved : goal.made_all-loop-from-preserved
-made_all-loop-from-preserved t c =
+pub made_kind-loop-from-preserved : goal.made_kind-loop-from-preserved
+made_kind-loop-from-preserved t c =
     let q = c.args.position.now in
-    let e = c.args.depth - 1 in
+    let e = c.args.depth in
     let from = c.in-Some.from in
     let next = squares_from_first c.loop-from.left from (sym c.first.ensures ∙ c.in-Some.is) ∙ ap (λ xs. from ∷ squares_in xs) (sym c.without-left.ensures) in
     let here = lines_with e q (filter (is_legal_in q) (moves_from from)) in
-    let told = subst (λ (x : Option ℕ). Tells x (c.loop-from.total + here)) c.in-Some-both.is (c.both.ensures c.loop-from.total here refl c.made_from-lines.ensures) in
-    man_counted e q from c.loop-from.total c.in-Some-both.sum (lines_from c.args.depth q) _ _ c.loop-from.invariant next told
+    let told = subst (λ (x : Option ℕ). Tells x (c.loop-from.total + here)) c.in-Some-made_by.is c.made_by.ensures in
+    record {
+      so_far = man_counted e q from c.loop-from.total c.in-Some-made_by.sum (c.args.before + lines_with e q (legal_from q (squares_in (men_of q c.args.side c.args.kind)))) _ _ c.loop-from.invariant.so_far next told;
+      men = λ t inside. c.loop-from.invariant.men t (rw next (Contains-cons_there from (squares_in c.without-left.result) t inside));
+    }
 
-pub made_all-returns-in_default-both : goal.made_all-returns-in_default-both
-made_all-returns-in_default-both t c =
+pub made_kind-returns-in_default-made_by : goal.made_kind-returns-in_default-made_by
+made_kind-returns-in_default-made_by t c =
     let q = c.args.position.now in
-    let e = c.args.depth - 1 in
+    let e = c.args.depth in
     let from = c.in-Some.from in
     let next = squares_from_first c.loop-from.left from (sym c.first.ensures ∙ c.in-Some.is) in
     let here = lines_with e q (filter (is_legal_in q) (moves_from from)) in
-    let told = subst (λ (x : Option ℕ). Tells x (c.loop-from.total + here)) c.in_default-both.is (c.both.ensures c.loop-from.total here refl c.made_from-lines.ensures) in
-    man_beyond e q from c.loop-from.total (2 ^ 64) (lines_from c.args.depth q) _ _ c.loop-from.invariant next told
+    let told = subst (λ (x : Option ℕ). Tells x (c.loop-from.total + here)) c.in_default-made_by.is c.made_by.ensures in
+    man_beyond e q from c.loop-from.total (2 ^ 64) (c.args.before + lines_with e q (legal_from q (squares_in (men_of q c.args.side c.args.kind)))) _ _ c.loop-from.invariant.so_far next told
 
-pub made_all-returns : goal.made_all-returns
-made_all-returns t c = all_counted (c.args.depth - 1) c.args.position.now c.loop-from.total (lines_from c.args.depth c.args.position.now) moves_from _ c.loop-from.invariant (no_first_square c.loop-from.left (sym c.first.ensures ∙ c.in_default.is))
-
-pub made_from-returns-in_default : goal.made_from-returns-in_default
-made_from-returns-in_default t c =
+pub made_kind-returns : goal.made_kind-returns
+made_kind-returns t c =
     let q = c.args.position.now in
-    no_lines c.args.depth q ∙ ap (lines_with c.args.depth q) (sym (no_own_move q c.args.from (ap (is_of q.side) (sym c.man.ensures ∙ c.in_default.is))))
+    all_counted c.args.depth q c.loop-from.total (c.args.before + lines_with c.args.depth q (legal_from q (squares_in (men_of q c.args.side c.args.kind)))) moves_from _ c.loop-from.invariant.so_far (no_first_square c.loop-from.left (sym c.first.ensures ∙ c.in_default.is))
 
 pub made_by-loop-to-init : goal.made_by-loop-to-init
 made_by-loop-to-init t c =
     let q = c.args.position.now in
-    let all : lines_with c.args.depth q (filter (is_legal_in q) (flat_map (moves_between c.args.from) (squares_in c.legal_ways-left.result))) ≡ lines_with c.args.depth q (filter (is_legal_in q) (moves_from c.args.from)) =
-    ap (λ xs. lines_with c.args.depth q (filter (is_legal_in q) (flat_map (moves_between c.args.from) (squares_in xs)))) c.legal_ways-left.ensures ∙ ap (lines_with c.args.depth q) (legal_by_goings q c.args.from) in
+    let all : lines_with c.args.depth q (filter (is_legal_in q) (flat_map (moves_between c.args.from) (squares_in c.legal_ways_by-left.result))) ≡ lines_with c.args.depth q (filter (is_legal_in q) (moves_from c.args.from)) =
+    ap (λ xs. lines_with c.args.depth q (filter (is_legal_in q) (flat_map (moves_between c.args.from) (squares_in xs)))) c.legal_ways_by-left.ensures ∙ ap (lines_with c.args.depth q) (legal_by_goings q c.args.from) in
     record {
-      so_far = omega (arith, all);
-      ways = λ t inside. each_goes q c.args.from t c.legal_ways-left.result c.legal_ways-left.ensures inside;
+      so_far = ap (λ n. c.args.before + n) all;
+      ways = λ t inside. each_goes q c.args.from t c.legal_ways_by-left.result c.legal_ways_by-left.ensures inside;
     }
 
 pub made_by-loop-to-smaller : goal.made_by-loop-to-smaller
@@ -83,7 +95,7 @@ made_by-loop-to-preserved t c =
     let here = lines_with e q (legal_between q s to) in
     let told = subst (λ (x : Option ℕ). Tells x (c.loop-to.total + here)) c.in-Some-both.is (c.both.ensures c.loop-to.total here refl c.made_way-lines.ensures) in
     record {
-      so_far = way_counted e q s to c.loop-to.total c.in-Some-both.sum (lines_with e q (filter (is_legal_in q) (moves_from s))) _ _ c.loop-to.invariant.so_far next told;
+      so_far = way_counted e q s to c.loop-to.total c.in-Some-both.sum (c.args.before + lines_with e q (filter (is_legal_in q) (moves_from s))) _ _ c.loop-to.invariant.so_far next told;
       ways = λ t inside. c.loop-to.invariant.ways t (rw next (Contains-cons_there to (squares_in c.without-left.result) t inside));
     }
 
@@ -96,10 +108,10 @@ made_by-returns-in_default-both t c =
     let next = squares_from_first c.loop-to.left to (sym c.first.ensures ∙ c.in-Some.is) in
     let here = lines_with e q (legal_between q s to) in
     let told = subst (λ (x : Option ℕ). Tells x (c.loop-to.total + here)) c.in_default-both.is (c.both.ensures c.loop-to.total here refl c.made_way-lines.ensures) in
-    way_beyond e q s to c.loop-to.total (2 ^ 64) (lines_with e q (filter (is_legal_in q) (moves_from s))) _ _ c.loop-to.invariant.so_far next told
+    way_beyond e q s to c.loop-to.total (2 ^ 64) (c.args.before + lines_with e q (filter (is_legal_in q) (moves_from s))) _ _ c.loop-to.invariant.so_far next told
 
 pub made_by-returns : goal.made_by-returns
-made_by-returns t c = all_counted c.args.depth c.args.position.now c.loop-to.total (lines_with c.args.depth c.args.position.now (filter (is_legal_in c.args.position.now) (moves_from c.args.from))) (moves_between c.args.from) _ c.loop-to.invariant.so_far (no_first_square c.loop-to.left (sym c.first.ensures ∙ c.in_default.is))
+made_by-returns t c = all_counted c.args.depth c.args.position.now c.loop-to.total (c.args.before + lines_with c.args.depth c.args.position.now (filter (is_legal_in c.args.position.now) (moves_from c.args.from))) (moves_between c.args.from) _ c.loop-to.invariant.so_far (no_first_square c.loop-to.left (sym c.first.ensures ∙ c.in_default.is))
 
 pub count_made-returns-then-depth-eq0 : goal.count_made-returns-then-depth-eq0
 count_made-returns-then-depth-eq0 t c = one_line c.args.depth c.args.position.now c.if-depth-eq0.true
@@ -112,7 +124,7 @@ made_promoted-made_move-queen-requires t c =
     let from_small : s < 64 = omega arith in
     let to_small : to < 64 = omega arith in
     let g : Legally q s to c.args.man = record { valid = c.known.ensures; from = from_small; to = to_small; found = c.requires.man; legally = c.requires.way } in
-    (search rules, asked q s to (Some Queen) c.args.man c.promotion.result c.requires.man c.promotion.ensures (queen_legal q s to c.args.man g c.requires.last))
+    (search rules, (c.requires.side, asked q s to (Some Queen) c.args.man c.promotion.result c.requires.man c.promotion.ensures (queen_legal q s to c.args.man g c.requires.last)))
 
 pub made_promoted-made_move-rook-requires : goal.made_promoted-made_move-rook-requires
 made_promoted-made_move-rook-requires t c =
@@ -122,7 +134,7 @@ made_promoted-made_move-rook-requires t c =
     let from_small : s < 64 = omega arith in
     let to_small : to < 64 = omega arith in
     let g : Legally q s to c.args.man = record { valid = c.known.ensures; from = from_small; to = to_small; found = c.requires.man; legally = c.requires.way } in
-    (search rules, asked q s to (Some Rook) c.args.man c.promotion-2.result c.requires.man c.promotion-2.ensures (rook_legal q s to c.args.man g c.requires.last))
+    (search rules, (c.requires.side, asked q s to (Some Rook) c.args.man c.promotion-2.result c.requires.man c.promotion-2.ensures (rook_legal q s to c.args.man g c.requires.last)))
 
 pub made_promoted-made_move-bishop-requires : goal.made_promoted-made_move-bishop-requires
 made_promoted-made_move-bishop-requires t c =
@@ -132,7 +144,7 @@ made_promoted-made_move-bishop-requires t c =
     let from_small : s < 64 = omega arith in
     let to_small : to < 64 = omega arith in
     let g : Legally q s to c.args.man = record { valid = c.known.ensures; from = from_small; to = to_small; found = c.requires.man; legally = c.requires.way } in
-    (search rules, asked q s to (Some Bishop) c.args.man c.promotion-3.result c.requires.man c.promotion-3.ensures (bishop_legal q s to c.args.man g c.requires.last))
+    (search rules, (c.requires.side, asked q s to (Some Bishop) c.args.man c.promotion-3.result c.requires.man c.promotion-3.ensures (bishop_legal q s to c.args.man g c.requires.last)))
 
 pub made_promoted-made_move-knight-requires : goal.made_promoted-made_move-knight-requires
 made_promoted-made_move-knight-requires t c =
@@ -142,7 +154,7 @@ made_promoted-made_move-knight-requires t c =
     let from_small : s < 64 = omega arith in
     let to_small : to < 64 = omega arith in
     let g : Legally q s to c.args.man = record { valid = c.known.ensures; from = from_small; to = to_small; found = c.requires.man; legally = c.requires.way } in
-    (search rules, asked q s to (Some Knight) c.args.man c.promotion-4.result c.requires.man c.promotion-4.ensures (knight_legal q s to c.args.man g c.requires.last))
+    (search rules, (c.requires.side, asked q s to (Some Knight) c.args.man c.promotion-4.result c.requires.man c.promotion-4.ensures (knight_legal q s to c.args.man g c.requires.last)))
 
 pub made_promoted-returns : goal.made_promoted-returns
 made_promoted-returns t c =
@@ -158,29 +170,184 @@ made_promoted-returns t c =
     let all = c.both-3.ensures (lines_from d (after q c.promotion.result) + lines_from d (after q c.promotion-2.result)) (lines_from d (after q c.promotion-3.result) + lines_from d (after q c.promotion-4.result)) one other in
     subst (λ (n : ℕ). Tells c.both-3.result n) (four_lines d q s to c.promotion.result c.promotion-2.result c.promotion-3.result c.promotion-4.result (legal_between q s to) c.promotion.ensures c.promotion-2.ensures c.promotion-3.ensures c.promotion-4.ensures (promoted_way q s to c.args.man g c.requires.last)) all
 
+pub made_way-after_step-next-requires-clause-legal : goal.made_way-after_step-next-requires-clause-legal
+made_way-after_step-next-requires-clause-legal t c =
+    let q = c.args.position.now in
+    let s = c.args.from in
+    let to = c.args.to in
+    let man = c.args.man in
+    let from_small : s < 64 = omega arith in
+    let to_small : to < 64 = omega arith in
+    let g : Legally q s to man = record { valid = c.known.ensures; from = from_small; to = to_small; found = c.requires.man; legally = c.requires.way } in
+    let calm = sym (has-set_of (is_calm q man.kind s) to to_small) ∙ ap (λ (x : List Bool). has_square x to) (sym c.requires.calm) ∙ sym c.has.ensures ∙ c.if-has.true in
+    plain_legal q s to man g (calm_plain q s to man calm)
+
+pub made_way-after_step-next-requires-clause-calm : goal.made_way-after_step-next-requires-clause-calm
+made_way-after_step-next-requires-clause-calm t c =
+    let q = c.args.position.now in
+    let s = c.args.from in
+    let to = c.args.to in
+    let man = c.args.man in
+    let to_small : to < 64 = omega arith in
+    let calm = sym (has-set_of (is_calm q man.kind s) to to_small) ∙ ap (λ (x : List Bool). has_square x to) (sym c.requires.calm) ∙ sym c.has.ensures ∙ c.if-has.true in
+    calm
+
+pub made_way-returns-then-has : goal.made_way-returns-then-has
+made_way-returns-then-has t c =
+    let q = c.args.position.now in
+    let s = c.args.from in
+    let to = c.args.to in
+    let man = c.args.man in
+    let from_small : s < 64 = omega arith in
+    let to_small : to < 64 = omega arith in
+    let g : Legally q s to man = record { valid = c.known.ensures; from = from_small; to = to_small; found = c.requires.man; legally = c.requires.way } in
+    let calm = sym (has-set_of (is_calm q man.kind s) to to_small) ∙ ap (λ (x : List Bool). has_square x to) (sym c.requires.calm) ∙ sym c.has.ensures ∙ c.if-has.true in
+    subst (λ (n : ℕ). Tells c.count_made.result n)
+    (ap (lines_from c.args.depth) c.after_step-next.ensures ∙ one_move c.args.depth q (move_of s to None) ∙ ap (lines_with c.args.depth q) (sym (plain_way q s to man g (calm_plain q s to man calm)))) c.count_made.ensures
+
 pub made_way-made_promoted-requires : goal.made_way-made_promoted-requires
 made_way-made_promoted-requires t c =
-    let to_small : c.args.to < 64 = omega arith in
-    (search rules, (c.requires.man, (sym (promoted_at c.args.position.now c.args.man c.args.last c.args.to to_small c.requires.last) ∙ sym c.has.ensures ∙ c.if-has.true, c.requires.way)))
+    let q = c.args.position.now in
+    let to = c.args.to in
+    let man = c.args.man in
+    let to_small : to < 64 = omega arith in
+    let last = promoted_at q man c.promoting-last.result to to_small (c.promoting-last.ensures ∙ ap (λ x. set_of (is_promoted x man.kind)) c.requires.side) in
+    (search rules, (c.requires.side, (c.requires.man, (sym last ∙ sym c.has-2.ensures ∙ c.if-has-2.true, c.requires.way))))
 
 pub made_way-made_move-requires : goal.made_way-made_move-requires
 made_way-made_move-requires t c =
     let q = c.args.position.now in
     let s = c.args.from in
     let to = c.args.to in
+    let man = c.args.man in
     let from_small : s < 64 = omega arith in
     let to_small : to < 64 = omega arith in
-    let g : Legally q s to c.args.man = record { valid = c.known.ensures; from = from_small; to = to_small; found = c.requires.man; legally = c.requires.way } in
-    let plain = sym (promoted_at q c.args.man c.args.last to to_small c.requires.last) ∙ sym c.has.ensures ∙ c.if-has.false in
-    (search rules, asked q s to None c.args.man (move_of s to None) c.requires.man refl (plain_legal q s to c.args.man g plain))
+    let g : Legally q s to man = record { valid = c.known.ensures; from = from_small; to = to_small; found = c.requires.man; legally = c.requires.way } in
+    let last = promoted_at q man c.promoting-last.result to to_small (c.promoting-last.ensures ∙ ap (λ x. set_of (is_promoted x man.kind)) c.requires.side) in
+    (search rules, (c.requires.side, asked q s to None man (move_of s to None) c.requires.man refl (plain_legal q s to man g (sym last ∙ sym c.has-2.ensures ∙ c.if-has-2.false))))
 
-pub made_way-returns-else-has : goal.made_way-returns-else-has
-made_way-returns-else-has t c =
+pub made_way-returns-else-has-2 : goal.made_way-returns-else-has-2
+made_way-returns-else-has-2 t c =
     let q = c.args.position.now in
     let s = c.args.from in
     let to = c.args.to in
+    let man = c.args.man in
     let from_small : s < 64 = omega arith in
     let to_small : to < 64 = omega arith in
-    let g : Legally q s to c.args.man = record { valid = c.known.ensures; from = from_small; to = to_small; found = c.requires.man; legally = c.requires.way } in
-    let plain = sym (promoted_at q c.args.man c.args.last to to_small c.requires.last) ∙ sym c.has.ensures ∙ c.if-has.false in
-    subst (λ (n : ℕ). Tells c.made_move.result n) (one_move c.args.depth q (move_of s to None) ∙ ap (lines_with c.args.depth q) (sym (plain_way q s to c.args.man g plain))) c.made_move.ensures
+    let g : Legally q s to man = record { valid = c.known.ensures; from = from_small; to = to_small; found = c.requires.man; legally = c.requires.way } in
+    let last = promoted_at q man c.promoting-last.result to to_small (c.promoting-last.ensures ∙ ap (λ x. set_of (is_promoted x man.kind)) c.requires.side) in
+    subst (λ (n : ℕ). Tells c.made_move.result n) (one_move c.args.depth q (move_of s to None) ∙ ap (lines_with c.args.depth q) (sym (plain_way q s to man g (sym last ∙ sym c.has-2.ensures ∙ c.if-has-2.false)))) c.made_move.ensures
+
+pub made_by_white-returns-in_err-total : goal.made_by_white-returns-in_err-total
+made_by_white-returns-in_err-total t c =
+    let q = c.args.position.now in
+    let all = by_kinds q (λ ms. lines_with c.args.depth q ms) White c.requires (lines_add c.args.depth q) in
+    let most = c.in_err-total.ensures in
+    subst (λ (x : Option ℕ). Tells x (lines_with c.args.depth q (legal q))) (sym c.from_residual.ensures) (omega (arith, all, most))
+
+pub made_by_white-returns-in_err-total-2 : goal.made_by_white-returns-in_err-total-2
+made_by_white-returns-in_err-total-2 t c =
+    let q = c.args.position.now in
+    let all = by_kinds q (λ ms. lines_with c.args.depth q ms) White c.requires (lines_add c.args.depth q) in
+    let t1 = c.in_ok-total.ensures in
+    let most = c.in_err-total-2.ensures in
+    subst (λ (x : Option ℕ). Tells x (lines_with c.args.depth q (legal q))) (sym c.from_residual-in_err-total-2.ensures) (omega (arith, all, t1, most))
+
+pub made_by_white-returns-in_err-total-3 : goal.made_by_white-returns-in_err-total-3
+made_by_white-returns-in_err-total-3 t c =
+    let q = c.args.position.now in
+    let all = by_kinds q (λ ms. lines_with c.args.depth q ms) White c.requires (lines_add c.args.depth q) in
+    let t1 = c.in_ok-total.ensures in
+    let t2 = c.in_ok-total-2.ensures in
+    let most = c.in_err-total-3.ensures in
+    subst (λ (x : Option ℕ). Tells x (lines_with c.args.depth q (legal q))) (sym c.from_residual-in_err-total-3.ensures) (omega (arith, all, t1, t2, most))
+
+pub made_by_white-returns-in_err-total-4 : goal.made_by_white-returns-in_err-total-4
+made_by_white-returns-in_err-total-4 t c =
+    let q = c.args.position.now in
+    let all = by_kinds q (λ ms. lines_with c.args.depth q ms) White c.requires (lines_add c.args.depth q) in
+    let t1 = c.in_ok-total.ensures in
+    let t2 = c.in_ok-total-2.ensures in
+    let t3 = c.in_ok-total-3.ensures in
+    let most = c.in_err-total-4.ensures in
+    subst (λ (x : Option ℕ). Tells x (lines_with c.args.depth q (legal q))) (sym c.from_residual-in_err-total-4.ensures) (omega (arith, all, t1, t2, t3, most))
+
+pub made_by_white-returns-in_err-total-5 : goal.made_by_white-returns-in_err-total-5
+made_by_white-returns-in_err-total-5 t c =
+    let q = c.args.position.now in
+    let all = by_kinds q (λ ms. lines_with c.args.depth q ms) White c.requires (lines_add c.args.depth q) in
+    let t1 = c.in_ok-total.ensures in
+    let t2 = c.in_ok-total-2.ensures in
+    let t3 = c.in_ok-total-3.ensures in
+    let t4 = c.in_ok-total-4.ensures in
+    let most = c.in_err-total-5.ensures in
+    subst (λ (x : Option ℕ). Tells x (lines_with c.args.depth q (legal q))) (sym c.from_residual-in_err-total-5.ensures) (omega (arith, all, t1, t2, t3, t4, most))
+
+pub made_by_white-returns : goal.made_by_white-returns
+made_by_white-returns t c =
+    let q = c.args.position.now in
+    let all = by_kinds q (λ ms. lines_with c.args.depth q ms) White c.requires (lines_add c.args.depth q) in
+    let t1 = c.in_ok-total.ensures in
+    let t2 = c.in_ok-total-2.ensures in
+    let t3 = c.in_ok-total-3.ensures in
+    let t4 = c.in_ok-total-4.ensures in
+    let t5 = c.in_ok-total-5.ensures in
+    let sum : c.in_ok-total-5.total + lines_with c.args.depth q (legal_from q (squares_in (men_of q White King))) ≡ lines_with c.args.depth q (legal q) = omega (arith, all, t1, t2, t3, t4, t5) in
+    subst (λ (n : ℕ). Tells c.made_kind-6.result n) sum c.made_kind-6.ensures
+
+pub made_by_black-returns-in_err-total : goal.made_by_black-returns-in_err-total
+made_by_black-returns-in_err-total t c =
+    let q = c.args.position.now in
+    let all = by_kinds q (λ ms. lines_with c.args.depth q ms) Black c.requires (lines_add c.args.depth q) in
+    let most = c.in_err-total.ensures in
+    subst (λ (x : Option ℕ). Tells x (lines_with c.args.depth q (legal q))) (sym c.from_residual.ensures) (omega (arith, all, most))
+
+pub made_by_black-returns-in_err-total-2 : goal.made_by_black-returns-in_err-total-2
+made_by_black-returns-in_err-total-2 t c =
+    let q = c.args.position.now in
+    let all = by_kinds q (λ ms. lines_with c.args.depth q ms) Black c.requires (lines_add c.args.depth q) in
+    let t1 = c.in_ok-total.ensures in
+    let most = c.in_err-total-2.ensures in
+    subst (λ (x : Option ℕ). Tells x (lines_with c.args.depth q (legal q))) (sym c.from_residual-in_err-total-2.ensures) (omega (arith, all, t1, most))
+
+pub made_by_black-returns-in_err-total-3 : goal.made_by_black-returns-in_err-total-3
+made_by_black-returns-in_err-total-3 t c =
+    let q = c.args.position.now in
+    let all = by_kinds q (λ ms. lines_with c.args.depth q ms) Black c.requires (lines_add c.args.depth q) in
+    let t1 = c.in_ok-total.ensures in
+    let t2 = c.in_ok-total-2.ensures in
+    let most = c.in_err-total-3.ensures in
+    subst (λ (x : Option ℕ). Tells x (lines_with c.args.depth q (legal q))) (sym c.from_residual-in_err-total-3.ensures) (omega (arith, all, t1, t2, most))
+
+pub made_by_black-returns-in_err-total-4 : goal.made_by_black-returns-in_err-total-4
+made_by_black-returns-in_err-total-4 t c =
+    let q = c.args.position.now in
+    let all = by_kinds q (λ ms. lines_with c.args.depth q ms) Black c.requires (lines_add c.args.depth q) in
+    let t1 = c.in_ok-total.ensures in
+    let t2 = c.in_ok-total-2.ensures in
+    let t3 = c.in_ok-total-3.ensures in
+    let most = c.in_err-total-4.ensures in
+    subst (λ (x : Option ℕ). Tells x (lines_with c.args.depth q (legal q))) (sym c.from_residual-in_err-total-4.ensures) (omega (arith, all, t1, t2, t3, most))
+
+pub made_by_black-returns-in_err-total-5 : goal.made_by_black-returns-in_err-total-5
+made_by_black-returns-in_err-total-5 t c =
+    let q = c.args.position.now in
+    let all = by_kinds q (λ ms. lines_with c.args.depth q ms) Black c.requires (lines_add c.args.depth q) in
+    let t1 = c.in_ok-total.ensures in
+    let t2 = c.in_ok-total-2.ensures in
+    let t3 = c.in_ok-total-3.ensures in
+    let t4 = c.in_ok-total-4.ensures in
+    let most = c.in_err-total-5.ensures in
+    subst (λ (x : Option ℕ). Tells x (lines_with c.args.depth q (legal q))) (sym c.from_residual-in_err-total-5.ensures) (omega (arith, all, t1, t2, t3, t4, most))
+
+pub made_by_black-returns : goal.made_by_black-returns
+made_by_black-returns t c =
+    let q = c.args.position.now in
+    let all = by_kinds q (λ ms. lines_with c.args.depth q ms) Black c.requires (lines_add c.args.depth q) in
+    let t1 = c.in_ok-total.ensures in
+    let t2 = c.in_ok-total-2.ensures in
+    let t3 = c.in_ok-total-3.ensures in
+    let t4 = c.in_ok-total-4.ensures in
+    let t5 = c.in_ok-total-5.ensures in
+    let sum : c.in_ok-total-5.total + lines_with c.args.depth q (legal_from q (squares_in (men_of q Black King))) ≡ lines_with c.args.depth q (legal q) = omega (arith, all, t1, t2, t3, t4, t5) in
+    subst (λ (n : ℕ). Tells c.made_kind-6.result n) sum c.made_kind-6.ensures

@@ -1,4 +1,7 @@
-use Rattle.cha_words.proofs.Ending.{whole, games_made, games_corrected, positions_made, check_made, games_generated, mates_made, replays_made, not_made}
+use Rattle.std.proofs.Common.{◌≡◌, sym, subst}
+use Rattle.cha_words.specs.declared.table.Command.{Command}
+use Rattle.cha_words.specs.declared.table.Command.TheVariants.{Adjudicate, Correct, Position, Check, Gen, Mates, Replay}
+use Rattle.cha_words.proofs.Ending.{whole, games_made, games_corrected, positions_made, check_made, games_generated, mates_made, replays_made, Lacks, not_made}
 use Rattle.cha_words.proofs.making.made.Goals.{in_default-via-in-Adjudicate+in_default, in_default-via-in-Correct+in_default, in_default-via-in-Position+in_default, in_default-via-in-Check+in_default, in_default-via-in-Gen+in_default, in_default-via-in-Mates+in_default, in_default-via-in-Replay+in_default}
 use Rattle.cha_words.proofs.making.made.Goals as goal
 
@@ -38,14 +41,17 @@ returns-in-Replay-Nothing c =
     replays_made c.args.command c.args.given n.0 n.1 c.printed-in-Replay-Nothing.result c.in-Replay-Nothing.is-0 c.in-Replay-Nothing.is-1 c.printed-in-Replay-Nothing.ensures
 
 pub returns-in_default : goal.returns-in_default
+unfolding Lacks
 returns-in_default c =
     let n = whole c.args.command c.args.given in
+    let lacks : (k : Command) → c.args.command ≡ k → Lacks k c.args.given.said → Lacks c.args.command c.args.given.said = λ k is h. subst (λ (j : Command). Lacks j c.args.given.said) (sym is) h in
+    let none = not_made c.args.command c.args.given n.0 n.1 in
     elim c.in_default.branch [
-      | in_default-via-in-Adjudicate+in_default w ↦ let is = w.in_default.is-0 in not_made c.args.command c.args.given n.0 n.1 (λ e s. w.in_default.not-Nothing-1 s) (λ e s. cc) (λ e s. cc) (λ e s. cc) (λ a b e s. cc) (λ a e s. cc) (λ e s. cc)
-      | in_default-via-in-Correct+in_default w ↦ let is = w.in_default.is-0 in not_made c.args.command c.args.given n.0 n.1 (λ e s. cc) (λ e s. w.in_default.not-Nothing-1 s) (λ e s. cc) (λ e s. cc) (λ a b e s. cc) (λ a e s. cc) (λ e s. cc)
-      | in_default-via-in-Position+in_default w ↦ let is = w.in_default.is-0 in not_made c.args.command c.args.given n.0 n.1 (λ e s. cc) (λ e s. cc) (λ e s. w.in_default.not-Nothing-1 s) (λ e s. cc) (λ a b e s. cc) (λ a e s. cc) (λ e s. cc)
-      | in_default-via-in-Check+in_default w ↦ let is = w.in_default.is-0 in not_made c.args.command c.args.given n.0 n.1 (λ e s. cc) (λ e s. cc) (λ e s. cc) (λ e s. w.in_default.not-Nothing-1 s) (λ a b e s. cc) (λ a e s. cc) (λ e s. cc)
-      | in_default-via-in-Gen+in_default w ↦ let is = w.in_default.is-0 in not_made c.args.command c.args.given n.0 n.1 (λ e s. cc) (λ e s. cc) (λ e s. cc) (λ e s. cc) (λ a b e s. w.in_default.not-Games-1 a b s) (λ a e s. cc) (λ e s. cc)
-      | in_default-via-in-Mates+in_default w ↦ let is = w.in_default.is-0 in not_made c.args.command c.args.given n.0 n.1 (λ e s. cc) (λ e s. cc) (λ e s. cc) (λ e s. cc) (λ a b e s. cc) (λ a e s. w.in_default.not-Sided-1 a s) (λ e s. cc)
-      | in_default-via-in-Replay+in_default w ↦ let is = w.in_default.is-0 in not_made c.args.command c.args.given n.0 n.1 (λ e s. cc) (λ e s. cc) (λ e s. cc) (λ e s. cc) (λ a b e s. cc) (λ a e s. cc) (λ e s. w.in_default.not-Nothing-1 s)
+      | in_default-via-in-Adjudicate+in_default w ↦ none (lacks Adjudicate w.in_default.is-0 (λ s. w.in_default.not-Nothing-1 s))
+      | in_default-via-in-Correct+in_default w ↦ none (lacks Correct w.in_default.is-0 (λ s. w.in_default.not-Nothing-1 s))
+      | in_default-via-in-Position+in_default w ↦ none (lacks Position w.in_default.is-0 (λ s. w.in_default.not-Nothing-1 s))
+      | in_default-via-in-Check+in_default w ↦ none (lacks Check w.in_default.is-0 (λ s. w.in_default.not-Nothing-1 s))
+      | in_default-via-in-Gen+in_default w ↦ none (lacks Gen w.in_default.is-0 (λ a b s. w.in_default.not-Games-1 a b s))
+      | in_default-via-in-Mates+in_default w ↦ none (lacks Mates w.in_default.is-0 (λ a s. w.in_default.not-Sided-1 a s))
+      | in_default-via-in-Replay+in_default w ↦ none (lacks Replay w.in_default.is-0 (λ s. w.in_default.not-Nothing-1 s))
     ]

@@ -13,5 +13,6 @@ invariant_of-result c = λ e.
       size = search rules;
       some = search rules;
       settled = search rules;
-      waits = λ e. nothing_waits _ _ (search rules) (search rules);
+      waits = nothing_waits _ _ (search rules) (search rules);
+      none_settled = search rules;
     }

@@ -1,8 +1,9 @@
-use Rattle.std.proofs.Common.{◌≡◌, ◌+◌, ◌-◌, ◌≤◌, length, take, true, false, Bool, ℕ}
+use Rattle.std.proofs.Common.{◌≡◌, ◌+◌, ◌-◌, ◌<◌, ◌≤◌, length, take, true, false, Bool, ℕ}
 use Rattle.cha_outside.specs.declared.gathering.TheConstants.{MOST_BYTES}
 use Rattle.cha_outside.specs.Gathering.{Gathers}
 use Rattle.std.specs.Io.KnownBytes.{IsAtEnd}
 use Rattle.pgn_games.specs.Games.{placed_games}
+use Rattle.pgn_games.specs.Settling.{settled_games}
 use Rattle.pgn_results.specs.Keeping.{arrived, IsOpen}
 use Rattle.pgn_results.proofs.kept.KeptReader.next.Given as goal
 
@@ -17,6 +18,7 @@ invariant-loop-found g l = record {
   first : take l.fn.self.given (placed_games (arrived l.self-inside.intake)) ≡ take l.fn.self.given (placed_games l.fn.self.taken);
   still : l.fn.self.ended ≡ true → (arrived l.self-inside.intake ≡ l.fn.self.taken) × (l.self-inside.ended ≡ true) × (l.source ≡ l.fn.source);
   at_end : l.fn.self.ended ≡ false → l.self-inside.ended ≡ true → IsAtEnd (g.S.Source.left l.source);
+  at_hand : l.fn.self.given < settled_games l.fn.self.taken → (l.source ≡ l.fn.source) × (arrived l.self-inside.intake ≡ l.fn.self.taken);
   later : g.S.Source.faults l.fn.source ≤ g.S.Source.faults l.source;
 }
 

@@ -1,7 +1,7 @@
-use Rattle.std.proofs.Common.{◌≡◌, ◌+◌, ◌-◌, ◌≤◌, length, take, true}
+use Rattle.std.proofs.Common.{◌≡◌, ◌+◌, ◌-◌, ◌<◌, ◌≤◌, length, take, true}
 use Rattle.cha_outside.specs.Gathering.{Gathers}
 use Rattle.cha_outside.specs.declared.gathering.TheConstants.{MOST_BYTES}
-use Rattle.text_lines.specs.Lines.{text_lines}
+use Rattle.text_lines.specs.Lines.{text_lines, settled_lines}
 use Rattle.text_lines.specs.Keeping.{taken_by, IsHeldBy, WaitsAt}
 use Rattle.text_lines.proofs.reading.Lines.next.Given as goal
 
@@ -15,6 +15,7 @@ invariant-loop-line g l = record {
   ended : l.self.ended ≡ l.fn.self.ended;
   first : take l.fn.self.given (text_lines (taken_by l.self)) ≡ take l.fn.self.given (text_lines (taken_by l.fn.self));
   still : l.fn.self.ended ≡ true → (taken_by l.self ≡ taken_by l.fn.self) × (l.source ≡ l.fn.source);
+  at_hand : l.fn.self.given < settled_lines (taken_by l.fn.self) → (l.source ≡ l.fn.source) × (taken_by l.self ≡ taken_by l.fn.self);
   later : g.S.Source.faults l.fn.source ≤ g.S.Source.faults l.source;
 }
 

@@ -27,3 +27,8 @@ returns-clause-waits g c =
     let r = c.refill.ensures in
     let few : length r.bytes.0 ≤ 65536 = omega (arith, r.few_more, ap length r.bytes.2, length-append (drop c.args.self.now.text.used c.args.self.now.text.piece.items) r.bytes.0) in
     refilled_waits _ _ _ _ _ _ _ _ _ c.requires.held c.requires.no_feed c.requires.open r.bytes.0 _ _ _ _ r.before r.bytes.2 r.scanned r.taken few
+
+pub returns-clause-none_settled : goal.returns-clause-none_settled
+returns-clause-none_settled g c = λ e.
+    let r = c.refill.ensures in
+    refilled_settled _ _ _ _ _ _ _ _ _ c.requires.held c.requires.no_feed c.requires.open r.bytes.0 _ _ _ _ r.before r.bytes.2 r.scanned r.taken (r.end e).1

@@ -1,6 +1,6 @@
 use Rattle.std.proofs.Common.{refl}
 use Rattle.cha_moves.proofs.Alone.{is_mover}
-use Rattle.cha_moves.proofs.afterwards.after_of.Goals as goal
+use Rattle.cha_moves.proofs.afterwards.after_by.Goals as goal
 
 pub after_pawn-requires-clause-man : goal.after_pawn-requires-clause-man
 after_pawn-requires-clause-man c = is_mover c.args.position.now c.args.m _ c.args.kind _ _ c.requires.legal refl refl c.requires.kind c.in-Pawn.is

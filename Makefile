@@ -47,8 +47,7 @@ HEAP = $(dir $(shell rt doc 2>/dev/null))c/liblibc_c.a
 lib: libcha.a libcha.so
 
 $(LIBRARY): $(SOURCES) | kit
-	@tools/prove.py cha_c
-	@cd crates/cha_c && rt lib > /dev/null
+	@tools/library.py cha_c
 
 libcha.a: $(LIBRARY)
 	@rm -f $@

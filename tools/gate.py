@@ -9,8 +9,10 @@ said; with CI=true it is a failure, unless only the page or the Python package w
 """
 import os
 import re
+import shutil
 import subprocess
 import sys
+import time
 
 TOP = os.path.dirname(os.path.dirname(os.path.abspath(__file__)))
 # what is run, and which packages it needs, as words of tools/packages; None where it needs none
@@ -43,8 +45,18 @@ def run(command):
     return ran.returncode, passed, failed
 
 
+def take_what_is_proved(since):
+    """Takes the program that `rt ci` has proved and built since then, and builds the library over the libraries that it has proved, so that
+    `make` finds both up to date and proves nothing a second time."""
+    program = f"{TOP}/crates/cha_main/out/cha_main"
+    if os.path.exists(program) and os.path.getmtime(program) >= since:
+        shutil.copy(program, f"{TOP}/cha")
+    return subprocess.call([f"{TOP}/tools/library.py", "cha_c", "--proved-since", str(since)])
+
+
 def main():
     status = passed = failed = 0
+    began = time.time()
     for command, packages in SUITES:
         if packages is not None and subprocess.call([f"{TOP}/tools/packages", *packages]):
             print(f"passed over for want of packages: {' '.join(command)}", flush=True)
@@ -54,6 +66,10 @@ def main():
             continue
         status, good, bad = run(command)
         passed, failed = passed + good, failed + bad
+        if not status and command == ["rt", "ci"]:
+            status = take_what_is_proved(began)
+            failed += status != 0
+        print(f"after {(time.time() - began) / 60:.0f} minutes", flush=True)
         if status:
             break
     print(f"{passed} passed, {failed} failed", flush=True)

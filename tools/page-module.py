@@ -3,8 +3,8 @@
 
     tools/page-module.py CRATE OUT.wasm
 
-`rt lib` hands its LLVM module to the clang of its toolchain, which is here a script that keeps a copy. The module's target is replaced,
-the same clang compiles it and web/heap.c for WebAssembly, the kit's linker links them, and wasm-opt lowers the addresses to 32 bits.
+tools/library.py keeps the LLVM module that the library was compiled from. The module's target is replaced, the same clang compiles it and
+web/heap.c for WebAssembly, the kit's linker links them, and wasm-opt lowers the addresses to 32 bits.
 """
 import os
 import re
@@ -24,13 +24,6 @@ PROCESSOR = '"no-builtin-bcmp" "no-builtin-memcmp" "no-builtin-strlen" "target-c
 # Attributes that are for the other target, or for the check of types alone.
 DROPPED = re.compile(r' ?"(?:probe-stack|stack-probe-size|rattle-sig)"="[^"]*"')
 OF_THE_OTHER_TARGET = re.compile(r"x86|inteldialect|\basm\b|i386|target-features")
-# A copy of the LLVM module, and then what was asked.
-KEEPER = """#!/bin/sh
-for word; do
-    case $word in *module.bc) cp "$word" "{kept}" ;; esac
-done
-exec "{clang}" "$@"
-"""
 
 
 def run(words, **how):
@@ -40,40 +33,9 @@ def run(words, **how):
     return ran.stdout
 
 
-def links(source, made, but):
-    """A folder of links to all that is in another one, but for a few names."""
-    os.makedirs(made)
-    for name in os.listdir(source):
-        if name not in but:
-            os.symlink(f"{source}/{name}", f"{made}/{name}")
-
-
-def kit_that_keeps(kit, room):
-    """The kit once more, by links, with a clang that keeps a copy of each LLVM module in the room."""
-    links(kit, f"{room}/kit", ["bin", "toolchain"])
-    links(f"{kit}/bin", f"{room}/kit/bin", ["rt", "rtlib.py"])
-    links(f"{kit}/toolchain", f"{room}/kit/toolchain", ["bin"])
-    links(f"{kit}/toolchain/bin", f"{room}/kit/toolchain/bin", ["clang"])
-    # These find the kit by where they themselves are.
-    run(["cp", f"{kit}/bin/rt", f"{kit}/bin/rtlib.py", f"{room}/kit/bin"])
-    keeper = f"{room}/kit/toolchain/bin/clang"
-    with open(keeper, "w", encoding="utf-8") as file:
-        file.write(KEEPER.format(kept=f"{room}/module.bc", clang=f"{kit}/toolchain/bin/clang"))
-    os.chmod(keeper, 0o755)
-
-
 def llvm_module(kit, room, crate):
-    """The text of the LLVM module of a proved static library."""
-    kit_that_keeps(kit, room)
-    folder = f"{TOP}/crates/{crate}"
-    archive = f"{folder}/out/lib{crate}.a"
-    # Without its archive the library is compiled again. The archive that others were made of stays what it was.
-    os.replace(archive, f"{archive}.kept")
-    try:
-        run([f"{room}/kit/bin/rt", "lib"], cwd=folder)
-    finally:
-        os.replace(f"{archive}.kept", archive)
-    clang = [f"{kit}/toolchain/bin/clang", "--target=x86_64-unknown-linux-gnu", "-x", "ir", f"{room}/module.bc"]
+    """The text of the LLVM module that a proved static library was compiled from."""
+    clang = [f"{kit}/toolchain/bin/clang", "--target=x86_64-unknown-linux-gnu", "-x", "ir", f"{TOP}/crates/{crate}/out/module.bc"]
     run([*clang, "-S", "-emit-llvm", "-O0", "-Xclang", "-disable-llvm-passes", "-o", f"{room}/printed.ll"])
     with open(f"{room}/printed.ll", encoding="utf-8", errors="surrogateescape") as file:
         return file.read()

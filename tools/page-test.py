@@ -167,7 +167,7 @@ class OnPage:
 
     def test_what_is_undecided_is_looked_at_further(self):
         self.open(fen="8/8/8/4k3/3q4/8/8/4KN2 w - -", budget="1", depth="2", flag="white")
-        self.assertEqual(self.browser.text("#words"), "Not decided within 1 positions whether Black can still checkmate.")
+        self.assertEqual(self.browser.text("#words"), "Not decided within 1 position whether Black can still checkmate.")
         self.picture("undecided")
         self.browser.click("#further")
         self.browser.until(IDLE)

@@ -42,7 +42,7 @@ function wordsOfPosition(item) {
     const can = ["white", "black"].filter((side) => item[side].verdict === "winnable");
     if (can.length === 2) return say("rule_both");
     const undecided = [white, black].find((it) => it.verdict === "undecided");
-    const positions = undecided && counted(undecided.positions);
+    const positions = undecided && countedPositions(undecided.positions);
     if (can.length === 1) {
         const [side, other] = [sideName(can[0]), sideName(otherSide(can[0]))];
         if (item[otherSide(can[0])].verdict === "skipped") return say("rule_live", { can: side });
@@ -63,7 +63,7 @@ function wordsOfGame(game, firstSide) {
     if (game.article === "6.9") return say("rule_flag_draws", names);
     if (!flag || !WINNERS[game.recorded]) return say(game.recorded === "*" ? "rule_open" : "rule_stands", { result: game.recorded });
     const found = game[winner];
-    if (found.verdict === "undecided") return say("rule_flag_undecided", { ...names, positions: counted(found.positions) });
+    if (found.verdict === "undecided") return say("rule_flag_undecided", { ...names, positions: countedPositions(found.positions) });
     return say("rule_flag_wins", { ...names, line: shortLine(found.san ?? []) });
 }
 
@@ -85,7 +85,7 @@ function wordsOfSide(side, found, isPosition) {
         case "unwinnable":
             return [say("cannot_mate", { side: name }), say(`why_${found.by}`, { side: name, nodes: counted(found.nodes ?? 0) })];
         case "undecided":
-            return [say("undecided", { side: name }), say("undecided_after", { positions: counted(found.positions), depth: found.depth })];
+            return [say("undecided", { side: name }), say("undecided_after", { positions: countedPositions(found.positions), depth: found.depth })];
         default:
             return [say("skipped", { side: name }), say(isPosition ? "skipped_position" : "skipped_why", { other: sideName(otherSide(side)) })];
     }

@@ -106,15 +106,17 @@ const TEXTS = {
         rule_flag_wins: "{loser}'s flag fell: {winner} wins, since {winner} can still checkmate, for example {line}.",
         rule_flag_draws: "{loser}'s flag fell. Drawn: no series of legal moves lets {winner} checkmate (6.9).",
         rule_time_draws: "Drawn: no series of legal moves lets {winner} checkmate (6.9).",
-        rule_flag_undecided: "Not decided within {positions} positions whether {winner} can still checkmate.",
+        one_position: "1 position",
+        some_positions: "{count} positions",
+        rule_flag_undecided: "Not decided within {positions} whether {winner} can still checkmate.",
         rule_stands: "The recorded result stands: {result}.",
         rule_open: "The game goes on: nothing in the position ends it.",
         rule_both: "Play goes on: both sides can still checkmate.",
         rule_live: "Play goes on: {can} can still checkmate.",
         rule_one: "Play goes on: {can} can still checkmate, {cannot} cannot.",
-        rule_some: "Play goes on: {can} can still checkmate. Of {other} it is not decided within {positions} positions.",
-        rule_undecided: "Not decided within {positions} positions.",
-        rule_none_shown: "Not decided within {positions} positions for {other}; {cannot} cannot checkmate.",
+        rule_some: "Play goes on: {can} can still checkmate. Of {other} it is not decided within {positions}.",
+        rule_undecided: "Not decided within {positions}.",
+        rule_none_shown: "Not decided within {positions} for {other}; {cannot} cannot checkmate.",
         summary_games: "{count} games. Results that change by the Laws: {changed}. Unreadable: {unreadable}. Undecided: {undecided}.",
         summary_positions: "{count} positions. Dead: {dead}. Refused: {unreadable}. Undecided: {undecided}.",
         summary_flags: "{count} positions with a fallen flag. Drawn: {drawn}. Refused: {unreadable}. Undecided: {undecided}.",
@@ -130,7 +132,7 @@ const TEXTS = {
         "why_lone pieces": "Minor pieces like these never mate alone: beside a king in check some square is always left on which only a man could stand that captures the checker or steps between.",
         why_graph: "Every position that can still arise was looked at, {nodes} in all, and none is a mate for {side}.",
         undecided: "Not decided for {side}",
-        undecided_after: "No mate was met in the positions that were explored, of which there were {positions}; none comes within {depth} plies.",
+        undecided_after: "{positions} explored without a mate; none comes within {depth} plies.",
         skipped: "{side} was not examined",
         skipped_why: "The result cannot depend on it.",
         skipped_position: "The game goes on either way. To see it, say above that the flag of {other} fell.",
@@ -168,4 +170,9 @@ function fault(wrong) {
 /** A count as this language writes it. */
 function counted(number) {
     return number.toLocaleString(LANGUAGE);
+}
+
+/** A count of positions, with the word in its number. */
+function countedPositions(number) {
+    return say(number === 1 ? "one_position" : "some_positions", { count: counted(number) });
 }

@@ -40,7 +40,7 @@ fn about_setting(setting: Setting) -> &'static str {
         Setting::Certs => "prints the certificate of each side that cannot mate",
         Setting::Json => "prints each block and the summary as a line of JSON",
         Setting::San => "prints moves as words, as Nf2#",
-        Setting::Fens => "prints the position after each move, behind --json",
+        Setting::Fens => "prints the position after each move, with --json",
         Setting::FlaggedDraws => "examines drawn games in which a flag fell",
         Setting::Changed => "writes only the games whose result changes",
     }
@@ -98,7 +98,7 @@ fn say_usage(rt: &HostRuntime) -> io::Result<()> {
     }
     eprintln!(rt; "")?;
     eprintln!(rt;
-        "An option stands behind its command, at most once, as --name N or --name=N. The manual is cha(1)."
+        "An option comes after its command, at most once, as --name N or --name=N. The manual is cha(1)."
     )
 }
 
@@ -202,17 +202,17 @@ pub fn say_fault(rt: &HostRuntime, words: &[String], fault: UsageFault) -> io::R
             if word == "--version" {
                 return say_version(rt);
             }
-            eprint!(rt; "{word:?} may not stand behind '")?;
+            eprint!(rt; "{word:?} may not come after '")?;
         }
         None => {
             if right.is_empty() {
                 return say_usage(rt);
             }
-            eprint!(rt; "a word is missing behind '")?;
+            eprint!(rt; "a word is missing after '")?;
         }
     }
     say_words(rt, right)?;
-    eprint!(rt; "'; there may stand: ")?;
+    eprint!(rt; "'; expected: ")?;
     say_expected(rt, fault.expected)?;
     eprintln!(rt; "")?;
     eprintln!(rt; "'cha --help' shows all commands and options")

@@ -56,7 +56,12 @@ that the contracts cite, on that toolchain and the contracts of the libraries it
 NOTE
 tar -C "$room" --sort=name --owner=0 --group=0 --numeric-owner --mtime="@$(git log -1 --format=%ct 2> /dev/null || date +%s)" -cf - "$name" | gzip -n > "dist/$name.tar.gz"
 for made in python/dist/*.whl page/dist/*; do
-    [ ! -e "$made" ] || cp -r "$made" dist/
+    [ -e "$made" ] || continue
+    if [ "$made" -ot libcha.so ] && [[ $made == *.whl || $made == *.wasm ]]; then
+        echo "$made is older than the library: 'make wheel page' builds both anew" >&2
+        exit 1
+    fi
+    cp -r "$made" dist/
 done
 (cd dist && find . -type f ! -name SHA256SUMS -printf '%P\0' | sort -z | xargs -0 sha256sum > SHA256SUMS)
 cat dist/SHA256SUMS

@@ -1,5 +1,5 @@
 -- Moves that were tried one after the other, and the calls of a place that were made by it.
-use Rattle.std.proofs.Common.{◌≡◌, ℕ, zero, suc, ◌+◌, ◌-◌, ◌<◌, ◌≤◌, List, [], ◌∷◌, ◌++◌, length, get_or, take, Option, Some, None, Result, Ok, IfOk, inl, inr, refl, sym, ◌∙◌, ap, subst, arith}
+use Rattle.std.proofs.Common.{◌≡◌, ℕ, zero, suc, ◌+◌, ◌-◌, ◌<◌, ◌≤◌, List, [], ◌∷◌, ◌++◌, length, get_or, take, Option, Some, None, Result, Ok, inl, inr, refl, sym, ◌∙◌, ap, subst, arith}
 use Rattle.std.specs.List.{Contains}
 use Rattle.std.proofs.lemmas.List.{take_more, take_all}
 use Rattle.std.proofs.lemmas.List.Elements.{Contains-append_right, Contains-push, Contains-push_cases}
@@ -21,9 +21,10 @@ use Rattle.cha_fact.proofs.Searching.{front_within, back_within, searched_more}
 use Rattle.helpmate.specs.declared.answers.RoundAnswer.{RoundAnswer}
 use Rattle.helpmate.specs.declared.answers.RoundAnswer.TheVariants.{NoneWithin}
 use Rattle.helpmate.specs.declared.answers.RoundDone.{RoundDone}
-use Rattle.helpmate.specs.Rounds.{decided_by, IsCounted, FollowsProbe, RoundCalls}
-use Rattle.helpmate.specs.Searches.{AreSearched, IsExpanded, Expands, BeginsWithProbe, Searches, RootSearches}
+use Rattle.helpmate.specs.Rounds.{decided_by, IsAsked, IsLeft, Keeps, led_answer, AreExpandedAfter, AreExpandedBy, FollowsProbe, RoundCalls}
+use Rattle.helpmate.specs.Searches.{AreSearched, IsExpanded, Expands, AreCountedBy, BeginsWithProbe, Searches, RootSearches}
 use Rattle.helpmate.proofs.Saying.{says_none}
+use Rattle.helpmate.proofs.Expanding.{AfterMove, AreExpandedByAll, none_by_all, more_by_all, ended_after, all_after, with_the_root, left_alone, not_asked_for}
 
 -- after none of these moves there is a mate within so many plies
 unfoldable pub HaveNoMate : Board → Color → ℕ → List Move → Type 0
@@ -54,19 +55,33 @@ no_mate_at_all q w d ms i all end listed running (m ∷ rest) few line =
     let L : List Move → Type 0 = λ l. Contains l m in
     all m (subst L (sym (take_all i ms end ∙ listed)) line.0) rest (omega arith) line.1
 
--- each position after one of these moves was searched, by calls that were made from one state of a place to a later one
-unfoldable pub Tried : {S : Type 0} → (S → List Entry → S → Type 0) → S → S → Board → Color → ℕ → List Move → Type 0
-Tried made old new q w d ms = (entries : List Entry) × made old entries new × AreSearched entries q w d ms
+-- each position after one of these moves was searched without a mate, by calls that were made from one state of a place to a
+-- later one, and n positions were expanded
+unfoldable pub Tried : {S : Type 0} → (S → List Entry → S → Type 0) → S → S → Board → Color → ℕ → List Move → ℕ → Type 0
+Tried made old new q w d ms n = (entries : List Entry) × made old entries new × AreSearched entries q w d ms × AreExpandedByAll (AfterMove q w d) ms entries n
 
-pub none_tried : {S : Type 0} (made : S → List Entry → S → Type 0) (s : S) (q : Board) (w : Color) (d : ℕ) → made s [] s → Tried made s s q w d []
+pub none_tried : {S : Type 0} (made : S → List Entry → S → Type 0) (s : S) (q : Board) (w : Color) (d n : ℕ) → made s [] s → n ≡ 0 → Tried made s s q w d [] n
 unfolding Tried AreSearched
-none_tried made s q w d none = ([], none, (λ m there. absurd (not_in_nothing m there)))
+none_tried made s q w d n none nothing = ([], none, (λ m there. absurd (not_in_nothing m there)), none_by_all (AfterMove q w d) n nothing)
 
-pub one_more_tried : {S : Type 0} (made : S → List Entry → S → Type 0) (old mid new : S) (q r : Board) (w : Color) (d units : ℕ) (ms : List Move) (i : ℕ) (m : Move) (result : Result RoundAnswer NoMemory)
+-- what a search expanded, by its entries
+counted : {S : Type 0} (made : S → List Entry → S → Type 0) (old new : S) (q r : Board) (w : Color) (d units : ℕ) (m : Move) (result : Result RoundAnswer NoMemory) (answer : RoundAnswer)
+    → (h : Searches made old new r w d units result) → result ≡ Ok answer → r ≡ after q m → AfterMove q w d m h.entries answer units
+unfolding AreCountedBy IsAsked BeginsWithProbe
+counted made old new q r w zero units m result answer h ends next =
+    subst (λ (b : Board). AreCountedBy h.entries b w zero answer units) next (not_asked_for h.entries r w zero units answer (omega arith) (h.last (omega arith) answer ends))
+counted made old new q r w (suc zero) units m result answer h ends next =
+    subst (λ (b : Board). AreCountedBy h.entries b w (suc zero) answer units) next (not_asked_for h.entries r w (suc zero) units answer (omega arith) (h.last (omega arith) answer ends))
+counted made old new q r w (suc (suc d)) units m result answer h ends next =
+    let first = h.first (omega arith) in
+    let here : AreCountedBy h.entries r w (suc (suc d)) answer units = (first.0, first.1, first.2, first.3 answer ends) in
+    subst (λ (b : Board). AreCountedBy h.entries b w (suc (suc d)) answer units) next here
+
+pub one_more_tried : {S : Type 0} (made : S → List Entry → S → Type 0) (old mid new : S) (q r : Board) (w : Color) (d units n v : ℕ) (ms : List Move) (i : ℕ) (m : Move) (result : Result RoundAnswer NoMemory)
     → ((a b c : S) (xs ys : List Entry) → made a xs b → made b ys c → made a (xs ++ ys) c)
-    → Tried made old mid q w d (take i ms) → Searches made mid new r w d units result → result ≡ Ok NoneWithin → r ≡ after q m → i < length ms → m ≡ get_or ms i m → Tried made old new q w d (take (i + 1) ms)
+    → Tried made old mid q w d (take i ms) n → Searches made mid new r w d units result → result ≡ Ok NoneWithin → r ≡ after q m → i < length ms → m ≡ get_or ms i m → v ≡ n + units → Tried made old new q w d (take (i + 1) ms) v
 unfolding Tried AreSearched
-one_more_tried made old mid new q r w d units ms i m result both before here none next inside at =
+one_more_tried made old mid new q r w d units n v ms i m result both before here none next inside at sum =
     let xs = before.0 in
     let ys = here.entries in
     let P : Board → Type 0 = λ b. IsSearched ys b w d in (
@@ -74,38 +89,73 @@ one_more_tried made old mid new q r w d units ms i m result both before here non
       both old mid new xs ys before.1 here.entered,
       one_more (λ x. IsSearched (xs ++ ys) (after q x) w d) ms i m (λ x there. searched_more xs (xs ++ ys) (front_within xs ys) (after q x) w d (before.2 x there))
           (searched_more ys (xs ++ ys) (back_within xs ys) (after q m) w d (subst P next (here.searched none))) inside at,
+      more_by_all (AfterMove q w d) ms i m xs ys n units v before.3 (counted made mid new q r w d units m result NoneWithin here none next) inside at sum,
     )
 
--- the calls of an expansion that ends otherwise than without a mate
-pub ends_otherwise : {S : Type 0} (made : S → List Entry → S → Type 0) (old new : S) (q : Board) (w : Color) (d e : ℕ) (ms : List Move) (result : Result RoundAnswer NoMemory) → Tried made old new q w e ms → (result ≡ Ok NoneWithin → ⊥) → Expands made old new q w d result
+-- the calls of an expansion that was refused memory
+pub ends_refused : {S : Type 0} (made : S → List Entry → S → Type 0) (old mid new : S) (q r : Board) (w : Color) (d e units n k : ℕ) (ms : List Move) (inner result : Result RoundAnswer NoMemory)
+    → ((a b c : S) (xs ys : List Entry) → made a xs b → made b ys c → made a (xs ++ ys) c)
+    → Tried made old mid q w e ms n → Searches made mid new r w e k inner → ((a : RoundAnswer) → result ≡ Ok a → ⊥) → Expands made old new q w d units result
 unfolding Tried Expands
-ends_otherwise made old new q w d e ms result tried other = (tried.0, tried.1, (λ same. absurd (other same)))
+ends_refused made old mid new q r w d e units n k ms inner result both tried here refused =
+    (tried.0 ++ here.entries, both old mid new tried.0 here.entries tried.1 here.entered, (λ same. absurd (refused NoneWithin same)), (λ a same. absurd (refused a same)))
+
+-- no move was tried, since the position is left, or memory was refused
+pub ends_at_once : {S : Type 0} (made : S → List Entry → S → Type 0) (s : S) (q : Board) (w : Color) (d units : ℕ) (result : Result RoundAnswer NoMemory)
+    → made s [] s → 0 < d → units ≡ 0 → (result ≡ Ok NoneWithin → ⊥) → ((a : RoundAnswer) → result ≡ Ok a → IsLeft q w a) → Expands made s s q w d units result
+unfolding Expands
+ends_at_once made s q w d units result none some nothing other left = ([], none, (λ same. absurd (other same)), (λ a same. left_alone q w d units a some nothing (left a same)))
+
+pub ends_refused_at_once : {S : Type 0} (made : S → List Entry → S → Type 0) (s : S) (q : Board) (w : Color) (d units : ℕ) (result : Result RoundAnswer NoMemory)
+    → made s [] s → ((a : RoundAnswer) → result ≡ Ok a → ⊥) → Expands made s s q w d units result
+unfolding Expands
+ends_refused_at_once made s q w d units result none refused = ([], none, (λ same. absurd (refused NoneWithin same)), (λ a same. absurd (refused a same)))
+
+pub the_answer : (a b : RoundAnswer) (o : Result RoundAnswer NoMemory) → o ≡ Ok a → o ≡ Ok b → a ≡ b
+the_answer a b o e f = cc
 
 -- a search below ended otherwise than without a mate
-pub ends_below : {S : Type 0} (made : S → List Entry → S → Type 0) (old mid new : S) (q r : Board) (w : Color) (d e units : ℕ) (ms : List Move) (inner result : Result RoundAnswer NoMemory)
+pub ends_below : {S : Type 0} (made : S → List Entry → S → Type 0) (old mid new : S) (q r : Board) (w : Color) (d e units n k : ℕ) (ms : List Move) (i : ℕ) (m : Move) (inner result : Result RoundAnswer NoMemory) (end answer : RoundAnswer)
     → ((a b c : S) (xs ys : List Entry) → made a xs b → made b ys c → made a (xs ++ ys) c)
-    → Tried made old mid q w e ms → Searches made mid new r w e units inner → (result ≡ Ok NoneWithin → ⊥) → Expands made old new q w d result
+    → Tried made old mid q w e (take i ms) n → Searches made mid new r w e k inner → inner ≡ Ok end → result ≡ Ok answer → (end ≡ NoneWithin → ⊥) → (answer ≡ NoneWithin → ⊥) → answer ≡ led_answer m end
+    → r ≡ after q m → i < length ms → m ≡ get_or ms i m → ms ≡ legal q → d ≡ e + 1 → 0 < e → (IsMated q (other_color w) → ⊥) → units ≡ n + k + 1 → Expands made old new q w d units result
 unfolding Tried Expands
-ends_below made old mid new q r w d e units ms inner result both tried here other =
-    (tried.0 ++ here.entries, both old mid new tried.0 here.entries tried.1 here.entered, (λ same. absurd (other same)))
+ends_below made old mid new q r w d e units n k ms i m inner result end answer both tried here ended ends other otherwise led next inside at listed deep some running sum =
+    let xs = tried.0 in
+    let ys = here.entries in
+    let after_all = ended_after (AfterMove q w e) (Keeps q w d) ms i m xs ys n k (n + k) answer end tried.3 (counted made mid new q r w e k m inner end here ended next) inside at refl other led in
+    let L : List Move → Type 0 = λ l. AreExpandedAfter (AfterMove q w e) (Keeps q w d) l (xs ++ ys) answer (n + k) in
+    let whole = with_the_root q w d e (n + k) units (xs ++ ys) answer deep some running (subst L listed after_all) sum in
+    let A : RoundAnswer → Type 0 = λ a. AreExpandedBy (xs ++ ys) q w d a units in (
+      xs ++ ys,
+      both old mid new xs ys tried.1 here.entered,
+      (λ same. absurd (otherwise (the_answer answer NoneWithin result ends same))),
+      (λ a same. subst A (the_answer answer a result ends same) whole),
+    )
 
 -- all legal moves were tried, and what came out was given to keep
-pub all_tried : {S : Type 0} (made : S → List Entry → S → Type 0) (old mid new : S) (q : Board) (w : Color) (d : ℕ) (ms : List Move) (i : ℕ) (row : Claim) (reply : Stored) (result : Result RoundAnswer NoMemory)
+pub all_tried : {S : Type 0} (made : S → List Entry → S → Type 0) (old mid new : S) (q : Board) (w : Color) (d units n : ℕ) (ms : List Move) (i : ℕ) (row : Claim) (reply : Stored)
     → ((a b c : S) (xs ys : List Entry) → made a xs b → made b ys c → made a (xs ++ ys) c)
-    → Tried made old mid q w (d - 1) (take i ms) → length ms ≤ i → ms ≡ legal q → made mid (store_entry row reply ∷ []) new → row ≡ none_within q w d → Expands made old new q w d result
+    → Tried made old mid q w (d - 1) (take i ms) n → length ms ≤ i → ms ≡ legal q → made mid (store_entry row reply ∷ []) new → row ≡ none_within q w d → 1 < d → (IsMated q (other_color w) → ⊥) → units ≡ n + 1
+    → Expands made old new q w d units (Ok NoneWithin)
 unfolding Tried Expands IsExpanded AreSearched HasStore
-all_tried made old mid new q w d ms i row reply result both tried end listed stored is =
+all_tried made old mid new q w d units n ms i row reply both tried end listed stored is deep running sum =
     let xs = tried.0 in
     let last = store_entry (none_within q w d) reply in
-    let M : Claim → Type 0 = λ r. made mid (store_entry r reply ∷ []) new in (
+    let same_moves = take_all i ms end ∙ listed in
+    let M : Claim → Type 0 = λ r. made mid (store_entry r reply ∷ []) new in
+    let B : List Move → Type 0 = λ l. AreExpandedByAll (AfterMove q w (d - 1)) l xs n in
+    let whole = with_the_root q w d (d - 1) n units (xs ++ last ∷ []) NoneWithin (omega (arith, deep)) (omega (arith, deep)) running (all_after (AfterMove q w (d - 1)) (Keeps q w d) (legal q) xs (last ∷ []) n (subst B same_moves tried.3) (reply, refl)) sum in
+    let A : RoundAnswer → Type 0 = λ a. AreExpandedBy (xs ++ last ∷ []) q w d a units in (
       xs ++ last ∷ [],
       both old mid new xs (last ∷ []) tried.1 (subst M is stored),
       (λ same. (
         (reply, Contains-push xs last),
         (λ m there.
             let L : List Move → Type 0 = λ l. Contains l m in
-            searched_more xs (xs ++ last ∷ []) (front_within xs (last ∷ [])) (after q m) w (d - 1) (tried.2 m (subst L (sym (take_all i ms end ∙ listed)) there))),
+            searched_more xs (xs ++ last ∷ []) (front_within xs (last ∷ [])) (after q m) w (d - 1) (tried.2 m (subst L (sym same_moves) there))),
       )),
+      (λ a same. subst A (the_answer NoneWithin a (Ok NoneWithin) refl same) whole),
     )
 
 found_here : (entries : List Entry) (q : Board) (w : Color) (d : ℕ) (row : Claim) → Contains entries (probe_entry (key_of q w) (Found row)) → decided_by d row.fact ≡ Some NoneWithin → HasFound entries q w d
@@ -123,20 +173,23 @@ not_asked entries q w zero few = tt
 not_asked entries q w (suc zero) few = tt
 not_asked entries q w (suc (suc d)) few = absurd (omega (arith, few))
 
-pub shallow : {S : Type 0} (made : S → List Entry → S → Type 0) (s : S) (q : Board) (w : Color) (d units : ℕ) (result : Result RoundAnswer NoMemory) → made s [] s → d ≤ 1 → Searches made s s q w d units result
-shallow made s q w d units result none few = record { entries = []; entered = none; searched = λ same. not_asked [] q w d few; first = λ deep. absurd (omega (arith, few, deep)) }
+pub shallow : {S : Type 0} (made : S → List Entry → S → Type 0) (s : S) (q : Board) (w : Color) (d units : ℕ) (answer : RoundAnswer) → made s [] s → d ≤ 1 → AreExpandedBy [] q w d answer units → Searches made s s q w d units (Ok answer)
+shallow made s q w d units answer none few expanded = record {
+  entries = [];
+  entered = none;
+  searched = λ same. not_asked [] q w d few;
+  first = λ deep. absurd (omega (arith, few, deep));
+  last = λ _ a same. (let A : RoundAnswer → Type 0 = λ x. AreExpandedBy [] q w d x units in subst A (the_answer answer a (Ok answer) refl same) expanded);
+}
 
 pub the_same : (a b : RoundAnswer) (o : Option RoundAnswer) → o ≡ Some a → o ≡ Some b → a ≡ b
 the_same a b o e f = cc
 
-the_answer : (a b : RoundAnswer) (o : Result RoundAnswer NoMemory) → o ≡ Ok a → o ≡ Ok b → a ≡ b
-the_answer a b o e f = cc
-
 -- what was found decides
-pub follows_found : (q : Board) (w : Color) (d units : ℕ) (reply : Probe) (row : Claim) (answer : RoundAnswer) → reply ≡ Found row → decided_by d row.fact ≡ Some answer → units ≡ 0 → FollowsProbe q w d reply answer units
+pub follows_found : (q : Board) (w : Color) (d units : ℕ) (reply : Probe) (row : Claim) (answer : RoundAnswer) → reply ≡ Found row → decided_by d row.fact ≡ Some answer → units ≡ 0 → FollowsProbe q w d reply [] answer units
 follows_found q w d units reply row answer is decided none =
-    let F : Probe → Type 0 = λ p. FollowsProbe q w d p answer units in
-    subst F (sym is) ((λ b says. (the_same answer b (decided_by d row.fact) decided says, none)), (λ not. cc))
+    let F : Probe → Type 0 = λ p. FollowsProbe q w d p [] answer units in
+    subst F (sym is) ((λ b says. (the_same answer b (decided_by d row.fact) decided says, none, refl)), (λ not. cc))
 
 pub decides : {S : Type 0} (made : S → List Entry → S → Type 0) (old new : S) (q : Board) (w : Color) (d units : ℕ) (reply : Probe) (row : Claim) (answer : RoundAnswer) (result : Result RoundAnswer NoMemory)
     → made old (probe_entry (key_of q w) reply ∷ []) new → reply ≡ Found row → decided_by d row.fact ≡ Some answer → units ≡ 0 → result ≡ Ok answer → RootSearches made old new q w d units result
@@ -153,14 +206,14 @@ decides made old new q w d units reply row answer result entered is decided none
         [],
         refl,
         (λ a same.
-            let A : RoundAnswer → Type 0 = λ x. FollowsProbe q w d reply x units in
+            let A : RoundAnswer → Type 0 = λ x. FollowsProbe q w d reply [] x units in
             subst A (the_answer answer a result ends same) (follows_found q w d units reply row answer is decided none)),
       );
     }
 
 -- a search whose position was asked for
-pub of_root : {S : Type 0} (made : S → List Entry → S → Type 0) (old new : S) (q : Board) (w : Color) (d units : ℕ) (result : Result RoundAnswer NoMemory) → RootSearches made old new q w d units result → Searches made old new q w d units result
-of_root made old new q w d units result h = record { entries = h.entries; entered = h.entered; searched = h.searched; first = λ deep. h.first }
+pub of_root : {S : Type 0} (made : S → List Entry → S → Type 0) (old new : S) (q : Board) (w : Color) (d units : ℕ) (result : Result RoundAnswer NoMemory) → RootSearches made old new q w d units result → 1 < d → Searches made old new q w d units result
+of_root made old new q w d units result h deep = record { entries = h.entries; entered = h.entered; searched = h.searched; first = λ deep. h.first; last = λ few. absurd (omega (arith, few, deep)) }
 
 -- from two plies on each position is asked for
 pub asks_root : {S : Type 0} (made : S → List Entry → S → Type 0) (old new : S) (q : Board) (w : Color) (d units : ℕ) (result : Result RoundAnswer NoMemory) → Searches made old new q w d units result → 1 < d → RootSearches made old new q w d units result
@@ -190,34 +243,33 @@ all_later e entries q w d ms all m there = searched_more entries (e ∷ entries)
 -- what was found does not decide, or nothing was found, and the position was expanded
 pub expanded : {S : Type 0} (made : S → List Entry → S → Type 0) (old mid new : S) (q : Board) (w : Color) (d units : ℕ) (reply : Probe) (result : Result RoundAnswer NoMemory)
     → ((a b c : S) (xs ys : List Entry) → made a xs b → made b ys c → made a (xs ++ ys) c)
-    → made old (probe_entry (key_of q w) reply ∷ []) mid → Expands made mid new q w d result → ((a : RoundAnswer) → result ≡ Ok a → FollowsProbe q w d reply a units) → Searches made old new q w d units result
+    → made old (probe_entry (key_of q w) reply ∷ []) mid → Expands made mid new q w d units result → 1 < d → ((rest : List Entry) (a : RoundAnswer) → AreExpandedBy rest q w d a units → FollowsProbe q w d reply rest a units) → Searches made old new q w d units result
 unfolding BeginsWithProbe Expands IsExpanded
-expanded made old mid new q w d units reply result both entered h follows =
+expanded made old mid new q w d units reply result both entered h deep follows =
     let first = probe_entry (key_of q w) reply in
     let rest = h.0 in
     record {
       entries = first ∷ rest;
       entered = both old mid new (first ∷ []) rest entered h.1;
       searched = λ same. (let parts = h.2 same in by_parts (first ∷ rest) q w d (probe_first rest q w reply) (store_later first rest q w d parts.0) (all_later first rest q w (d - 1) (legal q) parts.1));
-      first = λ _. (reply, rest, refl, follows);
+      first = λ _. (reply, rest, refl, (λ a same. follows rest a (h.3 a same)));
+      last = λ few. absurd (omega (arith, few, deep));
     }
 
 -- nothing is decided by what was found
-pub undecided : (q : Board) (w : Color) (d units : ℕ) (reply : Probe) (row : Claim) (result : Result RoundAnswer NoMemory) → reply ≡ Found row → decided_by d row.fact ≡ None → IfOk result (λ a. IsCounted q w d a units) → (a : RoundAnswer) → result ≡ Ok a → FollowsProbe q w d reply a units
-undecided q w d units reply row result is none counted a same =
-    let F : Probe → Type 0 = λ p. FollowsProbe q w d p a units in
-    subst F (sym is) ((λ b says. cc), (λ not. subst (λ (r : Result RoundAnswer NoMemory). IfOk r (λ x. IsCounted q w d x units)) same counted))
+pub undecided : (q : Board) (w : Color) (d units : ℕ) (reply : Probe) (row : Claim) → reply ≡ Found row → decided_by d row.fact ≡ None → (rest : List Entry) (a : RoundAnswer) → AreExpandedBy rest q w d a units → FollowsProbe q w d reply rest a units
+undecided q w d units reply row is none rest a expanded =
+    let F : Probe → Type 0 = λ p. FollowsProbe q w d p rest a units in
+    subst F (sym is) ((λ b says. cc), (λ not. expanded))
 
-pub missed : (q : Board) (w : Color) (d units : ℕ) (reply : Probe) (result : Result RoundAnswer NoMemory) → reply ≡ Miss → IfOk result (λ a. IsCounted q w d a units) → (a : RoundAnswer) → result ≡ Ok a → FollowsProbe q w d reply a units
-missed q w d units reply result is counted a same =
-    let F : Probe → Type 0 = λ p. FollowsProbe q w d p a units in
-    subst F (sym is) (subst (λ (r : Result RoundAnswer NoMemory). IfOk r (λ x. IsCounted q w d x units)) same counted)
+pub missed : (q : Board) (w : Color) (d units : ℕ) (reply : Probe) → reply ≡ Miss → (rest : List Entry) (a : RoundAnswer) → AreExpandedBy rest q w d a units → FollowsProbe q w d reply rest a units
+missed q w d units reply is rest a expanded = (let F : Probe → Type 0 = λ p. FollowsProbe q w d p rest a units in subst F (sym is) expanded)
 
 the_done : (a b : RoundDone) (o : Result RoundDone NoMemory) → o ≡ Ok a → o ≡ Ok b → a ≡ b
 the_done a b o e f = cc
 
 -- a round of one ply or none asks once
-pub asks_once : {S : Type 0} (made : S → List Entry → S → Type 0) (old new : S) (q : Board) (w : Color) (d units : ℕ) (reply : Probe) (result : Result RoundAnswer NoMemory) → made old (probe_entry (key_of q w) reply ∷ []) new → d ≤ 1 → ((a : RoundAnswer) → result ≡ Ok a → FollowsProbe q w d reply a units) → RootSearches made old new q w d units result
+pub asks_once : {S : Type 0} (made : S → List Entry → S → Type 0) (old new : S) (q : Board) (w : Color) (d units : ℕ) (reply : Probe) (result : Result RoundAnswer NoMemory) → made old (probe_entry (key_of q w) reply ∷ []) new → d ≤ 1 → ((a : RoundAnswer) → result ≡ Ok a → FollowsProbe q w d reply [] a units) → RootSearches made old new q w d units result
 unfolding BeginsWithProbe
 asks_once made old new q w d units reply result entered few follows =
     let first = probe_entry (key_of q w) reply in
@@ -242,7 +294,7 @@ round_of_search made old new q w d units inner result h ends =
       entered = subst M begins.2 h.entered;
       follows = λ done same. (
           let e = ends done same in
-          let U : ℕ → Type 0 = λ n. FollowsProbe q w d begins.0 done.round n in
+          let U : ℕ → Type 0 = λ n. FollowsProbe q w d begins.0 begins.1 done.round n in
           subst U (sym e.1) (begins.3 done.round e.0));
       searched = λ done same none. subst E begins.2 (h.searched ((ends done same).0 ∙ ap Ok none));
     }

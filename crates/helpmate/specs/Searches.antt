@@ -1,5 +1,5 @@
 -- What a search makes of a place that keeps facts, position by position (this project).
-use Rattle.std.specs.Prelude.{◌≡◌, ℕ, ◌-◌, ◌<◌, List, ◌∷◌, Contains, Result, Ok}
+use Rattle.std.specs.Prelude.{◌≡◌, ℕ, ◌-◌, ◌<◌, ◌≤◌, List, ◌∷◌, Contains, Result, Ok}
 use Rattle.cha_list.specs.declared.memory.NoMemory.{NoMemory}
 use Rattle.cha_board.specs.declared.men.Color.{Color}
 use Rattle.cha_board.specs.Board.{Board}
@@ -10,7 +10,7 @@ use Rattle.cha_fact.specs.Keys.{key_of}
 use Rattle.cha_fact.specs.Entries.{Entry, probe_entry, HasStore, IsSearched}
 use Rattle.helpmate.specs.declared.answers.RoundAnswer.{RoundAnswer}
 use Rattle.helpmate.specs.declared.answers.RoundAnswer.TheVariants.{NoneWithin}
-use Rattle.helpmate.specs.Rounds.{FollowsProbe}
+use Rattle.helpmate.specs.Rounds.{IsAsked, AreExpandedBy, FollowsProbe}
 
 -- each position after a move of a list was searched to a depth by these entries
 unfoldable pub AreSearched : List Entry → Board → Color → ℕ → List Move → Type 0
@@ -20,16 +20,21 @@ AreSearched entries q winner depth ms = (m : Move) → Contains ms m → IsSearc
 unfoldable pub IsExpanded : List Entry → Board → Color → ℕ → Type 0
 IsExpanded entries q winner depth = HasStore entries q winner depth × AreSearched entries q winner (depth - 1) (legal q)
 
--- the calls of an expansion
-unfoldable pub Expands : {S : Type 0} → (S → List Entry → S → Type 0) → S → S → Board → Color → ℕ → Result RoundAnswer NoMemory → Type 0
-Expands made old new q winner depth result =
+-- the calls of an expansion, and how many positions were expanded
+unfoldable pub Expands : {S : Type 0} → (S → List Entry → S → Type 0) → S → S → Board → Color → ℕ → ℕ → Result RoundAnswer NoMemory → Type 0
+Expands made old new q winner depth units result =
     (entries : List Entry) × made old entries new × (result ≡ Ok NoneWithin → IsExpanded entries q winner depth)
+    × ((answer : RoundAnswer) → result ≡ Ok answer → AreExpandedBy entries q winner depth answer units)
+
+-- n positions were expanded by the entries of a search with this answer
+unfoldable pub AreCountedBy : List Entry → Board → Color → ℕ → RoundAnswer → ℕ → Type 0
+AreCountedBy entries q winner depth answer n = IsAsked q winner depth entries answer n (λ rest. AreExpandedBy rest q winner depth answer n)
 
 -- the first entry is a probe of the position, and what was found is the answer if it decides
 unfoldable pub BeginsWithProbe : List Entry → Board → Color → ℕ → ℕ → Result RoundAnswer NoMemory → Type 0
 BeginsWithProbe entries q winner depth units result =
     (reply : Probe) × (rest : List Entry) × (entries ≡ probe_entry (key_of q winner) reply ∷ rest)
-    × ((answer : RoundAnswer) → result ≡ Ok answer → FollowsProbe q winner depth reply answer units)
+    × ((answer : RoundAnswer) → result ≡ Ok answer → FollowsProbe q winner depth reply rest answer units)
 
 -- The calls of a search.
 pub record Searches {S : Type 0} (made : S → List Entry → S → Type 0) (old new : S) (q : Board) (winner : Color) (depth units : ℕ) (result : Result RoundAnswer NoMemory) : Type 0 where
@@ -37,6 +42,7 @@ pub record Searches {S : Type 0} (made : S → List Entry → S → Type 0) (old
   pub entered : made old entries new
   pub searched : result ≡ Ok NoneWithin → IsSearched entries q winner depth
   pub first : 1 < depth → BeginsWithProbe entries q winner depth units result
+  pub last : depth ≤ 1 → (answer : RoundAnswer) → result ≡ Ok answer → AreExpandedBy entries q winner depth answer units
 
 -- The calls of the search of a round's position, which is asked for whatever the depth.
 pub record RootSearches {S : Type 0} (made : S → List Entry → S → Type 0) (old new : S) (q : Board) (winner : Color) (depth units : ℕ) (result : Result RoundAnswer NoMemory) : Type 0 where

@@ -2,7 +2,7 @@
 
 ghost use Rattle.std.specs.Prelude.{◌≡◌, ◌-◌, ◌≤◌, [], ◌∷◌};
 ghost use Rattle.helpmate.specs.Units.{AreUnits};
-ghost use Rattle.helpmate.specs.Rounds.{IsAnswer, IsCounted};
+ghost use Rattle.helpmate.specs.Rounds.{IsAnswer, AreExpandedBy};
 
 use crate::answers::RoundAnswer;
 use cha_board::{Color, Position};
@@ -33,7 +33,7 @@ fn line_of(m: Move) -> Line
 fn search_last_ply(position: &Position, winner: Color, left: &mut u32) -> RoundAnswer
     ensures less { left.new ≤ left.old }
     ensures units { AreUnits position.now 1 (left.old - left.new) }
-    ensures counted { IsCounted position.now winner 1 result (left.old - left.new) }
+    ensures counted { AreExpandedBy [] position.now winner 1 result (left.old - left.new) }
     ensures holds { IsAnswer position.now winner 1 1 result }
     ensures spent { result ≡ RoundAnswer.Spent → left.new ≡ 0 }
 {
@@ -55,7 +55,7 @@ pub fn search_shallow(position: &Position, winner: Color, depth: u8, left: &mut 
     requires { depth ≤ 1 }
     ensures less { left.new ≤ left.old }
     ensures units { AreUnits position.now depth (left.old - left.new) }
-    ensures counted { IsCounted position.now winner depth result (left.old - left.new) }
+    ensures counted { AreExpandedBy [] position.now winner depth result (left.old - left.new) }
     ensures holds { IsAnswer position.now winner depth 1 result }
     ensures spent { result ≡ RoundAnswer.Spent → left.new ≡ 0 }
 {

@@ -7,7 +7,7 @@ ghost use Rattle.cha_moves.specs.Ends.{IsMatingLine};
 ghost use Rattle.cha_fact.specs.Keys.{key_of};
 ghost use Rattle.cha_fact.specs.Entries.{probe_entry, IsOfKey};
 ghost use Rattle.helpmate.specs.Units.{AreUnits};
-ghost use Rattle.helpmate.specs.Rounds.{IsAnswer, IsCounted};
+ghost use Rattle.helpmate.specs.Rounds.{IsAnswer};
 ghost use Rattle.helpmate.specs.Searches.{Expands, Searches};
 
 use crate::answers::RoundAnswer;
@@ -116,10 +116,9 @@ fn expand<F: Facts>(
     ensures stays_ready { F.ready facts.new }
     ensures less { left.new ≤ left.old }
     ensures units { IfOk result (λ answer. AreUnits position.now depth (left.old - left.new)) }
-    ensures counted { IfOk result (λ answer. IsCounted position.now winner depth answer (left.old - left.new)) }
     ensures holds { IfOk result (IsAnswer position.now winner depth (32 + depth)) }
     ensures spent { result ≡ Ok RoundAnswer.Spent → left.new ≡ 0 }
-    ensures calls { Expands F.made facts.old facts.new position.now winner depth result }
+    ensures calls { Expands F.made facts.old facts.new position.now winner depth (left.old - left.new) result }
 {
     if is_mate(position, winner) {
         return Ok(RoundAnswer::Mate(Line::new()));

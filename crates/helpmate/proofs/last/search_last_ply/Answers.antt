@@ -1,5 +1,7 @@
 use Rattle.std.proofs.Common.{◌-◌, inl, inr, refl, arith}
+use Rattle.helpmate.specs.declared.answers.RoundAnswer.TheVariants.{Mate, NoneWithin, Spent}
 use Rattle.helpmate.proofs.Counting.{no_units}
+use Rattle.helpmate.proofs.Expanding.{left_alone, one_position}
 use Rattle.helpmate.proofs.LastPly.{one_unit, none_next}
 use Rattle.helpmate.proofs.last.search_last_ply.Goals as goal
 
@@ -20,13 +22,17 @@ returns-in-None-clause-holds c =
     none_next c.args.position.now c.args.winner (λ mated. let is = c.is_mate.ensures.mated.1 mated in let not = c.if-is_mate.false in cc) c.in-None.ensures.none
 
 pub returns-then-is_mate-clause-counted : goal.returns-then-is_mate-clause-counted
-returns-then-is_mate-clause-counted c = inr (inr (inl (c.is_mate.ensures.mated.0 c.if-is_mate.true)))
+returns-then-is_mate-clause-counted c = left_alone c.args.position.now c.args.winner 1 (c.args.left.now - c.args.left.now) _ (omega arith) (omega arith) (inl (c.is_mate.ensures.mated.0 c.if-is_mate.true))
 
 pub returns-then-left-eq0-clause-counted : goal.returns-then-left-eq0-clause-counted
-returns-then-left-eq0-clause-counted c = inr (inr (inr refl))
+returns-then-left-eq0-clause-counted c = left_alone c.args.position.now c.args.winner 1 (c.args.left.now - c.args.left.now) Spent (omega arith) (omega arith) (inr refl)
 
 pub returns-in-Some-clause-counted : goal.returns-in-Some-clause-counted
-returns-in-Some-clause-counted c = let some = c.if-left-eq0.false in inl (omega (arith, some))
+returns-in-Some-clause-counted c =
+    let some = c.if-left-eq0.false in
+    one_position c.args.position.now c.args.winner (c.args.left.now - (c.args.left.now - 1)) (Mate c.line_of.result) (omega (arith, some)) (λ mated. let is = c.is_mate.ensures.mated.1 mated in let not = c.if-is_mate.false in cc) (λ e. cc)
 
 pub returns-in-None-clause-counted : goal.returns-in-None-clause-counted
-returns-in-None-clause-counted c = let some = c.if-left-eq0.false in inl (omega (arith, some))
+returns-in-None-clause-counted c =
+    let some = c.if-left-eq0.false in
+    one_position c.args.position.now c.args.winner (c.args.left.now - (c.args.left.now - 1)) NoneWithin (omega (arith, some)) (λ mated. let is = c.is_mate.ensures.mated.1 mated in let not = c.if-is_mate.false in cc) (λ e. cc)

@@ -1,6 +1,8 @@
-use Rattle.std.proofs.Common.{◌-◌, Ok, sym, ◌∙◌, refl, arith}
+use Rattle.std.proofs.Common.{◌-◌, [], Ok, sym, ◌∙◌, refl, subst, arith}
+use Rattle.helpmate.specs.declared.answers.RoundAnswer.{RoundAnswer}
+use Rattle.helpmate.specs.Rounds.{AreExpandedBy}
 use Rattle.helpmate.proofs.Counting.{no_units}
-use Rattle.helpmate.proofs.Trying.{asks_once, decides, undecided, missed}
+use Rattle.helpmate.proofs.Trying.{the_answer, asks_once, decides, undecided, missed}
 use Rattle.helpmate.proofs.rounds.looked.Goals as goal
 
 pub returns-in-Some-clause-calls : goal.returns-in-Some-clause-calls
@@ -12,13 +14,17 @@ pub returns-in-None-clause-calls : goal.returns-in-None-clause-calls
 returns-in-None-clause-calls g c =
     let units = c.args.left.now - c.search_shallow.new.left in
     asks_once g.F.Facts.made c.args.facts.now c.ask.new.facts c.args.position.now c.args.winner c.args.depth units c.ask.result (Ok c.search_shallow.result) c.ask.ensures.entered
-    c.requires.few (undecided c.args.position.now c.args.winner c.args.depth units c.ask.result c.in-Found.row (Ok c.search_shallow.result) c.in-Found.is (sym c.decided.ensures.value ∙ c.in-None.is) c.search_shallow.ensures.counted)
+    c.requires.few (λ a same.
+    let A : RoundAnswer → Type 0 = λ x. AreExpandedBy [] c.args.position.now c.args.winner c.args.depth x units in
+    undecided c.args.position.now c.args.winner c.args.depth units c.ask.result c.in-Found.row c.in-Found.is (sym c.decided.ensures.value ∙ c.in-None.is) [] a (subst A (the_answer c.search_shallow.result a (Ok c.search_shallow.result) refl same) c.search_shallow.ensures.counted))
 
 pub returns-in-Miss-clause-calls : goal.returns-in-Miss-clause-calls
 returns-in-Miss-clause-calls g c =
     let units = c.args.left.now - c.search_shallow-in-Miss.new.left in
     asks_once g.F.Facts.made c.args.facts.now c.ask.new.facts c.args.position.now c.args.winner c.args.depth units c.ask.result (Ok c.search_shallow-in-Miss.result) c.ask.ensures.entered
-    c.requires.few (missed c.args.position.now c.args.winner c.args.depth units c.ask.result (Ok c.search_shallow-in-Miss.result) c.in-Miss.is c.search_shallow-in-Miss.ensures.counted)
+    c.requires.few (λ a same.
+    let A : RoundAnswer → Type 0 = λ x. AreExpandedBy [] c.args.position.now c.args.winner c.args.depth x units in
+    missed c.args.position.now c.args.winner c.args.depth units c.ask.result c.in-Miss.is [] a (subst A (the_answer c.search_shallow-in-Miss.result a (Ok c.search_shallow-in-Miss.result) refl same) c.search_shallow-in-Miss.ensures.counted))
 
 pub returns-in-Some-clause-units : goal.returns-in-Some-clause-units
 returns-in-Some-clause-units g c = no_units c.args.position.now c.args.depth (c.args.left.now - c.args.left.now) (omega arith)

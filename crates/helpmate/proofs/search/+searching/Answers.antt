@@ -1,9 +1,10 @@
-use Rattle.std.proofs.Common.{◌+◌, ◌-◌, [], take, Ok, inl, inr, sym, ◌∙◌, ap, refl, arith}
+use Rattle.std.proofs.Common.{◌+◌, ◌-◌, List, take, Ok, inl, inr, sym, ◌∙◌, ap, refl, arith}
+use Rattle.cha_moves.specs.Step.{Move}
 use Rattle.cha_moves.specs.Moves.{after}
-use Rattle.helpmate.specs.declared.answers.RoundAnswer.TheVariants.{Mate, NoneWithin, Spent}
+use Rattle.helpmate.specs.declared.answers.RoundAnswer.TheVariants.{Mate, Spent}
 use Rattle.helpmate.proofs.Counting.{no_units, from_no_move, one_more_counted, all_counted}
 use Rattle.helpmate.proofs.Saying.{none_answered, no_answer}
-use Rattle.helpmate.proofs.Trying.{no_mate_yet, no_mate_more, no_mate_at_all, none_tried, one_more_tried, ends_otherwise, ends_below, all_tried, decides, of_root, expanded, undecided, missed}
+use Rattle.helpmate.proofs.Trying.{no_mate_yet, no_mate_more, no_mate_at_all, none_tried, one_more_tried, the_answer, ends_at_once, ends_refused_at_once, ends_refused, ends_below, all_tried, decides, of_root, expanded, undecided, missed}
 use Rattle.helpmate.proofs.search.+searching.Goals as goal
 
 pub expand-returns-then-is_mate-clause-units : goal.expand-returns-then-is_mate-clause-units
@@ -11,33 +12,18 @@ expand-returns-then-is_mate-clause-units g t c = no_units c.args.position.now c.
 
 pub expand-returns-then-is_mate-clause-calls : goal.expand-returns-then-is_mate-clause-calls
 expand-returns-then-is_mate-clause-calls g t c =
-    ends_otherwise g.F.Facts.made c.args.facts.now c.args.facts.now c.args.position.now c.args.winner c.args.depth 0 [] _ (none_tried g.F.Facts.made c.args.facts.now c.args.position.now c.args.winner 0 (g.met.F.Facts.none_made c.args.facts.now)) (λ e. cc)
+    ends_at_once g.F.Facts.made c.args.facts.now c.args.position.now c.args.winner c.args.depth (c.args.left.now - c.args.left.now) _ (g.met.F.Facts.none_made c.args.facts.now) (let some = c.requires.some in omega (arith, some)) (omega arith) (λ e. cc) (λ a same. inl (c.is_mate.ensures.mated.0 c.if-is_mate.true))
 
 pub expand-returns-then-left-eq0-clause-units : goal.expand-returns-then-left-eq0-clause-units
 expand-returns-then-left-eq0-clause-units g t c = no_units c.args.position.now c.args.depth (c.args.left.now - c.args.left.now) (omega arith)
 
 pub expand-returns-then-left-eq0-clause-calls : goal.expand-returns-then-left-eq0-clause-calls
 expand-returns-then-left-eq0-clause-calls g t c =
-    ends_otherwise g.F.Facts.made c.args.facts.now c.args.facts.now c.args.position.now c.args.winner c.args.depth 0 [] _ (none_tried g.F.Facts.made c.args.facts.now c.args.position.now c.args.winner 0 (g.met.F.Facts.none_made c.args.facts.now)) (λ e. cc)
-
-pub expand-returns-then-is_mate-clause-counted : goal.expand-returns-then-is_mate-clause-counted
-expand-returns-then-is_mate-clause-counted g t c = inr (inr (inl (c.is_mate.ensures.mated.0 c.if-is_mate.true)))
-
-pub expand-returns-then-left-eq0-clause-counted : goal.expand-returns-then-left-eq0-clause-counted
-expand-returns-then-left-eq0-clause-counted g t c = inr (inr (inr refl))
-
-pub expand-returns-in-Mate-clause-counted : goal.expand-returns-in-Mate-clause-counted
-expand-returns-in-Mate-clause-counted g t c = (let less = c.search.ensures.less in let fewer = c.loop-m.invariant.fewer in inl (omega arith))
-
-pub expand-returns-in-Spent-clause-counted : goal.expand-returns-in-Spent-clause-counted
-expand-returns-in-Spent-clause-counted g t c = inr (inr (inr refl))
-
-pub expand-returns-clause-counted : goal.expand-returns-clause-counted
-expand-returns-clause-counted g t c = (let fewer = c.loop-m.invariant.fewer in inl (omega arith))
+    ends_at_once g.F.Facts.made c.args.facts.now c.args.position.now c.args.winner c.args.depth (c.args.left.now - c.args.left.now) (Ok Spent) (g.met.F.Facts.none_made c.args.facts.now) (let some = c.requires.some in omega (arith, some)) (omega arith) (λ e. cc) (λ a same. inr (the_answer a Spent (Ok Spent) same refl))
 
 pub expand-returns-in_err-moves-clause-calls : goal.expand-returns-in_err-moves-clause-calls
 expand-returns-in_err-moves-clause-calls g t c =
-    ends_otherwise g.F.Facts.made c.args.facts.now c.args.facts.now c.args.position.now c.args.winner c.args.depth 0 [] c.from_residual.result (none_tried g.F.Facts.made c.args.facts.now c.args.position.now c.args.winner 0 (g.met.F.Facts.none_made c.args.facts.now)) (no_answer c.from_residual.result NoneWithin c.from_residual.ensures.0)
+    ends_refused_at_once g.F.Facts.made c.args.facts.now c.args.position.now c.args.winner c.args.depth _ c.from_residual.result (g.met.F.Facts.none_made c.args.facts.now) (λ a. no_answer c.from_residual.result a c.from_residual.ensures.0)
 
 pub expand-loop-m-init : goal.expand-loop-m-init
 expand-loop-m-init g t c = record {
@@ -46,13 +32,13 @@ expand-loop-m-init g t c = record {
   fewer = (let some = c.if-left-eq0.false in omega arith);
   lines = from_no_move c.args.position.now (c.args.depth - 1) (c.args.left.now - 1 - (c.args.left.now - 1)) (omega arith);
   none = no_mate_yet c.args.position.now c.args.winner (c.args.depth - 1);
-  tried = none_tried g.F.Facts.made c.args.facts.now c.args.position.now c.args.winner (c.args.depth - 1) (g.met.F.Facts.none_made c.args.facts.now);
+  tried = none_tried g.F.Facts.made c.args.facts.now c.args.position.now c.args.winner (c.args.depth - 1) (c.args.left.now - 1 - (c.args.left.now - 1)) (g.met.F.Facts.none_made c.args.facts.now) (omega arith);
 }
 
 pub expand-returns-in_err-rest-clause-calls : goal.expand-returns-in_err-rest-clause-calls
 expand-returns-in_err-rest-clause-calls g t c =
-    ends_below g.F.Facts.made c.args.facts.now c.loop-m.facts c.search.new.facts c.args.position.now c.after-next.result c.args.winner c.args.depth (c.args.depth - 1) (c.loop-m.left - c.search.new.left) (take c.loop-m.m-index c.deref-m-items.result.now) c.search.result
-    c.from_residual-in_err-rest.result g.met.F.Facts.both_made c.loop-m.invariant.tried c.search.ensures.calls (no_answer c.from_residual-in_err-rest.result NoneWithin c.from_residual-in_err-rest.ensures.0)
+    ends_refused g.F.Facts.made c.args.facts.now c.loop-m.facts c.search.new.facts c.args.position.now c.after-next.result c.args.winner c.args.depth (c.args.depth - 1) _ (c.args.left.now - 1 - c.loop-m.left) (c.loop-m.left - c.search.new.left) (take c.loop-m.m-index c.deref-m-items.result.now) c.search.result
+    c.from_residual-in_err-rest.result g.met.F.Facts.both_made c.loop-m.invariant.tried c.search.ensures.calls (λ a. no_answer c.from_residual-in_err-rest.result a c.from_residual-in_err-rest.ensures.0)
 
 pub expand-returns-in-Mate-clause-units : goal.expand-returns-in-Mate-clause-units
 expand-returns-in-Mate-clause-units g t c =
@@ -67,8 +53,11 @@ expand-returns-in-Mate-clause-units g t c =
 
 pub expand-returns-in-Mate-clause-calls : goal.expand-returns-in-Mate-clause-calls
 expand-returns-in-Mate-clause-calls g t c =
-    ends_below g.F.Facts.made c.args.facts.now c.loop-m.facts c.search.new.facts c.args.position.now c.after-next.result c.args.winner c.args.depth (c.args.depth - 1) (c.loop-m.left - c.search.new.left) (take c.loop-m.m-index c.deref-m-items.result.now) c.search.result
-    (Ok (Mate c.led.result)) g.met.F.Facts.both_made c.loop-m.invariant.tried c.search.ensures.calls (λ e. cc)
+    let less = c.search.ensures.less in
+    let fewer = c.loop-m.invariant.fewer in
+    ends_below g.F.Facts.made c.args.facts.now c.loop-m.facts c.search.new.facts c.args.position.now c.after-next.result c.args.winner c.args.depth (c.args.depth - 1) (c.args.left.now - c.search.new.left) (c.args.left.now - 1 - c.loop-m.left) (c.loop-m.left - c.search.new.left)
+    c.deref-m-items.result.now c.loop-m.m-index c.m-item.result c.search.result (Ok (Mate c.led.result)) (Mate c.in-Mate.rest) (Mate c.led.result) g.met.F.Facts.both_made c.loop-m.invariant.tried c.search.ensures.calls (c.in_ok-rest.was ∙ ap Ok c.in-Mate.is) refl (λ e. cc) (λ e. cc) (ap (λ (l : List Move). Mate l) c.led.ensures.value)
+    c.after-next.ensures c.loop-m-test.true c.m-item.is c.loop-m.invariant.listed (let some = c.requires.some in omega (arith, some)) (let some = c.requires.some in omega (arith, some)) (λ mated. let is = c.is_mate.ensures.mated.1 mated in let not = c.if-is_mate.false in cc) (omega arith)
 
 pub expand-returns-in-Spent-clause-units : goal.expand-returns-in-Spent-clause-units
 expand-returns-in-Spent-clause-units g t c =
@@ -83,8 +72,11 @@ expand-returns-in-Spent-clause-units g t c =
 
 pub expand-returns-in-Spent-clause-calls : goal.expand-returns-in-Spent-clause-calls
 expand-returns-in-Spent-clause-calls g t c =
-    ends_below g.F.Facts.made c.args.facts.now c.loop-m.facts c.search.new.facts c.args.position.now c.after-next.result c.args.winner c.args.depth (c.args.depth - 1) (c.loop-m.left - c.search.new.left) (take c.loop-m.m-index c.deref-m-items.result.now) c.search.result
-    (Ok Spent) g.met.F.Facts.both_made c.loop-m.invariant.tried c.search.ensures.calls (λ e. cc)
+    let less = c.search.ensures.less in
+    let fewer = c.loop-m.invariant.fewer in
+    ends_below g.F.Facts.made c.args.facts.now c.loop-m.facts c.search.new.facts c.args.position.now c.after-next.result c.args.winner c.args.depth (c.args.depth - 1) (c.args.left.now - c.search.new.left) (c.args.left.now - 1 - c.loop-m.left) (c.loop-m.left - c.search.new.left)
+    c.deref-m-items.result.now c.loop-m.m-index c.m-item.result c.search.result (Ok Spent) Spent Spent g.met.F.Facts.both_made c.loop-m.invariant.tried c.search.ensures.calls (c.in_ok-rest.was ∙ ap Ok c.in-Spent.is) refl (λ e. cc) (λ e. cc) refl
+    c.after-next.ensures c.loop-m-test.true c.m-item.is c.loop-m.invariant.listed (let some = c.requires.some in omega (arith, some)) (let some = c.requires.some in omega (arith, some)) (λ mated. let is = c.is_mate.ensures.mated.1 mated in let not = c.if-is_mate.false in cc) (omega arith)
 
 pub expand-loop-m-preserved : goal.expand-loop-m-preserved
 expand-loop-m-preserved g t c =
@@ -102,7 +94,7 @@ expand-loop-m-preserved g t c =
       fewer = omega arith;
       lines = one_more_counted q c.after-next.result d c.args.left.now c.loop-m.left c.search.new.left ms i m before.lines c.in_ok-rest.ensures.units c.after-next.ensures c.loop-m-test.true c.m-item.is before.listed less fewer;
       none = no_mate_more q c.args.winner d ms i m before.none (none_answered (after q m) c.after-next.result c.args.winner d (32 + d) c.in_ok-rest.field-0 c.in_ok-rest.ensures.holds c.in-NoneWithin.is c.after-next.ensures) c.loop-m-test.true c.m-item.is;
-      tried = one_more_tried g.F.Facts.made c.args.facts.now c.loop-m.facts c.search.new.facts q c.after-next.result c.args.winner d (c.loop-m.left - c.search.new.left) ms i m c.search.result g.met.F.Facts.both_made before.tried c.search.ensures.calls (c.in_ok-rest.was ∙ ap Ok c.in-NoneWithin.is) c.after-next.ensures c.loop-m-test.true c.m-item.is;
+      tried = one_more_tried g.F.Facts.made c.args.facts.now c.loop-m.facts c.search.new.facts q c.after-next.result c.args.winner d (c.loop-m.left - c.search.new.left) (c.args.left.now - 1 - c.loop-m.left) (c.args.left.now - 1 - c.search.new.left) ms i m c.search.result g.met.F.Facts.both_made before.tried c.search.ensures.calls (c.in_ok-rest.was ∙ ap Ok c.in-NoneWithin.is) c.after-next.ensures c.loop-m-test.true c.m-item.is (omega arith);
     }
 
 pub expand-none-requires : goal.expand-none-requires
@@ -115,8 +107,8 @@ expand-returns-clause-units g t c =
 
 pub expand-returns-clause-calls : goal.expand-returns-clause-calls
 expand-returns-clause-calls g t c =
-    all_tried g.F.Facts.made c.args.facts.now c.loop-m.facts c.store-stored.new.self c.args.position.now c.args.winner c.args.depth c.deref-m-items.result.now c.loop-m.m-index c.none.result c.store-stored.result _ g.met.F.Facts.both_made c.loop-m.invariant.tried c.loop-m-test.false c.loop-m.invariant.listed
-    c.store-stored.ensures.entered c.none.ensures
+    all_tried g.F.Facts.made c.args.facts.now c.loop-m.facts c.store-stored.new.self c.args.position.now c.args.winner c.args.depth (c.args.left.now - c.loop-m.left) (c.args.left.now - 1 - c.loop-m.left) c.deref-m-items.result.now c.loop-m.m-index c.none.result c.store-stored.result g.met.F.Facts.both_made c.loop-m.invariant.tried
+    c.loop-m-test.false c.loop-m.invariant.listed c.store-stored.ensures.entered c.none.ensures c.requires.some (λ mated. let is = c.is_mate.ensures.mated.1 mated in let not = c.if-is_mate.false in cc) (let fewer = c.loop-m.invariant.fewer in omega arith)
 
 pub search_deep-returns-in-Some-clause-units : goal.search_deep-returns-in-Some-clause-units
 search_deep-returns-in-Some-clause-units g t c = no_units c.args.position.now c.args.depth (c.args.left.now - c.args.left.now) (omega arith)
@@ -128,7 +120,7 @@ search_deep-returns-in-Some-clause-calls g t c =
     let units = c.args.left.now - c.args.left.now in
     of_root g.F.Facts.made c.args.facts.now c.ask.new.facts q w c.args.depth units (Ok c.in-Some.answer)
     (decides g.F.Facts.made c.args.facts.now c.ask.new.facts q w c.args.depth units c.ask.result c.in-Found.row c.in-Some.answer (Ok c.in-Some.answer) c.ask.ensures.entered
-    c.in-Found.is (sym c.decided.ensures.value ∙ c.in-Some.is) (omega arith) refl)
+    c.in-Found.is (sym c.decided.ensures.value ∙ c.in-Some.is) (omega arith) refl) c.requires.some
 
 pub search_deep-returns-in-None-clause-calls : goal.search_deep-returns-in-None-clause-calls
 search_deep-returns-in-None-clause-calls g t c =
@@ -136,7 +128,7 @@ search_deep-returns-in-None-clause-calls g t c =
     let w = c.args.winner in
     let units = c.args.left.now - c.expand.new.left in
     expanded g.F.Facts.made c.args.facts.now c.ask.new.facts c.expand.new.facts q w c.args.depth units c.ask.result c.expand.result g.met.F.Facts.both_made c.ask.ensures.entered
-    c.expand.ensures.calls (undecided q w c.args.depth units c.ask.result c.in-Found.row c.expand.result c.in-Found.is (sym c.decided.ensures.value ∙ c.in-None.is) c.expand.ensures.counted)
+    c.expand.ensures.calls c.requires.some (undecided q w c.args.depth units c.ask.result c.in-Found.row c.in-Found.is (sym c.decided.ensures.value ∙ c.in-None.is))
 
 pub search_deep-returns-in-Miss-clause-calls : goal.search_deep-returns-in-Miss-clause-calls
 search_deep-returns-in-Miss-clause-calls g t c =
@@ -144,4 +136,4 @@ search_deep-returns-in-Miss-clause-calls g t c =
     let w = c.args.winner in
     let units = c.args.left.now - c.expand-in-Miss.new.left in
     expanded g.F.Facts.made c.args.facts.now c.ask.new.facts c.expand-in-Miss.new.facts q w c.args.depth units c.ask.result c.expand-in-Miss.result g.met.F.Facts.both_made c.ask.ensures.entered
-    c.expand-in-Miss.ensures.calls (missed q w c.args.depth units c.ask.result c.expand-in-Miss.result c.in-Miss.is c.expand-in-Miss.ensures.counted)
+    c.expand-in-Miss.ensures.calls c.requires.some (missed q w c.args.depth units c.ask.result c.in-Miss.is)

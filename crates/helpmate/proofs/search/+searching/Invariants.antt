@@ -20,5 +20,5 @@ invariant-expand-loop-m g l = record {
   fewer : l.left < l.fn.left;
   lines : HasLinesFrom l.position (l.depth - 1) (take l.m-index l.m-items) (l.fn.left - 1 - l.left);
   none : HaveNoMate l.position l.winner (l.depth - 1) (take l.m-index l.m-items);
-  tried : Tried g.F.Facts.made l.fn.facts l.facts l.position l.winner (l.depth - 1) (take l.m-index l.m-items);
+  tried : Tried g.F.Facts.made l.fn.facts l.facts l.position l.winner (l.depth - 1) (take l.m-index l.m-items) (l.fn.left - 1 - l.left);
 }

@@ -38,7 +38,7 @@ pub fn explore_in<F: Facts>(
     ensures holds { IfOk result (IsOutcome position.now winner budget) }
     ensures many { IfOk result (HasManyIfSpent position.now budget) }
     ensures calls { (entries : List Entry) × F.made facts.old entries facts.new }
-    ensures asks { AsksEach F.made facts.old facts.new result }
+    ensures asks { AsksEach F.made facts.old facts.new position.now winner result }
 {
     let mut region = Region::new(alloc, position, winner)?;
     while let Some(name) = region.next(alloc)? {

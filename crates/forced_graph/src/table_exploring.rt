@@ -8,6 +8,7 @@ ghost use Rattle.mob_law.specs.Static.{IsStaticallyUnwinnable};
 ghost use Rattle.shard_table.specs.Tables.{IsOfTable, KnowsWell};
 ghost use Rattle.shard_table.specs.Makes.{Makes};
 ghost use Rattle.forced_graph.specs.Outcomes.{IsOutcome, HasManyIfSpent};
+ghost use Rattle.forced_graph.specs.Asking.{AsksEach};
 
 use crate::explored::Explored;
 use crate::exploring::explore_in;
@@ -37,6 +38,7 @@ pub fn explore<R: Wait>(
     ensures many { IfOk result (HasManyIfSpent position.now budget) }
     ensures knows { KnowsWell table.now pass.new }
     ensures calls { (entries : List Entry) × Makes pass.old entries pass.new }
+    ensures asks { AsksEach Makes pass.old pass.new position.now winner result }
 {
     let mut facts = TableFacts::new(rt, table, pass);
     explore_in(alloc, position, winner, budget, &mut facts)

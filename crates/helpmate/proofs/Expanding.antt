@@ -10,7 +10,7 @@ use Rattle.cha_moves.specs.Ends.{IsMated}
 use Rattle.cha_fact.specs.Entries.{Entry}
 use Rattle.helpmate.specs.declared.answers.RoundAnswer.{RoundAnswer}
 use Rattle.helpmate.specs.declared.answers.RoundAnswer.TheVariants.{NoneWithin, Spent}
-use Rattle.helpmate.specs.Rounds.{IsAsked, IsLeft, Keeps, led_answer, AreExpandedAfter, AreExpandedBy}
+use Rattle.helpmate.specs.Rounds.{AsksFirst, IsLeft, KeepsNone, led_answer, AreExpandedAfter, AreExpandedBy}
 use Rattle.helpmate.specs.Searches.{AreCountedBy}
 
 -- n positions were expanded after these moves, after none of which there is a mate
@@ -92,13 +92,13 @@ all_after searched keeps (m ∷ ms) entries last n all kept =
 
 -- the position itself and those after its moves
 pub with_the_root : (q : Board) (w : Color) (d e u n : ℕ) (entries : List Entry) (answer : RoundAnswer)
-    → d ≡ e + 1 → 0 < e → (IsMated q (other_color w) → ⊥) → AreExpandedAfter (AfterMove q w e) (Keeps q w d) (legal q) entries answer u → n ≡ u + 1 → AreExpandedBy entries q w d answer n
+    → d ≡ e + 1 → 0 < e → (IsMated q (other_color w) → ⊥) → AreExpandedAfter (AfterMove q w e) (KeepsNone q w d) (legal q) entries answer u → n ≡ u + 1 → AreExpandedBy entries q w d answer n
 unfolding AreExpandedBy AreCountedBy
 with_the_root q w zero e u n entries answer next some running after sum = absurd (omega arith)
 with_the_root q w (suc zero) e u n entries answer next some running after sum = absurd (omega arith)
 with_the_root q w (suc (suc d)) e u n entries answer next some running after sum =
     let same : e ≡ suc d = omega arith in
-    let P : ℕ → Type 0 = λ x. AreExpandedAfter (AfterMove q w x) (Keeps q w (suc (suc d))) (legal q) entries answer u in
+    let P : ℕ → Type 0 = λ x. AreExpandedAfter (AfterMove q w x) (KeepsNone q w (suc (suc d))) (legal q) entries answer u in
     inr (running, u, sum, subst P same after)
 
 -- a position that is left
@@ -128,7 +128,7 @@ one_position q w n answer one running rest = (
 
 -- where one ply or none is to go nothing is asked
 pub not_asked_for : (entries : List Entry) (q : Board) (w : Color) (d n : ℕ) (answer : RoundAnswer) → d ≤ 1 → AreExpandedBy entries q w d answer n → AreCountedBy entries q w d answer n
-unfolding AreCountedBy IsAsked
+unfolding AreCountedBy AsksFirst
 not_asked_for entries q w zero n answer few h = h
 not_asked_for entries q w (suc zero) n answer few h = h
 not_asked_for entries q w (suc (suc d)) n answer few h = absurd (omega (arith, few))

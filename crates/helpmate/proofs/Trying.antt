@@ -21,7 +21,7 @@ use Rattle.cha_fact.proofs.Searching.{front_within, back_within, searched_more}
 use Rattle.helpmate.specs.declared.answers.RoundAnswer.{RoundAnswer}
 use Rattle.helpmate.specs.declared.answers.RoundAnswer.TheVariants.{NoneWithin}
 use Rattle.helpmate.specs.declared.answers.RoundDone.{RoundDone}
-use Rattle.helpmate.specs.Rounds.{decided_by, IsAsked, IsLeft, Keeps, led_answer, AreExpandedAfter, AreExpandedBy, FollowsProbe, RoundCalls}
+use Rattle.helpmate.specs.Rounds.{decided_by, AsksFirst, IsLeft, KeepsNone, led_answer, AreExpandedAfter, AreExpandedBy, FollowsProbe, RoundCalls}
 use Rattle.helpmate.specs.Searches.{AreSearched, IsExpanded, Expands, AreCountedBy, BeginsWithProbe, Searches, RootSearches}
 use Rattle.helpmate.proofs.Saying.{says_none}
 use Rattle.helpmate.proofs.Expanding.{AfterMove, AreExpandedByAll, none_by_all, more_by_all, ended_after, all_after, with_the_root, left_alone, not_asked_for}
@@ -67,7 +67,7 @@ none_tried made s q w d n none nothing = ([], none, (λ m there. absurd (not_in_
 -- what a search expanded, by its entries
 counted : {S : Type 0} (made : S → List Entry → S → Type 0) (old new : S) (q r : Board) (w : Color) (d units : ℕ) (m : Move) (result : Result RoundAnswer NoMemory) (answer : RoundAnswer)
     → (h : Searches made old new r w d units result) → result ≡ Ok answer → r ≡ after q m → AfterMove q w d m h.entries answer units
-unfolding AreCountedBy IsAsked BeginsWithProbe
+unfolding AreCountedBy AsksFirst BeginsWithProbe
 counted made old new q r w zero units m result answer h ends next =
     subst (λ (b : Board). AreCountedBy h.entries b w zero answer units) next (not_asked_for h.entries r w zero units answer (omega arith) (h.last (omega arith) answer ends))
 counted made old new q r w (suc zero) units m result answer h ends next =
@@ -123,8 +123,8 @@ unfolding Tried Expands
 ends_below made old mid new q r w d e units n k ms i m inner result end answer both tried here ended ends other otherwise led next inside at listed deep some running sum =
     let xs = tried.0 in
     let ys = here.entries in
-    let after_all = ended_after (AfterMove q w e) (Keeps q w d) ms i m xs ys n k (n + k) answer end tried.3 (counted made mid new q r w e k m inner end here ended next) inside at refl other led in
-    let L : List Move → Type 0 = λ l. AreExpandedAfter (AfterMove q w e) (Keeps q w d) l (xs ++ ys) answer (n + k) in
+    let after_all = ended_after (AfterMove q w e) (KeepsNone q w d) ms i m xs ys n k (n + k) answer end tried.3 (counted made mid new q r w e k m inner end here ended next) inside at refl other led in
+    let L : List Move → Type 0 = λ l. AreExpandedAfter (AfterMove q w e) (KeepsNone q w d) l (xs ++ ys) answer (n + k) in
     let whole = with_the_root q w d e (n + k) units (xs ++ ys) answer deep some running (subst L listed after_all) sum in
     let A : RoundAnswer → Type 0 = λ a. AreExpandedBy (xs ++ ys) q w d a units in (
       xs ++ ys,
@@ -145,7 +145,7 @@ all_tried made old mid new q w d units n ms i row reply both tried end listed st
     let same_moves = take_all i ms end ∙ listed in
     let M : Claim → Type 0 = λ r. made mid (store_entry r reply ∷ []) new in
     let B : List Move → Type 0 = λ l. AreExpandedByAll (AfterMove q w (d - 1)) l xs n in
-    let whole = with_the_root q w d (d - 1) n units (xs ++ last ∷ []) NoneWithin (omega (arith, deep)) (omega (arith, deep)) running (all_after (AfterMove q w (d - 1)) (Keeps q w d) (legal q) xs (last ∷ []) n (subst B same_moves tried.3) (reply, refl)) sum in
+    let whole = with_the_root q w d (d - 1) n units (xs ++ last ∷ []) NoneWithin (omega (arith, deep)) (omega (arith, deep)) running (all_after (AfterMove q w (d - 1)) (KeepsNone q w d) (legal q) xs (last ∷ []) n (subst B same_moves tried.3) (reply, refl)) sum in
     let A : RoundAnswer → Type 0 = λ a. AreExpandedBy (xs ++ last ∷ []) q w d a units in (
       xs ++ last ∷ [],
       both old mid new xs (last ∷ []) tried.1 (subst M is stored),

@@ -43,10 +43,10 @@ FollowsReply depth (Found row) rest answer n searched =
     ((known : RoundAnswer) → decided_by depth row.fact ≡ Some known → (answer ≡ known) × (n ≡ 0) × (rest ≡ [])) × (decided_by depth row.fact ≡ None → searched)
 
 -- where two plies or more are to go, the first of these entries asks for the position; else none does
-unfoldable pub IsAsked : Board → Color → ℕ → List Entry → RoundAnswer → ℕ → (List Entry → Type 0) → Type 0
-IsAsked q winner zero entries answer n searched = searched entries
-IsAsked q winner (suc zero) entries answer n searched = searched entries
-IsAsked q winner (suc (suc depth)) entries answer n searched =
+unfoldable pub AsksFirst : Board → Color → ℕ → List Entry → RoundAnswer → ℕ → (List Entry → Type 0) → Type 0
+AsksFirst q winner zero entries answer n searched = searched entries
+AsksFirst q winner (suc zero) entries answer n searched = searched entries
+AsksFirst q winner (suc (suc depth)) entries answer n searched =
     (reply : Probe) × (rest : List Entry) × (entries ≡ probe_entry (key_of q winner) reply ∷ rest) × FollowsReply (suc (suc depth)) reply rest answer n (searched rest)
 
 -- the answer at a position, by the one after a move of it
@@ -64,8 +64,8 @@ AreExpandedAfter searched keeps (m ∷ ms) entries answer n =
     ⊎ ((end : RoundAnswer) × (end ≡ NoneWithin → ⊥) × (answer ≡ led_answer m end) × searched m entries end n)
 
 -- the one entry gives to keep that there is no mate within so many plies
-abbrev pub Keeps : Board → Color → ℕ → List Entry → Type 0
-Keeps q winner depth entries = (reply : Stored) × (entries ≡ store_entry (none_within q winner depth) reply ∷ [])
+abbrev pub KeepsNone : Board → Color → ℕ → List Entry → Type 0
+KeepsNone q winner depth entries = (reply : Stored) × (entries ≡ store_entry (none_within q winner depth) reply ∷ [])
 
 -- a position is not expanded: it is a mate, or nothing is left to spend
 abbrev pub IsLeft : Board → Color → RoundAnswer → Type 0
@@ -79,7 +79,7 @@ AreExpandedBy entries q winner (suc zero) answer n = (entries ≡ []) × (((n �
 AreExpandedBy entries q winner (suc (suc depth)) answer n =
     ((entries ≡ []) × (n ≡ 0) × IsLeft q winner answer)
     ⊎ ((IsMated q (other_color winner) → ⊥) × (u : ℕ) × (n ≡ u + 1)
-    × AreExpandedAfter (λ m own end v. IsAsked (after q m) winner (suc depth) own end v (λ rest. AreExpandedBy rest (after q m) winner (suc depth) end v)) (Keeps q winner (suc (suc depth))) (legal q) entries answer u)
+    × AreExpandedAfter (λ m own end v. AsksFirst (after q m) winner (suc depth) own end v (λ rest. AreExpandedBy rest (after q m) winner (suc depth) end v)) (KeepsNone q winner (suc (suc depth))) (legal q) entries answer u)
 
 -- what was found is the answer of a round, if it decides, and nothing was expanded; and else the further entries tell what was
 abbrev pub FollowsProbe : Board → Color → ℕ → Probe → List Entry → RoundAnswer → ℕ → Type 0

@@ -3,7 +3,7 @@ use Rattle.mob_law.proofs.Exploring.{explored_positions}
 use Rattle.node_store.specs.Nodes.{Node}
 use Rattle.node_store.proofs.Pushing.{map_within}
 use Rattle.forced_graph.specs.Regions.{IsBetween, IsExpanding}
-use Rattle.forced_graph.proofs.Calling.{more_made, one_called, spent_is}
+use Rattle.forced_graph.proofs.Calling.{more_made, none_called, one_called, asks_spent, asks_closed}
 use Rattle.forced_graph.proofs.Members.{explored_asked}
 use Rattle.forced_graph.proofs.Certifying.{closed_asked}
 use Rattle.cha_list.proofs.WhenTold.{when_some, when_none}
@@ -16,7 +16,7 @@ loop-region-init g c = record {
   task = c.in_ok-region.ensures.task;
   few = (let none = c.in_ok-region.ensures.count in omega arith);
   calls = ([], g.met.F.Facts.none_made c.args.facts.now);
-  asked = ([], g.met.F.Facts.none_made c.args.facts.now, (let none = c.in_ok-region.ensures.count in omega arith));
+  asked = none_called g.F.Facts.made c.args.facts.now c.args.winner c.in_ok-region.region.count (g.met.F.Facts.none_made c.args.facts.now) c.in_ok-region.ensures.count;
 }
 
 pub returns-then-region-budget-clause-holds : goal.returns-then-region-budget-clause-holds
@@ -67,16 +67,21 @@ loop-region-preserved g c =
       task = (c.expand.ensures.task.0 ∙ c.next.ensures.same.0 ∙ before.task.0, c.expand.ensures.task.1 ∙ c.next.ensures.same.1 ∙ before.task.1);
       few = omega arith;
       calls = more_made g.F.Facts.made c.args.facts.now c.loop-region.facts c.known_mate.new.facts g.met.F.Facts.both_made before.calls c.known_mate.ensures.calls;
-      asked = one_called g.F.Facts.made c.args.facts.now c.loop-region.facts c.known_mate.new.facts _ _ c.loop-region.region.count t.count c.known_mate.result g.met.F.Facts.both_made before.asked c.known_mate.ensures.asked (omega arith);
+      asked = one_called g.F.Facts.made c.args.facts.now c.loop-region.facts c.known_mate.new.facts _ c.args.winner c.loop-region.region.count t.count c.known_mate.result g.met.F.Facts.both_made before.asked c.known_mate.ensures.asked c.in_default-known_mate.is (omega arith);
     }
 
 pub returns-then-region-budget-clause-asks : goal.returns-then-region-budget-clause-asks
-returns-then-region-budget-clause-asks g c = λ n is. (
-    let a = c.loop-region.invariant.asked in
+returns-then-region-budget-clause-asks g c =
     let same = c.next.ensures.same.2 in
     let full = c.if-region-budget.true in
-    let one : c.args.budget ≡ n = spent_is c.args.budget n is in
-    (a.0, a.1, (let were = a.2 in omega arith)))
+    asks_spent g.F.Facts.made c.args.facts.now c.loop-region.facts c.args.position.now c.args.winner c.loop-region.region.count c.args.budget c.loop-region.invariant.asked (omega arith)
+
+pub returns-clause-asks : goal.returns-clause-asks
+returns-clause-asks g c =
+    let s = c.next.new.self in
+    let before = c.loop-region.invariant in
+    asks_closed g.F.Facts.made c.args.facts.now c.loop-region.facts c.args.position.now s.root c.args.winner s.winner c.loop-region.region.count s.count c.in_ok-into_cert.field-0 before.asked c.in_ok-into_cert.ensures.expanded
+    (c.next.ensures.same.0 ∙ before.task.0) (c.next.ensures.same.1 ∙ before.task.1) c.next.ensures.same.2
 
 pub returns-clause-holds : goal.returns-clause-holds
 returns-clause-holds g c =

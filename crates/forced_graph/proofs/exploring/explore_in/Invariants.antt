@@ -11,7 +11,7 @@ invariant-loop-region g l = record {
   task : IsTaskOf l.position l.winner l.region;
   few : l.region.count ≤ l.budget;
   calls : MadeSome g.F.Facts.made l.fn.facts l.facts;
-  asked : HasCalled g.F.Facts.made l.fn.facts l.facts l.region.count;
+  asked : HasCalled g.F.Facts.made l.fn.facts l.facts l.winner l.region.count;
 }
 
 abbrev pub decreases-loop-region : goal.decreases-loop-region

@@ -33,8 +33,9 @@ pub struct Rights {
 #[derive(Clone, Copy, Debug, PartialEq, Eq)]
 pub struct Position {
     men: Men,
-    side: Color,
+    // Side and target lie side by side: what most moves say of both is then one word.
     rights: Rights,
+    side: Color,
     target: Option<Square>,
 }
 

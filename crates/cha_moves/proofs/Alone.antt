@@ -3,7 +3,7 @@ use Rattle.std.proofs.Common.{◌≡◌, ◌≢◌, ℕ, ◌+◌, ◌-◌, ◌%�
 use Rattle.std.specs.List.{Contains}
 use Rattle.std.specs.Int.{abs_diff}
 use Rattle.std.specs.Option.{is_some}
-use Rattle.std.proofs.lemmas.Bool.{and_parts, or_cases, both_ways, eqb-true, false_from_ne_true, and_left}
+use Rattle.std.proofs.lemmas.Bool.{and_parts, or_cases, cases_Bool, both_ways, eqb-true, eqb-false, false_from_ne_true, and_left}
 use Rattle.std.proofs.lemmas.Option.{same_Some}
 use Rattle.cha_board.specs.declared.men.Color.{Color}
 use Rattle.cha_board.specs.declared.men.Color.TheVariants.{White, Black}
@@ -138,7 +138,7 @@ king_alone q m h man near =
     (two_kinds (is_man q.side King (man_at q.men m.from)) (is_long_castling q m.from m.to) (not_long q m.from m.to near))
 
 -- a king that goes further than to the next file castles: a rook goes over it
-near_files : (s t : ℕ) → (steps_apart s t == 1) ≡ true → files_apart s t ≤ 1
+pub near_files : (s t : ℕ) → (steps_apart s t == 1) ≡ true → files_apart s t ≤ 1
 unfolding steps_apart
 near_files s t h = (let e = eqb-true (steps_apart s t) 1 h in omega arith)
 
@@ -217,13 +217,49 @@ goes_far q m over h man far e =
     let double = goes_double q m.from m.to (goes_as_kind q m Pawn h man) (far_ranks m.from m.to far) in
     rw (man, double, e) refl
 
-pub goes_near : (q : Board) (m : Move) → abs_diff m.from m.to ≢ 16 → None ≡ target_after q m
+not_double : (q : Board) (m : Move) → (is_double_step q m.from m.to ≡ true → ⊥) → None ≡ target_after q m
 unfolding target_after
-goes_near q m near =
-    let none = false_from_ne_true (is_double_step q m.from m.to) (λ h. (
-    let d = double_step q m.from m.to h in
-    near (sixteen q.side m.from m.to d.file d.begins d.ends))) in
+not_double q m other =
+    let none = false_from_ne_true (is_double_step q m.from m.to) other in
     rw (two_kinds (is_man q.side Pawn (man_at q.men m.from)) (is_double_step q m.from m.to) none) refl
+
+pub goes_near : (q : Board) (m : Move) → abs_diff m.from m.to ≢ 16 → None ≡ target_after q m
+goes_near q m near =
+    not_double q m (λ h. (
+    let d = double_step q m.from m.to h in
+    near (sixteen q.side m.from m.to d.file d.begins d.ends)))
+
+-- the lower and the higher one of two squares, the second of which lies ahead of the first
+abbrev pub lower : Color → ℕ → ℕ → ℕ
+lower White s t = s
+lower Black s t = t
+
+abbrev pub higher : Color → ℕ → ℕ → ℕ
+higher White s t = t
+higher Black s t = s
+
+sixteen_up : (c : Color) (s t : ℕ) → s % 8 ≡ t % 8 → rank_of s ≡ second_rank c → rank_of t ≡ fourth_rank c → lower c s t + 16 ≡ higher c s t
+sixteen_up White s t file begins ends = omega (arith, file, begins, ends)
+sixteen_up Black s t file begins ends = omega (arith, file, begins, ends)
+
+far_up : (c : Color) (s t : ℕ) → lower c s t + 16 ≡ higher c s t → (abs_diff s t ≡ 16) × (lower c s t + 8 ≡ middle s t)
+far_up White s t e = (omega (arith, e), omega (arith, e))
+far_up Black s t e = (omega (arith, e), omega (arith, e))
+
+-- what a pawn passes over lies midway to the square 16 ahead
+pub over_midway : (q : Board) (m : Move) (c : Color) (over : Option ℕ) → c ≡ q.side → Contains (legal q) m → is_man q.side Pawn (man_at q.men m.from) ≡ true
+    → (lower c m.from m.to + 16 ≡ higher c m.from m.to → over ≡ Some (lower c m.from m.to + 8)) → (lower c m.from m.to + 16 ≢ higher c m.from m.to → over ≡ None) → over ≡ target_after q m
+over_midway q m c over own h man far near = elim (cases_Bool (lower c m.from m.to + 16 == higher c m.from m.to)) [
+  | inl x ↦ (
+      let e = eqb-true (lower c m.from m.to + 16) (higher c m.from m.to) x in
+      let up = far_up c m.from m.to e in
+      far e ∙ goes_far q m (lower c m.from m.to + 8) h man up.0 up.1)
+  | inr x ↦ (
+      let ne = eqb-false (lower c m.from m.to + 16) (higher c m.from m.to) x in
+      near ne ∙ not_double q m (λ double. (
+      let d = double_step q m.from m.to double in
+      ne (sixteen_up c m.from m.to d.file (d.begins ∙ ap second_rank (sym own)) (d.ends ∙ ap fourth_rank (sym own))))))
+]
 
 -- a capture en passant passes over no square
 pub passes_no_target : (q : Board) (m : Move) → is_en_passant q m.from m.to ≡ true → None ≡ target_after q m

@@ -34,4 +34,4 @@ pub mod Apart
 pub mod LegalApart
 pub mod Counted
 pub mod ByKind
-pub mod Calm
+pub mod Quiet

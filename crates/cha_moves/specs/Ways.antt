@@ -1,13 +1,13 @@
 -- Where a man may go as far as its way is concerned, and what it may become there.
-use Rattle.std.specs.Prelude.{ℕ, ◌==◌, Bool, not, ◌&&◌, List, filter}
+use Rattle.std.specs.Prelude.{ℕ, ◌==◌, Bool, not, ◌&&◌, ◌||◌, List, filter}
 use Rattle.cha_board.specs.declared.men.Color.{Color}
 use Rattle.cha_board.specs.declared.men.Kind.{Kind}
 use Rattle.cha_board.specs.declared.men.Kind.TheVariants.{Pawn, King}
 use Rattle.cha_board.specs.Men.{same_kind}
-use Rattle.cha_board.specs.Squares.{rank_of, last_rank}
+use Rattle.cha_board.specs.Squares.{rank_of, last_rank, aims_at}
 use Rattle.cha_board.specs.Board.{Board, man_at, is_empty, is_home}
 use Rattle.cha_moves.specs.Step.{Move}
-use Rattle.cha_moves.specs.Moves.{goes_as, may_enter, is_legal_in, moves_between}
+use Rattle.cha_moves.specs.Moves.{is_step, is_double_step, goes_as, may_enter, is_legal_in, moves_between}
 
 -- what stands on s is of the side to move and may go to t, whatever it becomes there (Laws of Chess, Articles 3.1 to 3.8)
 unfoldable pub is_way : Board → ℕ → ℕ → Bool
@@ -21,7 +21,12 @@ is_promoted c k t = same_kind k Pawn && (rank_of t == last_rank c)
 unfoldable pub legal_between : Board → ℕ → ℕ → List Move
 legal_between q s t = filter (is_legal_in q) (moves_between s t)
 
--- a man of kind k, neither pawn nor king, goes from s to t and changes nothing but its place: nobody stands on t, and neither
--- square is the home of a king or a rook (this project)
-unfoldable pub is_calm : Board → Kind → ℕ → ℕ → Bool
-is_calm q k s t = not (same_kind k Pawn) && (not (same_kind k King) && (not (is_home s) && (is_empty q.men t && not (is_home t))))
+-- nobody stands on t, and it is the home of no king and no rook
+abbrev pub is_free : Board → ℕ → Bool
+is_free q t = is_empty q.men t && not (is_home t)
+
+-- a man of kind k that goes from s to t goes quietly: it goes alone onto a free square, and it is not promoted (this project)
+unfoldable pub is_quiet : Board → Kind → ℕ → ℕ → Bool
+is_quiet q Pawn s t = (is_free q t && (is_step q s t || is_double_step q s t)) && not (is_promoted q.side Pawn t)
+is_quiet q King s t = is_free q t && aims_at q.side King s t
+is_quiet q k s t = is_free q t

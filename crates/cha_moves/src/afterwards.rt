@@ -1,19 +1,22 @@
 //! The position after a legal move (Laws of Chess, Article 3.10.1).
 
-ghost use Rattle.std.specs.Prelude.{◌≡◌, false, Some, None, Contains, IsTrue};
+ghost use Rattle.std.specs.Prelude.{◌≡◌, ◌≢◌, ◌+◌, false, Some, None, Contains, IsTrue};
 ghost use Rattle.cha_board.specs.Men.{same_kind, is_man};
 ghost use Rattle.cha_board.specs.Board.{Board, man_at};
 ghost use Rattle.cha_board.specs.SquareSets.{set_of};
-ghost use Rattle.cha_moves.specs.Moves.{moved, rook_of, is_en_passant, men_after, target_after, legal as legal_moves, after as position_after};
-ghost use Rattle.cha_moves.specs.Ways.{is_calm};
+ghost use Rattle.cha_moves.specs.Moves.{moved, rook_of, is_en_passant, men_after, rights_after, target_after, legal as legal_moves, after as position_after};
+ghost use Rattle.cha_moves.specs.Ways.{is_quiet};
 
 use crate::goes::goes_en_passant;
+use crate::list::promoting;
 use crate::makes::{men_made, rights_made, target_made};
-use crate::passing::{captured_on, passed_over};
+use crate::passing::captured_on;
 use crate::sides::{long_crossing, short_crossing};
 use crate::step::Move;
+use crate::ways::pawn_steps;
 use cha_board::{
-    Color, Kind, Man, Position, Square, SquareSet, files_between, homes, long_home, short_home,
+    Color, Kind, Man, Position, Rights, Square, SquareSet, aims_alone, files_between, homes,
+    long_home, short_home,
 };
 
 /// The position after a legal move.
@@ -55,15 +58,27 @@ pub fn after_by(position: &Position, side: Color, kind: Kind, m: Move) -> Positi
     }
 }
 
-/// The square that a legal move of a pawn passes over: a double step leads 16 squares on, and every other move of a pawn
-/// fewer.
-fn passed_by(m: Move) -> Option<Square>
-    ensures { (q : Board) → Contains (legal_moves q) m → IsTrue (is_man q.side Kind.Pawn (man_at q.men m.from)) → result ≡ target_after q m }
+/// The square midway to the one 16 further on in the order of squares, if it leads there.
+fn midway(low: Square, high: Square) -> Option<Square>
+    ensures far { low + 16 ≡ high → result ≡ Some (low + 8) }
+    ensures near { low + 16 ≢ high → result ≡ None }
 {
-    if m.from.index().abs_diff(m.to.index()) == 16 {
-        Some(passed_over(m.from, m.to))
+    if low.index() + 16 == high.index() {
+        Some(Square::at(low.index() + 8))
     } else {
         None
+    }
+}
+
+/// The square that a legal move of a pawn of a side passes over: a double step leads 16 squares on, and no other move of a pawn
+/// does.
+#[inline(always)]
+fn passed_by(side: Color, m: Move) -> Option<Square>
+    ensures { (q : Board) → side ≡ q.side → Contains (legal_moves q) m → IsTrue (is_man q.side Kind.Pawn (man_at q.men m.from)) → result ≡ target_after q m }
+{
+    match side {
+        Color::White => midway(m.from, m.to),
+        Color::Black => midway(m.to, m.from),
     }
 }
 
@@ -80,7 +95,7 @@ fn after_pawn(position: &Position, side: Color, m: Move) -> Position
     } else if goes_en_passant(position, m.from, m.to) {
         after_passing(position, side, m)
     } else {
-        after_one(position, side, m, Kind::Pawn, passed_by(m))
+        after_one(position, side, m, Kind::Pawn, passed_by(side, m))
     }
 }
 
@@ -202,26 +217,40 @@ fn after_one(
     )
 }
 
-/// The squares to which a man of this kind goes from its square so that nothing but its place changes: nobody stands there, neither
-/// square is the home of a king or a rook, and the man is neither pawn nor king.
+/// The squares to which a man of this side, which is to move, and of this kind goes quietly from its square: it goes alone onto a
+/// square on which nobody stands and which is no home of a king or a rook, and it is not promoted.
 #[inline(always)]
-pub fn calm_squares(position: &Position, kind: Kind, from: Square) -> SquareSet
-    ensures { result ≡ set_of (is_calm position.now kind from) }
+pub fn quiet_squares(position: &Position, side: Color, kind: Kind, from: Square) -> SquareSet
+    requires { side ≡ position.now.side }
+    ensures { result ≡ set_of (is_quiet position.now kind from) }
 {
-    if kind.is(Kind::Pawn) || kind.is(Kind::King) || homes().has(from) {
-        return SquareSet::empty();
-    }
     let all = SquareSet::from_bits(u64::MAX);
-    all.minus(position.occupied().joined(homes()))
+    let free = all.minus(position.occupied().joined(homes()));
+    match kind {
+        Kind::Pawn => free
+            .common(pawn_steps(position, side, from))
+            .minus(promoting(side, Kind::Pawn)),
+        Kind::King => free.common(aims_alone(side, Kind::King, from)),
+        _ => free,
+    }
 }
 
-/// The position after a legal move of a man of this side, which is to move, and of this kind, where nothing but its place changes.
+/// The position after a legal move by which a man of this side, which is to move, and of this kind goes quietly. The rights are
+/// those after it.
 #[inline(always)]
-pub fn after_step(position: &Position, side: Color, kind: Kind, m: Move) -> Position
+pub fn after_quiet(
+    position: &Position,
+    side: Color,
+    kind: Kind,
+    rights: Rights,
+    m: Move,
+) -> Position
     requires side { side ≡ position.now.side }
     requires legal { Contains (legal_moves position.now) m }
     requires man { man_at position.now.men m.from ≡ Some (record { color = side; kind = kind }) }
-    requires calm { IsTrue (is_calm position.now kind m.from m.to) }
+    requires quiet { IsTrue (is_quiet position.now kind m.from m.to) }
+    requires plain { m.promotion ≡ None }
+    requires rights { rights ≡ rights_after position.now.rights m }
     ensures { result ≡ position_after position.now m }
 {
     // The position is valid, and so is what a legal move leaves.
@@ -230,7 +259,11 @@ pub fn after_step(position: &Position, side: Color, kind: Kind, m: Move) -> Posi
     let men = position
         .placement()
         .stepped(m.from, m.to, Man { color, kind });
-    Position::of_parts(men, color.other(), position.rights(), None)
+    let target = match kind {
+        Kind::Pawn => passed_by(side, m),
+        _ => None,
+    };
+    Position::of_parts(men, color.other(), rights, target)
 }
 
 /// The position after a legal move.

@@ -27,13 +27,14 @@ mod step;
 mod text;
 mod ways;
 
-pub use afterwards::{after, after_by, after_of, after_step, calm_squares};
+pub use afterwards::{after, after_by, after_of, after_quiet, quiet_squares};
 pub use count::count_legal;
 pub use dead::unwinnable_stays;
 pub use ends::{Standing, is_mate, state};
 pub use legally::{legal_ways, legal_ways_by};
 pub use lines::{mate_lines_mate, replays};
 pub use list::{Moves, Positions, is_legal, legal, promoting, promotion};
+pub use makes::rights_leaving;
 pub use mating::mating_move;
 pub use passing::{captured_on, passed_over};
 pub use shields::{Shields, shields_of};

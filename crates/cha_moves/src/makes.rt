@@ -1,8 +1,8 @@
 //! What a move changes: the men, the rights to castle, and the square that a pawn has passed over.
 
-ghost use Rattle.std.specs.Prelude.{◌≡◌, not, ◌&&◌};
+ghost use Rattle.std.specs.Prelude.{◌≡◌, false, not, ◌&&◌, Some};
 ghost use Rattle.cha_board.specs.Men.{is_man};
-ghost use Rattle.cha_board.specs.Board.{man_at, home_of};
+ghost use Rattle.cha_board.specs.Board.{man_at, home_of, is_home};
 ghost use Rattle.cha_board.specs.SquareSets.{set_of, has_square};
 ghost use Rattle.cha_moves.specs.Moves.{arriving, moved, touches, men_after, rights_after, target_after};
 
@@ -95,6 +95,29 @@ pub fn rights_made(rights: Rights, m: Move) -> Rights
         rights
     } else {
         rights_left(rights, touched)
+    }
+}
+
+/// The rights to castle after a move of this man from its square to one that is no home of a king or a rook.
+#[inline(always)]
+pub fn rights_leaving(position: &Position, man: Man, from: Square) -> Rights
+    requires { man_at position.now.men from ≡ Some man }
+    ensures { (m : Move) → m.from ≡ from → is_home m.to ≡ false → result ≡ rights_after position.now.rights m }
+{
+    position.known();
+    let to = from;
+    let promotion = None;
+    match man.kind {
+        Kind::Rook | Kind::King => rights_made(
+            position.rights(),
+            Move {
+                from,
+                to,
+                promotion,
+            },
+        ),
+        // Nobody else stands on a home that a right needs.
+        _ => position.rights(),
     }
 }
 

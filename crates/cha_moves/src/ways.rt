@@ -31,7 +31,7 @@ fn with_where(set: SquareSet, at: Square, so: bool) -> SquareSet
 
 /// The squares to which a pawn of the side to move steps.
 #[inline(always)]
-fn pawn_steps(position: &Position, side: Color, s: Square) -> SquareSet
+pub fn pawn_steps(position: &Position, side: Color, s: Square) -> SquareSet
     requires { side ≡ position.now.side }
     ensures { result ≡ set_of (λ t. is_step position.now s t || is_double_step position.now s t) }
 {

@@ -1,20 +1,20 @@
 //! The plain count of lines of legal moves, which makes every move of every line: the yardstick of the other count. The
 //! moves are visited by the sets of squares to which men go, and no list is made.
 
-ghost use Rattle.std.specs.Prelude.{ℕ, ◌≡◌, ◌<◌, ◌+◌, Some, filter, Contains, IsTrue};
+ghost use Rattle.std.specs.Prelude.{ℕ, ◌≡◌, false, ◌<◌, ◌+◌, Some, filter, Contains, IsTrue};
 ghost use Rattle.std.specs.List.{flat_map};
 ghost use Rattle.cha_board.specs.Men.{is_man};
-ghost use Rattle.cha_board.specs.Board.{man_at};
+ghost use Rattle.cha_board.specs.Board.{man_at, is_home};
 ghost use Rattle.cha_board.specs.SquareSets.{set_of, squares_in};
-ghost use Rattle.cha_moves.specs.Moves.{is_legal_in, moves_from, after as position_after, legal as legal_moves};
-ghost use Rattle.cha_moves.specs.Ways.{is_promoted, is_calm, legal_between};
+ghost use Rattle.cha_moves.specs.Moves.{is_legal_in, moves_from, rights_after, after as position_after, legal as legal_moves};
+ghost use Rattle.cha_moves.specs.Ways.{is_promoted, is_quiet, legal_between};
 ghost use Rattle.cha_moves.specs.Shields.{AreShields, goes_legally};
 ghost use Rattle.cha_perft.specs.Counts.{lines_from, lines_with, Tells};
 
-use cha_board::{Color, Kind, Man, Position, Square, SquareSet};
+use cha_board::{Color, Kind, Man, Position, Rights, Square, SquareSet};
 use cha_moves::{
-    Move, Shields, after_by, after_step, calm_squares, legal_ways_by, promoting, promotion,
-    shields_of,
+    Move, Shields, after_by, after_quiet, legal_ways_by, promoting, promotion, quiet_squares,
+    rights_leaving, shields_of,
 };
 
 /// How many lines of `depth` legal moves begin in a position, as they are made one by one, or None where they pass 64
@@ -126,11 +126,14 @@ fn made_by(
 {
     let color = side;
     let man = Man { color, kind };
-    let calm = calm_squares(position, kind, from);
+    let quiet = Quiet {
+        squares: quiet_squares(position, side, kind, from),
+        rights: rights_leaving(position, man, from),
+    };
     let mut total = before;
     let mut left = legal_ways_by(position, shields, side, kind, from);
     while let Some(to) = left.first() {
-        let lines = made_way(position, man, calm, from, to, depth);
+        let lines = made_way(position, man, quiet, from, to, depth);
         let Some(sum) = both(Some(total), lines) else {
             return None;
         };
@@ -140,21 +143,29 @@ fn made_by(
     Some(total)
 }
 
+/// The squares to which a man goes quietly, and the rights then.
+#[derive(Clone, Copy)]
+struct Quiet {
+    squares: SquareSet,
+    rights: Rights,
+}
+
 /// The lines that begin with a move from one square to another, to which the man there goes legally, and have `depth`
-/// more. On the squares of `calm` nothing but its place changes.
+/// more.
 #[cycle(making)]
 #[inline(always)]
 fn made_way(
     position: &Position,
     man: Man,
-    calm: SquareSet,
+    quiet: Quiet,
     from: Square,
     to: Square,
     depth: u8,
 ) -> Option<u64>
     requires side { man.color ≡ position.now.side }
     requires man { man_at position.now.men from ≡ Some man }
-    requires calm { calm ≡ set_of (is_calm position.now man.kind from) }
+    requires quiet { quiet.squares ≡ set_of (is_quiet position.now man.kind from) }
+    requires rights { (m : Move) → m.from ≡ from → is_home m.to ≡ false → quiet.rights ≡ rights_after position.now.rights m }
     requires way { IsTrue (goes_legally position.now from to) }
     ensures { Tells result (lines_with depth position.now (legal_between position.now from to)) }
 {
@@ -167,8 +178,8 @@ fn made_way(
         to,
         promotion,
     };
-    if calm.has(to) {
-        let next = after_step(position, man.color, man.kind, m);
+    if quiet.squares.has(to) {
+        let next = after_quiet(position, man.color, man.kind, quiet.rights, m);
         return count_made(&next, depth);
     }
     let last = promoting(man.color, man.kind);

@@ -18,4 +18,4 @@ after_one-requires-clause-men c =
     pawn_alone q c.args.m c.requires.man none passing
 
 pub after_one-requires-clause-target : goal.after_one-requires-clause-target
-after_one-requires-clause-target c = c.passed_by.ensures c.args.position.now c.requires.legal c.requires.man
+after_one-requires-clause-target c = c.passed_by.ensures c.args.position.now c.requires.side c.requires.legal c.requires.man

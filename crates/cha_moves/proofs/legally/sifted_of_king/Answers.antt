@@ -12,7 +12,7 @@ use Rattle.cha_moves.proofs.Arriving.{Going}
 use Rattle.cha_moves.proofs.WayLaws.{fewer}
 use Rattle.cha_moves.proofs.Facing.{first_in}
 use Rattle.cha_moves.proofs.GoingLegally.{king_goes, sifted_one, all_sifted}
-use Rattle.cha_moves.proofs.Calm.{castling_told, near_steps}
+use Rattle.cha_moves.proofs.Quiet.{castling_told, near_steps}
 use Rattle.cha_moves.proofs.legally.sifted_of_king.Goals as goal
 
 pub loop-to-init : goal.loop-to-init

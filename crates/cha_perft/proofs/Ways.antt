@@ -1,24 +1,20 @@
 -- The moves of one way, which are legal.
-use Rattle.std.proofs.Common.{◌≡◌, ℕ, ◌+◌, ◌<◌, ◌==◌, Bool, true, false, cond, List, [], ◌∷◌, Option, Some, None, refl, sym, ap, subst, ◌∙◌, arith}
+use Rattle.std.proofs.Common.{◌≡◌, ℕ, ◌+◌, ◌<◌, Bool, true, false, cond, List, [], ◌∷◌, Option, Some, None, refl, sym, ap, subst, ◌∙◌, arith}
 use Rattle.std.specs.List.{Contains}
-use Rattle.std.proofs.lemmas.Bool.{and_left}
 use Rattle.std.proofs.lemmas.Option.{same_Some}
 use Rattle.cha_board.specs.declared.men.Man.{Man}
 use Rattle.cha_board.specs.declared.men.Kind.{Kind}
-use Rattle.cha_board.specs.declared.men.Kind.TheVariants.{Pawn, Queen, Rook, Bishop, Knight}
-use Rattle.cha_board.specs.Men.{same_kind}
-use Rattle.cha_board.specs.Squares.{rank_of, last_rank}
+use Rattle.cha_board.specs.declared.men.Kind.TheVariants.{Queen, Rook, Bishop, Knight}
 use Rattle.cha_board.specs.Board.{Board, IsValid, man_at}
 use Rattle.cha_board.specs.SquareSets.{set_of, has_square}
 use Rattle.cha_board.proofs.SetLaws.{has-set_of}
 use Rattle.cha_moves.specs.Step.{Move}
 use Rattle.cha_moves.specs.Moves.{is_legal_in, moves_between, after, legal}
-use Rattle.cha_moves.specs.Ways.{is_promoted, is_calm, legal_between}
+use Rattle.cha_moves.specs.Ways.{is_promoted, legal_between}
 use Rattle.cha_moves.specs.Shields.{goes_legally}
 use Rattle.cha_perft.specs.Counts.{lines_from, lines_with}
 use Rattle.cha_perft.proofs.Sums.{four_moves}
 use Rattle.cha_moves.proofs.Contained.{Contains-filter_parts}
-use Rattle.cha_moves.proofs.Calm.{calm_parts}
 use Rattle.cha_moves.proofs.Listed.{listed}
 use Rattle.cha_moves.proofs.Arriving.{Going, moves_plain, moves_promoted}
 use Rattle.cha_moves.proofs.GoingLegally.{goes_a_way, goes_plain, goes_promoted}
@@ -81,10 +77,6 @@ promoted_at q man last t small are = ap (λ (x : List Bool). has_square x t) are
 -- the man that stands there is of the kind that is told of it
 pub kind_of : (q : Board) (s : ℕ) (man : Man) → man_at q.men s ≡ Some man → (other : Man) → man_at q.men s ≡ Some other → man.kind ≡ other.kind
 kind_of q s man found other here = ap (λ (x : Man). x.kind) (same_Some man other (sym found ∙ here))
-
--- what goes calmly is not promoted
-pub calm_plain : (q : Board) (s t : ℕ) (man : Man) → is_calm q man.kind s t ≡ true → is_promoted q.side man.kind t ≡ false
-calm_plain q s t man calm = and_left (same_kind man.kind Pawn) (rank_of t == last_rank q.side) (calm_parts q man.kind s t calm).no_pawn
 
 -- what a move that is known asks
 pub asked : (q : Board) (s t : ℕ) (k : Option Kind) (man : Man) (m : Move) → man_at q.men s ≡ Some man → m ≡ move_of s t k → Contains (legal q) (move_of s t k)

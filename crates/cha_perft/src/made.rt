@@ -126,14 +126,12 @@ fn made_by(
 {
     let color = side;
     let man = Man { color, kind };
-    let quiet = Quiet {
-        squares: quiet_squares(position, side, kind, from),
-        rights: rights_leaving(position, man, from),
-    };
+    let quiet = quiet_squares(position, side, kind, from);
+    let rights = rights_leaving(position, man, from);
     let mut total = before;
     let mut left = legal_ways_by(position, shields, side, kind, from);
     while let Some(to) = left.first() {
-        let lines = made_way(position, man, quiet, from, to, depth);
+        let lines = made_way(position, man, quiet, rights, from, to, depth);
         let Some(sum) = both(Some(total), lines) else {
             return None;
         };
@@ -143,29 +141,23 @@ fn made_by(
     Some(total)
 }
 
-/// The squares to which a man goes quietly, and the rights then.
-#[derive(Clone, Copy)]
-struct Quiet {
-    squares: SquareSet,
-    rights: Rights,
-}
-
 /// The lines that begin with a move from one square to another, to which the man there goes legally, and have `depth`
-/// more.
+/// more. To the squares of `quiet` it goes quietly, and the rights are these then.
 #[cycle(making)]
 #[inline(always)]
 fn made_way(
     position: &Position,
     man: Man,
-    quiet: Quiet,
+    quiet: SquareSet,
+    rights: Rights,
     from: Square,
     to: Square,
     depth: u8,
 ) -> Option<u64>
     requires side { man.color ≡ position.now.side }
     requires man { man_at position.now.men from ≡ Some man }
-    requires quiet { quiet.squares ≡ set_of (is_quiet position.now man.kind from) }
-    requires rights { (m : Move) → m.from ≡ from → is_home m.to ≡ false → quiet.rights ≡ rights_after position.now.rights m }
+    requires quiet { quiet ≡ set_of (is_quiet position.now man.kind from) }
+    requires rights { (m : Move) → m.from ≡ from → is_home m.to ≡ false → rights ≡ rights_after position.now.rights m }
     requires way { IsTrue (goes_legally position.now from to) }
     ensures { Tells result (lines_with depth position.now (legal_between position.now from to)) }
 {
@@ -178,8 +170,8 @@ fn made_way(
         to,
         promotion,
     };
-    if quiet.squares.has(to) {
-        let next = after_quiet(position, man.color, man.kind, quiet.rights, m);
+    if quiet.has(to) {
+        let next = after_quiet(position, man.color, man.kind, rights, m);
         return count_made(&next, depth);
     }
     let last = promoting(man.color, man.kind);

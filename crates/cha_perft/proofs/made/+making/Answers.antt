@@ -9,10 +9,11 @@ use Rattle.cha_moves.proofs.Contained.{Contains-cons_there}
 use Rattle.cha_moves.proofs.WayLaws.{fewer}
 use Rattle.cha_moves.proofs.ByKind.{legal_from, men_of, each_man, by_kinds}
 use Rattle.cha_moves.proofs.GoingLegally.{legal_by_goings, each_goes}
-use Rattle.cha_moves.specs.Ways.{is_promoted, is_calm, legal_between}
+use Rattle.cha_moves.proofs.Quiet.{quietly}
+use Rattle.cha_moves.specs.Ways.{is_promoted, is_quiet, legal_between}
 use Rattle.cha_perft.specs.Counts.{lines_from, lines_with, Tells}
 use Rattle.cha_perft.proofs.Sums.{one_line, lines_by_move, lines_add, man_counted, man_beyond, way_counted, way_beyond, all_counted, one_move}
-use Rattle.cha_perft.proofs.Ways.{Legally, move_of, plain_way, plain_legal, promoted_way, queen_legal, rook_legal, bishop_legal, knight_legal, promoted_at, calm_plain, asked, four_lines}
+use Rattle.cha_perft.proofs.Ways.{Legally, move_of, plain_way, plain_legal, promoted_way, queen_legal, rook_legal, bishop_legal, knight_legal, promoted_at, asked, four_lines}
 use Rattle.cha_perft.proofs.made.+making.Goals as goal
 
 pub made_all-returns-in-White : goal.made_all-returns-in-White
@@ -170,27 +171,37 @@ made_promoted-returns t c =
     let all = c.both-3.ensures (lines_from d (after q c.promotion.result) + lines_from d (after q c.promotion-2.result)) (lines_from d (after q c.promotion-3.result) + lines_from d (after q c.promotion-4.result)) one other in
     subst (λ (n : ℕ). Tells c.both-3.result n) (four_lines d q s to c.promotion.result c.promotion-2.result c.promotion-3.result c.promotion-4.result (legal_between q s to) c.promotion.ensures c.promotion-2.ensures c.promotion-3.ensures c.promotion-4.ensures (promoted_way q s to c.args.man g c.requires.last)) all
 
-pub made_way-after_step-next-requires-clause-legal : goal.made_way-after_step-next-requires-clause-legal
-made_way-after_step-next-requires-clause-legal t c =
+pub made_way-after_quiet-next-requires-clause-legal : goal.made_way-after_quiet-next-requires-clause-legal
+made_way-after_quiet-next-requires-clause-legal t c =
     let q = c.args.position.now in
     let s = c.args.from in
     let to = c.args.to in
     let man = c.args.man in
+    let to_small : to < 64 = omega arith in
+    let quiet = sym (has-set_of (is_quiet q man.kind s) to to_small) ∙ ap (λ (x : List Bool). has_square x to) (sym c.requires.quiet) ∙ sym c.has.ensures ∙ c.if-has.true in
     let from_small : s < 64 = omega arith in
-    let to_small : to < 64 = omega arith in
     let g : Legally q s to man = record { valid = c.known.ensures; from = from_small; to = to_small; found = c.requires.man; legally = c.requires.way } in
-    let calm = sym (has-set_of (is_calm q man.kind s) to to_small) ∙ ap (λ (x : List Bool). has_square x to) (sym c.requires.calm) ∙ sym c.has.ensures ∙ c.if-has.true in
-    plain_legal q s to man g (calm_plain q s to man calm)
+    plain_legal q s to man g (quietly q man.kind s to quiet).plain
 
-pub made_way-after_step-next-requires-clause-calm : goal.made_way-after_step-next-requires-clause-calm
-made_way-after_step-next-requires-clause-calm t c =
+pub made_way-after_quiet-next-requires-clause-quiet : goal.made_way-after_quiet-next-requires-clause-quiet
+made_way-after_quiet-next-requires-clause-quiet t c =
     let q = c.args.position.now in
     let s = c.args.from in
     let to = c.args.to in
     let man = c.args.man in
     let to_small : to < 64 = omega arith in
-    let calm = sym (has-set_of (is_calm q man.kind s) to to_small) ∙ ap (λ (x : List Bool). has_square x to) (sym c.requires.calm) ∙ sym c.has.ensures ∙ c.if-has.true in
-    calm
+    let quiet = sym (has-set_of (is_quiet q man.kind s) to to_small) ∙ ap (λ (x : List Bool). has_square x to) (sym c.requires.quiet) ∙ sym c.has.ensures ∙ c.if-has.true in
+    quiet
+
+pub made_way-after_quiet-next-requires-clause-rights : goal.made_way-after_quiet-next-requires-clause-rights
+made_way-after_quiet-next-requires-clause-rights t c =
+    let q = c.args.position.now in
+    let s = c.args.from in
+    let to = c.args.to in
+    let man = c.args.man in
+    let to_small : to < 64 = omega arith in
+    let quiet = sym (has-set_of (is_quiet q man.kind s) to to_small) ∙ ap (λ (x : List Bool). has_square x to) (sym c.requires.quiet) ∙ sym c.has.ensures ∙ c.if-has.true in
+    c.requires.rights (move_of s to None) refl (quietly q man.kind s to quiet).enters
 
 pub made_way-returns-then-has : goal.made_way-returns-then-has
 made_way-returns-then-has t c =
@@ -198,12 +209,12 @@ made_way-returns-then-has t c =
     let s = c.args.from in
     let to = c.args.to in
     let man = c.args.man in
-    let from_small : s < 64 = omega arith in
     let to_small : to < 64 = omega arith in
+    let quiet = sym (has-set_of (is_quiet q man.kind s) to to_small) ∙ ap (λ (x : List Bool). has_square x to) (sym c.requires.quiet) ∙ sym c.has.ensures ∙ c.if-has.true in
+    let from_small : s < 64 = omega arith in
     let g : Legally q s to man = record { valid = c.known.ensures; from = from_small; to = to_small; found = c.requires.man; legally = c.requires.way } in
-    let calm = sym (has-set_of (is_calm q man.kind s) to to_small) ∙ ap (λ (x : List Bool). has_square x to) (sym c.requires.calm) ∙ sym c.has.ensures ∙ c.if-has.true in
     subst (λ (n : ℕ). Tells c.count_made.result n)
-    (ap (lines_from c.args.depth) c.after_step-next.ensures ∙ one_move c.args.depth q (move_of s to None) ∙ ap (lines_with c.args.depth q) (sym (plain_way q s to man g (calm_plain q s to man calm)))) c.count_made.ensures
+    (ap (lines_from c.args.depth) c.after_quiet-next.ensures ∙ one_move c.args.depth q (move_of s to None) ∙ ap (lines_with c.args.depth q) (sym (plain_way q s to man g (quietly q man.kind s to quiet).plain))) c.count_made.ensures
 
 pub made_way-made_promoted-requires : goal.made_way-made_promoted-requires
 made_way-made_promoted-requires t c =

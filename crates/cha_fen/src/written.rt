@@ -9,6 +9,9 @@ use cha_board::{Color, Man, Position, Rights, Square, put_square};
 use cha_list::{NoMemory, Text};
 use std::alloc::Global;
 
+/// The most bytes of a text: 64 men, seven slashes, and what stands behind them.
+const MOST_BYTES: usize = 81;
+
 /// Writes the digit of a run of empty squares.
 fn put_run(count: u8, text: &mut Text) -> Result<(), NoMemory>
     requires { count ≤ 8 }
@@ -127,7 +130,10 @@ pub fn write(alloc: Global, position: &Position) -> Result<Text, NoMemory>
     ensures text { IfOk result (λ text. text ≡ fen_text position.now) }
     ensures read_again { IfOk result (λ text. fen text ≡ Ok position.now) }
 {
-    let mut text = Text::new(alloc);
+    let Ok(room) = Vec::with_capacity(alloc, MOST_BYTES) else {
+        return Err(NoMemory);
+    };
+    let mut text = Text::from_vec(room);
     put_position(position, &mut text)?;
     Ok(text)
 }

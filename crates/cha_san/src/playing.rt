@@ -39,12 +39,23 @@ fn append(positions: &mut Positions, position: &Position) -> Result<(), PlayFaul
     }
 }
 
+/// No positions, with room for so many, unless memory is refused. Where several threads judge, a list that grows often waits for them at
+/// the heap.
+fn no_positions(alloc: Global, most: usize) -> Positions
+    ensures { result ≡ [] }
+{
+    match Vec::with_capacity(alloc, most) {
+        Ok(room) => Positions::from_vec(room),
+        Err(_) => Positions::new(alloc),
+    }
+}
+
 /// A position and the one after each word, or the first word that names no move.
 fn replayed(alloc: Global, start: &Position, words: &[Spelling]) -> Result<Positions, PlayFault>
     requires { length words.now ≤ 12000 }
     ensures { LacksMemory result ⊎ (result ≡ positions start.now words.now) }
 {
-    let mut done = Positions::new(alloc);
+    let mut done = no_positions(alloc, words.len() + 1);
     let mut position = *start;
     let mut ply = 0;
     for word in words {

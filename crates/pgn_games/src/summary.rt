@@ -25,7 +25,12 @@ use std::snapshot::Snapshot;
 /// The most move words that a game may have.
 const MOST_PLIES: usize = 12_000;
 
-/// What the tokens of a game say. It takes no more memory than the game itself, however many tokens there are.
+/// For how many move words there is room from the start: for those of most games. Where several threads judge, a list that grows often
+/// waits for them at the heap.
+const ROOM: usize = 128;
+
+/// What the tokens of a game say. It takes no more memory than the game itself and the room for its first words, however many tokens
+/// there are.
 #[derive(Drop)]
 pub struct Summary {
     told: TokenHistory,
@@ -79,6 +84,16 @@ fn keep_texts(
     }
 }
 
+/// No words, with room for those of most games, unless memory is refused.
+fn no_words(alloc: Global) -> Words
+    ensures { result ≡ [] }
+{
+    match Vec::with_capacity(alloc, ROOM) {
+        Ok(room) => Words::from_vec(room),
+        Err(_) => Words::new(alloc),
+    }
+}
+
 /// Where a game stands, with one token more. `empty` says that it is the first.
 fn longer(empty: bool, span: Span, placed: &Placed) -> Span
     ensures { result ≡ span_with empty span placed.now }
@@ -129,7 +144,7 @@ fn where_caused(cause: bool, fault: GameFault) -> Option<GameFault>
 }
 
 impl Summary {
-    /// The summary of no token. It takes no memory.
+    /// The summary of no token, with room for the words of most games, unless memory is refused.
     pub fn new(alloc: Global) -> Summary
         ensures { result ≡ [] }
     {
@@ -147,7 +162,7 @@ impl Summary {
             cut: false,
             recorded: None,
             tags: TagValues::new(),
-            words: Words::new(alloc),
+            words: no_words(alloc),
             sound: 0,
         }
     }

@@ -22,6 +22,7 @@ use cha_outside::{Sink, Source, Wrote};
 use flag_report::{Style, Subject, put as put_outcome, put_summary};
 use side_by_side::{Hands, finish};
 use std::alloc::Global;
+use std::mem;
 
 /// The form of a report.
 #[derive(Clone, Copy, Debug, PartialEq, Eq)]
@@ -53,6 +54,7 @@ pub fn write_report<H: Hands, J: Judge, S: Source, K: Sink>(
     ensures run { (left : Option (List ℕ)) (faults : ℕ) → Consumes left (S.left source.old) items.old.taken → faults ≤ S.faults source.old → IsRunOf (demand_by (Some (job_on items.old.kind (J.question judge.old) form))) result (outside left faults (K.written sink.old) (K.faults sink.old)) (outside (S.left source.new) (S.faults source.new) (K.written sink.new) (K.faults sink.new)) }
 {
     let mut totals = Totals::new();
+    let mut text = Text::new(alloc);
     loop {
         let found = match items.next(alloc, source) {
             Ok(found) => found,
@@ -64,7 +66,8 @@ pub fn write_report<H: Hands, J: Judge, S: Source, K: Sink>(
         let Ok(outcome) = finish(alloc, judge, progress) else {
             return Status::NoMemory;
         };
-        let Ok(wrote) = write_outcome(alloc, form.style, &mut totals, outcome, sink) else {
+        let Ok(wrote) = write_outcome(alloc, form.style, &mut totals, outcome, &mut text, sink)
+        else {
             return Status::NoMemory;
         };
         match wrote {
@@ -74,12 +77,23 @@ pub fn write_report<H: Hands, J: Judge, S: Source, K: Sink>(
     }
 }
 
-/// Counts an outcome, and writes what is printed of it under its number.
+/// Empties a text, which keeps its room.
+fn empty(alloc: Global, text: &mut Text)
+    ensures { text.new ≡ [] }
+{
+    let mut room = mem::replace(text, Text::new(alloc)).into_vec();
+    room.clear();
+    *text = Text::from_vec(room);
+}
+
+/// Counts an outcome, and writes what is printed of it under its number, by way of a text whose room serves again: where threads judge,
+/// a text that grows often waits for them at the heap.
 fn write_outcome<K: Sink>(
     alloc: Global,
     style: Style,
     totals: &mut Totals,
     outcome: Outcome,
+    text: &mut Text,
     sink: &mut K,
 ) -> Result<Wrote, NoMemory>
     requires printable { IsPrintableOutcome outcome }
@@ -92,8 +106,8 @@ fn write_outcome<K: Sink>(
     ensures untouched { OnErr result (sink.new ≡ sink.old) }
 {
     totals.count(&outcome);
-    let mut text = Text::new(alloc);
-    put_outcome(alloc, style, totals.items, &outcome, &mut text)?;
+    empty(alloc, text);
+    put_outcome(alloc, style, totals.items, &outcome, text)?;
     Ok(put(sink, text.items()))
 }
 

@@ -29,10 +29,14 @@ enum cha_answer {
 /* Runs the command that the words name over an input, as the program cha does over its standard input, and writes what the program
  * prints to the front of out.
  *
- * words, words_len  the words after the program's name in UTF-8, with one zero byte between two of them ("position\0--certs")
+ * words, words_len  the words after the program's name in UTF-8, with one zero byte between two of them and none at the end
+ *                   ("position\0--certs", of 16 bytes)
  * input, input_len  what the program reads: PGN, FEN lines or the text of a certificate
  * out, out_len      room for the output
  * used              afterwards how many bytes the output has; written in every case
+ *
+ * Where single games or positions cannot be read, the output says so, and the answer is CHA_DONE all the same. After CHA_TOO_LONG and
+ * CHA_NO_MEMORY the output is whole blocks, perhaps none, without a summary.
  *
  * A longer text of games is judged in pieces. With --json the last line says "closed":true where the next piece can be judged alone: no
  * game is open, and the next byte begins a line. Where it says false, judge the piece again together with the next one. docs/LIBRARY.md

@@ -15,14 +15,14 @@ export interface Cha {
     readonly module: WebAssembly.Module;
     /** Does what command words order with an input; a text goes in as UTF-8. Throws a RangeError where there is no memory for the input, and a WebAssembly.RuntimeError where the stack is too small. */
     run(words: readonly string[], input?: string | Uint8Array): Ran;
-    /** 0 where the text is an accepted certificate: from its first position no series of legal moves mates for its side. Else 4, 5 or 6. */
+    /** 0 where the text is an accepted certificate: from its first position no series of legal moves mates for its side, which its line `winner` names. Else 4, 5 or 6. Throws as `run`. */
     check(text: string | Uint8Array): AnswerNumber;
 }
 
 /** Opens the module: its bytes, or what they were compiled to. */
 export declare function open(source: BufferSource | WebAssembly.Module): Promise<Cha>;
 
-/** The lines of a report that was asked for with --json, the summary last. */
+/** The lines of a report that was asked for with --json, the summary last. Another output is a SyntaxError. */
 export declare function linesOf(output: Uint8Array): Line[];
 
 export type Side = "white" | "black";
@@ -36,7 +36,7 @@ export type Verdict =
     | { verdict: "undecided"; positions: number; depth: number }
     | { verdict: "skipped" };
 
-/** A game that was judged; `bytes` are where it begins and ends in the input, `line` is counted from 1. */
+/** A game that was judged; `bytes` are where it begins in the input, as UTF-8, and the place behind its end; `line` is counted from 1. */
 export interface Game {
     game: number;
     bytes: [number, number];
@@ -54,6 +54,7 @@ export interface Game {
     flag: Side | null;
 }
 
+/** A game that cannot be read, and why; each byte of the input is a character there (ISO 8859-1). */
 export interface UnreadableGame {
     game: number;
     bytes: [number, number];
@@ -91,7 +92,7 @@ export interface Replay {
     unreadable: string | null;
 }
 
-/** The last line. */
+/** The last line. `"game" in line` does not tell a line from it: take it off, as in `linesOf(output).slice(0, -1) as (Game | UnreadableGame)[]`. */
 export type Summary = Record<string, number | boolean>;
 
 export type Line = Game | UnreadableGame | Position | RefusedPosition | Mates | Replay | Summary;

@@ -89,7 +89,7 @@ MODULE = page/dist/cha.wasm
 PAGE = page/dist/cha.html
 
 page: $(PAGE)
-	@cp web/cha.mjs web/cha.d.ts page/dist
+	@cp web/cha.mjs web/cha.d.mts page/dist
 	@mkdir -p dist && cp $(PAGE) dist
 
 $(MODULE): $(LIBRARY) web/heap.c tools/page-module.py

@@ -43,7 +43,7 @@ share/doc/cha       README.md and all documents. What they say of 'make' is for 
 PROVED.txt          what was proved, and by which toolchain
 
 What may lie beside this archive: cha-*.whl, the package for Python (share/doc/cha/python/README.md); cha.html, the page, to be opened in a
-browser; cha.wasm, cha.mjs and cha.d.ts, the module for JavaScript (share/doc/cha/web/README.md); and SHA256SUMS, which has the checksums of
+browser; cha.wasm, cha.mjs and cha.d.mts, the module for JavaScript (share/doc/cha/web/README.md); and SHA256SUMS, which has the checksums of
 all: sha256sum -c SHA256SUMS
 NOTE
 cat > "$room/$name/PROVED.txt" << NOTE

@@ -4,8 +4,9 @@
     tools/gate.py
 
 It ends at the first of them that fails, with its status. Each says 'N passed, M failed' of its own; the last line here is their sum.
+After `rt ci` the program is the one that it has built, and the library is built over the libraries that it has proved (tools/library.py).
 Where a package of Debian is missing that tests need, and it cannot be installed (tools/packages), those tests are passed over and that is
-said; with CI=true it is a failure, unless only the page or the Python package would be tested.
+said; with CI=true it is a failure, unless only the cut texts, the page or the Python package would be tested.
 """
 import os
 import re

@@ -42,7 +42,7 @@ use Rattle.cha_outcome.specs.declared.questions.Question.TheVariants.{Verdicts}
 use Rattle.cha_outcome.specs.Items.{played, played_item, item_unless, game_item, kept_item}
 use Rattle.cha_outcome.specs.Outcomes.{item_of, new_result, IsSoundOutcome, HasSoundVerdicts, AllSound}
 use Rattle.cha_outcome.specs.Rulings.{winner_ruling_of, recorded_ruling_of, running_ruling_of, ruling_of, claimant_by, is_changed, was_dead, judgment_of}
-use Rattle.adjudicate.specs.Jobs.{kept_items}
+use Rattle.item_batches.specs.Items.{kept_items}
 use Rattle.adjudicate.proofs.OpeningLives.{move, black_mates, opening_runs}
 
 -- a game at the opening position, of which nothing but a result is told

@@ -25,7 +25,7 @@ use Rattle.cha_outcome.specs.Items.{item_unless, game_item, kept_item}
 use Rattle.cha_outcome.specs.declared.questions.FlaggedDraws.{FlaggedDraws}
 use Rattle.cha_outcome.specs.declared.questions.Question.TheVariants.{Verdicts}
 use Rattle.cha_outcome.specs.Outcomes.{item_of, new_result, AllSound}
-use Rattle.adjudicate.specs.Jobs.{kept_items}
+use Rattle.item_batches.specs.Items.{kept_items}
 use Rattle.adjudicate.proofs.BegunGames.{results_of_begun}
 
 -- a game gets a result only where it was played

@@ -38,16 +38,18 @@ use Rattle.flag_report.specs.Styles.{summary}
 use Rattle.adjudicate.specs.declared.endings.Status.{Status}
 use Rattle.adjudicate.specs.declared.endings.Status.TheVariants.{Done, ReadFault, WriteFault, TooLong, NoMemory}
 use Rattle.adjudicate.specs.Statuses.{status_of_end}
-use Rattle.adjudicate.specs.Jobs.{kept_items, on_kept_games, last}
+use Rattle.item_batches.specs.Items.{kept_items}
+use Rattle.adjudicate.specs.Jobs.{on_kept_games, last}
 use Rattle.adjudicate.specs.Report.{IsFront}
 use Rattle.adjudicate.specs.Runs.{Grew, outside}
 use Rattle.adjudicate.specs.Corrections.{Correction, corrected_text, corrected_front, Noted, HasAll, HasFirst, WritesWhole, EndedCorrecting}
 use Rattle.adjudicate.specs.Orders.{IsCorrecting}
-use Rattle.adjudicate.specs.Readers.{ItemKind, GameItems, KeptItems, items_by, IsAskedOf}
-use Rattle.adjudicate.specs.Steps.{game_piece, end_piece, place_of, IsEnded}
+use Rattle.item_batches.specs.Readers.{ItemKind, GameItems, KeptItems, items_by, IsAskedOf}
+use Rattle.item_batches.specs.Pieces.{game_piece, end_piece}
+use Rattle.adjudicate.specs.Steps.{place_of, IsEnded}
 use Rattle.adjudicate.proofs.Fronts.{front_of_none, front_settled, front_more}
 use Rattle.adjudicate.proofs.CorrectedGames.{corrected_whole}
-use Rattle.adjudicate.proofs.GivenGames.{item_at, items_first}
+use Rattle.item_batches.proofs.GivenGames.{item_at, items_first}
 use Rattle.adjudicate.proofs.Progress.{sound_more, totals_more}
 
 -- So many games of the bytes taken were judged, with these totals; the last of them ends at a place.

@@ -15,7 +15,7 @@ use Rattle.pgn_results.proofs.GameByGame.{same_first, written_settled, written_m
 use Rattle.cha_outcome.specs.declared.outcomes.Outcome.{Outcome}
 use Rattle.cha_outcome.specs.Outcomes.{new_result}
 use Rattle.adjudicate.specs.Corrections.{changed_games, corrected_front}
-use Rattle.adjudicate.specs.Steps.{game_piece}
+use Rattle.item_batches.specs.Pieces.{game_piece}
 
 none_changed : (bytes : List ℕ) (games : List PlacedGame) → changed_games bytes games [] ≡ []
 unfolding changed_games

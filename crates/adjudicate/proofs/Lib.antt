@@ -1,6 +1,4 @@
-pub mod Items
 pub mod Progress
-pub mod Settling
 pub mod RunEndings
 pub mod OrderRuns
 pub mod Truth
@@ -9,8 +7,6 @@ pub mod BegunGames
 pub mod CorrectedGames
 pub mod Fronts
 pub mod Answering
-pub mod GivenGames
 pub mod ReportLoop
 pub mod LegalLines
 pub mod CorrectingLoop
-pub mod Batching

@@ -9,7 +9,8 @@ use Rattle.adjudicate.specs.declared.endings.Status.{Status}
 use Rattle.adjudicate.specs.declared.endings.Status.TheVariants.{Done, Usage, ReadFault, WriteFault, TooLong, NoMemory, NotAccepted}
 use Rattle.adjudicate.specs.Jobs.{job}
 use Rattle.adjudicate.specs.Report.{demand}
-use Rattle.adjudicate.specs.Runs.{Outside, outside, IsRunOf, most_bytes}
+use Rattle.adjudicate.specs.Runs.{Outside, outside, IsRunOf}
+use Rattle.item_batches.specs.Items.{most_bytes}
 use Rattle.adjudicate.specs.Corrections.{Correction, correction, Noted}
 use Rattle.adjudicate.specs.Orders.{IsCorrecting, IsRunBy, IsRun}
 use Rattle.adjudicate.proofs.Fronts.{front_of_none}

@@ -23,9 +23,11 @@ use Rattle.adjudicate.specs.Statuses.{status_of_end}
 use Rattle.adjudicate.specs.Jobs.{Job}
 use Rattle.adjudicate.specs.Report.{Demand, demand_by, HasBlocks}
 use Rattle.adjudicate.specs.Runs.{Grew, outside, IsRunOf}
-use Rattle.adjudicate.specs.Readers.{ItemKind, items_by, settled_by, closed_by, IsAskedOf, job_on}
+use Rattle.item_batches.specs.Readers.{ItemKind, items_by, settled_by, closed_by, IsAskedOf}
+use Rattle.adjudicate.specs.Steps.{job_on}
 use Rattle.adjudicate.proofs.RunEndings.{short_run, long_run}
-use Rattle.adjudicate.proofs.Settling.{settled_more}
+use Rattle.item_batches.proofs.Items.{not_more}
+use Rattle.item_batches.proofs.Settling.{settled_more}
 use Rattle.adjudicate.proofs.Progress.{WroteUpTo, nothing_written, one_more, cut_block, whole_blocks, finished, cut_summary, room}
 
 -- So many items of the bytes taken were judged, and what is printed of them was written; these are the totals.
@@ -95,9 +97,6 @@ still_asked k k' question question' e same h = subst (λ b. IsAskedOf b question
 
 pub same_answers : (question question' : Question) (item : Item) (o : Outcome) → question' ≡ question → Answers question' item o → Answers question item o
 same_answers question question' item o same h = subst (λ q. Answers q item o) same h
-
-pub not_more : (n most : ℕ) → (most < n → ⊥) → n ≤ most
-not_more n most h = omega arith
 
 -- Where the source has not ended, the items that were given are settled, and more bytes change nothing of that.
 pub still_whole : (k : ItemKind) (was now : Bool) (taken taken' : List ℕ) (given : ℕ) (a b : Option (List ℕ)) → Gathers a b taken taken' → (was ≡ false → given ≤ settled_by k taken) → (was ≡ true → now ≡ true) → (now ≡ true → IsAtEnd b)

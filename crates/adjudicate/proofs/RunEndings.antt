@@ -23,7 +23,8 @@ use Rattle.adjudicate.specs.declared.endings.Status.{Status}
 use Rattle.adjudicate.specs.declared.endings.Status.TheVariants.{Done, Usage, ReadFault, WriteFault, TooLong, NoMemory, NotAccepted}
 use Rattle.adjudicate.specs.Statuses.{status_of_end}
 use Rattle.adjudicate.specs.CertFindings.{IsTextOf, IsUnwinnableAtFirst}
-use Rattle.adjudicate.specs.Jobs.{Job, game_items, on_games, on_made}
+use Rattle.adjudicate.specs.Jobs.{Job, on_games, on_made}
+use Rattle.item_batches.specs.Items.{game_items}
 use Rattle.adjudicate.specs.Report.{Demand, demand, demand_by, HasBlocks, HasReport, HasCutBlock}
 use Rattle.adjudicate.specs.Runs.{Outside, outside, Ended, AreWhole, BeginsWhole, Takes, HasReadAll, IsRunOf}
 use Rattle.adjudicate.specs.Steps.{IsWritten, made_status}

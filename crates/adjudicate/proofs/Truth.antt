@@ -11,7 +11,7 @@ use Rattle.true_blocks.specs.Shown.{ShowsOnlyTruth}
 use Rattle.adjudicate.specs.declared.endings.Status.{Status}
 use Rattle.adjudicate.specs.declared.endings.Status.TheVariants.{Done}
 use Rattle.adjudicate.specs.Corrections.{Noted}
-use Rattle.adjudicate.specs.Jobs.{game_items, position_items}
+use Rattle.item_batches.specs.Items.{game_items, position_items}
 use Rattle.adjudicate.specs.Orders.{IsRun}
 use Rattle.adjudicate.specs.Runs.{outside, Grew}
 use Rattle.adjudicate.specs.Truth.{usual, ReportsTruth}

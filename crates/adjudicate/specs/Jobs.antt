@@ -1,7 +1,7 @@
 -- What an order asks for (this project).
-use Rattle.std.specs.Prelude.{ℕ, Bool, true, false, if◌then◌else◌, List, map, Option, Some, None}
-use Rattle.text_lines.specs.Lines.{text_lines, settled_lines}
-use Rattle.pgn_games.specs.Games.{placed_games, is_closed}
+use Rattle.std.specs.Prelude.{ℕ, Bool, true, false, if◌then◌else◌, List, Option, Some, None}
+use Rattle.text_lines.specs.Lines.{settled_lines}
+use Rattle.pgn_games.specs.Games.{is_closed}
 use Rattle.pgn_games.specs.Settling.{settled_games}
 use Rattle.random_games.specs.Made.{made}
 use Rattle.cha_outcome.specs.declared.items.Item.{Item}
@@ -10,7 +10,6 @@ use Rattle.cha_outcome.specs.declared.questions.FlaggedDraws.{FlaggedDraws}
 use Rattle.cha_outcome.specs.declared.questions.FlaggedDraws.TheVariants.{Stand, Examined}
 use Rattle.cha_outcome.specs.declared.questions.Question.{Question}
 use Rattle.cha_outcome.specs.declared.questions.Question.TheVariants as questions
-use Rattle.cha_outcome.specs.Items.{line_item, game_item, kept_item, replay_item}
 use Rattle.cha_outcome.specs.Totals.{totals_of}
 use Rattle.flag_report.specs.declared.forms.Notation.TheVariants.{Coordinates, San}
 use Rattle.flag_report.specs.declared.styles.Style.{Style}
@@ -18,25 +17,10 @@ use Rattle.flag_report.specs.declared.styles.Style.TheVariants.{Blocks, Json, Su
 use Rattle.flag_report.specs.declared.styles.Subject.{Subject}
 use Rattle.flag_report.specs.declared.styles.Subject.TheVariants.{Games, Positions, Mates, Plies}
 use Rattle.flag_report.specs.Styles.{summary}
+use Rattle.item_batches.specs.Items.{position_items, game_items, kept_items, replay_items}
 use Rattle.cha_words.specs.declared.orders.Order.{Order}
 use Rattle.cha_words.specs.declared.orders.Printing.{Printing}
 use Rattle.cha_words.specs.declared.orders.Order.TheVariants.{AdjudicateGames, CorrectGames, JudgePositions, CheckCert, GenGames, ListMates, ReplayGames}
-
--- the items of a text of positions: its lines that count, in order
-abbrev pub position_items : List ℕ → List Item
-position_items bytes = map (λ line. line_item line.number line.text) (text_lines bytes)
-
--- the items of a text of games, in order
-abbrev pub game_items : List ℕ → List Item
-game_items bytes = map game_item (placed_games bytes)
-
--- the items of a text of games whose results may be corrected, in order
-abbrev pub kept_items : List ℕ → List Item
-kept_items bytes = map kept_item (placed_games bytes)
-
--- the items of a text of games whose moves are told, in order
-abbrev pub replay_items : List ℕ → List Item
-replay_items bytes = map replay_item (placed_games bytes)
 
 -- A report on items: whether the input is read, which items it has, how many of them are settled in a front of it, what is asked about
 -- each, whether its text is closed, how the report is printed, and what it is about.

@@ -8,6 +8,4 @@ pub mod Orders
 pub mod Truth
 pub mod Statuses
 -- what only the crate's own functions say of each other
-pub mod Readers
 pub mod Steps
-pub mod Batches

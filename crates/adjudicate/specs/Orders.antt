@@ -6,7 +6,8 @@ use Rattle.cha_words.specs.declared.orders.Order.{Order}
 use Rattle.adjudicate.specs.declared.endings.Status.{Status}
 use Rattle.adjudicate.specs.declared.endings.Status.TheVariants.{ReadFault, WriteFault, TooLong}
 use Rattle.adjudicate.specs.Report.{demand}
-use Rattle.adjudicate.specs.Runs.{Outside, IsRunOf, most_bytes}
+use Rattle.adjudicate.specs.Runs.{Outside, IsRunOf}
+use Rattle.item_batches.specs.Items.{most_bytes}
 use Rattle.adjudicate.specs.Corrections.{Correction, correction, Noted, EndedCorrecting}
 
 -- What is true of a run that corrects games: what was read, written and noted; and of its causes and its length what is true of a run

@@ -4,6 +4,7 @@ use Rattle.std.specs.declared.option.Option.{Option}
 use Rattle.std.specs.Io.KnownBytes.{Appends, Consumes, IsAtEnd}
 use Rattle.cha_outside.specs.Faults.{Rose}
 use Rattle.cha_outside.specs.Gathering.{Took}
+use Rattle.item_batches.specs.Items.{most_bytes}
 use Rattle.adjudicate.specs.declared.endings.Status.{Status}
 use Rattle.adjudicate.specs.declared.endings.Status.TheVariants.{Done, Usage, ReadFault, WriteFault, TooLong, NoMemory, NotAccepted}
 use Rattle.adjudicate.specs.Report.{Demand, IsFront}
@@ -74,10 +75,6 @@ Ended d ReadFault before now = BeginsWhole d d.settled before now
 Ended d TooLong before now = BeginsWhole d (λ _. 0) before now
 Ended d NoMemory before now = BeginsWhole d (λ _. 0) before now
 Ended d Usage before now = ⊥
-
--- the most bytes that an input may have
-abbrev pub most_bytes : ℕ
-most_bytes = 268435456
 
 -- What is true of a run, by what its order asks: what was read and written; that a reading that fails or is too long comes only where the
 -- order reads; that a fault comes only where its object failed in this run;

@@ -2,13 +2,15 @@
 use Rattle.std.specs.Prelude.{◌≡◌, ◌≢◌, ℕ, ◌≤◌, ◌⊎◌, Bool, true, false, if◌then◌else◌, List, [], Option, Some, None}
 use Rattle.std.specs.Io.KnownBytes.{Appends}
 use Rattle.cha_outside.specs.Faults.{Rose}
-use Rattle.pgn_games.specs.declared.marks.ResultMark.{ResultMark}
 use Rattle.pgn_games.specs.declared.played.Span.{Span}
 use Rattle.cha_outcome.specs.declared.items.Item.{Item}
 use Rattle.cha_outcome.specs.declared.items.Item.TheVariants.{Position, RefusedLine, Played, UnreadableGame, Replayed}
-use Rattle.pgn_results.specs.Keeping.{piece_of, changed_piece, rest_of}
 use Rattle.adjudicate.specs.declared.endings.Status.{Status}
 use Rattle.adjudicate.specs.declared.endings.Status.TheVariants.{Done, Usage, ReadFault, WriteFault, TooLong, NoMemory, NotAccepted}
+use Rattle.cha_outcome.specs.declared.questions.Question.{Question}
+use Rattle.item_batches.specs.Readers.{ItemKind, items_by, settled_by, closed_by}
+use Rattle.adjudicate.specs.declared.reports.Form.{Form}
+use Rattle.adjudicate.specs.Jobs.{Job}
 use Rattle.adjudicate.specs.Report.{Demand, IsFront}
 use Rattle.adjudicate.specs.Runs.{Grew}
 use Rattle.adjudicate.specs.Corrections.{Noted}
@@ -44,16 +46,6 @@ place_of (Played game) = Some game.span
 place_of (UnreadableGame span why) = Some span
 place_of (Replayed game) = Some game.span
 
--- what is written of a game, with what stands before it from a place on, or of a game that changes alone
-abbrev pub game_piece : Bool → List ℕ → ℕ → Span → Option ResultMark → List ℕ
-game_piece true bytes start span mark = changed_piece bytes span mark
-game_piece false bytes start span mark = piece_of bytes start span mark
-
--- what is written of the text behind its last game
-abbrev pub end_piece : Bool → List ℕ → ℕ → List ℕ
-end_piece true bytes start = []
-end_piece false bytes start = rest_of start bytes
-
 -- What two sinks took at the end of a run that corrects games, by the status: the end of the text and the summary, before and after.
 pub record IsEnded (status : Status) (text summary : List ℕ) (old : Option (List ℕ)) (faults : ℕ) (new : Option (List ℕ)) (faults' : ℕ) (notes notes' : Noted) : Type 0 where
   pub done : status ≡ Done → Appends old new text × Appends notes.taken notes'.taken summary
@@ -63,3 +55,8 @@ pub record IsEnded (status : Status) (text summary : List ℕ) (old : Option (Li
   pub either : (status ≡ Done) ⊎ ((status ≡ WriteFault) ⊎ (status ≡ NoMemory))
   pub later : faults ≤ faults'
   pub notes_later : notes.faults ≤ notes'.faults
+
+-- the job on items of a kind
+abbrev pub job_on : ItemKind → Question → Form → Job
+job_on kind question form =
+    record { reads = true; items = items_by kind; settled = settled_by kind; question = question; closed = closed_by kind; style = form.style; subject = form.subject }

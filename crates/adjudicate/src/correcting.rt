@@ -10,7 +10,8 @@ ghost use Rattle.flag_report.specs.declared.styles.Style.TheVariants.{SummaryAlo
 ghost use Rattle.flag_report.specs.declared.styles.Subject.TheVariants.{Games};
 ghost use Rattle.flag_report.specs.Styles.{summary};
 ghost use Rattle.pgn_games.specs.Games.{is_closed};
-ghost use Rattle.adjudicate.specs.Steps.{game_piece, end_piece, place_of, IsEnded};
+ghost use Rattle.item_batches.specs.Pieces.{game_piece, end_piece};
+ghost use Rattle.adjudicate.specs.Steps.{place_of, IsEnded};
 ghost use Rattle.cha_limits.specs.Bounds.{Bounds};
 ghost use Rattle.cha_outcome.specs.declared.outcomes.Outcome.{Outcome as OutcomeOf};
 ghost use Rattle.cha_outcome.specs.declared.questions.FlaggedDraws.{FlaggedDraws as DrawRule};
@@ -18,18 +19,17 @@ ghost use Rattle.cha_outcome.specs.declared.questions.Question.TheVariants.{Verd
 ghost use Rattle.adjudicate.specs.Corrections.{noted, HasAll, HasSameGames};
 ghost use Rattle.adjudicate.specs.Jobs.{on_kept_games};
 ghost use Rattle.adjudicate.specs.Orders.{IsCorrecting};
-ghost use Rattle.adjudicate.specs.Readers.{GameItems, KeptItems, IsAskedOf};
+ghost use Rattle.item_batches.specs.Readers.{GameItems, KeptItems, IsAskedOf};
 ghost use Rattle.adjudicate.specs.Runs.{outside};
 
-use crate::batches::Batches;
 use crate::endings::Status;
-use crate::readers::ItemReader;
 use crate::writing::put;
 use cha_judge::Judge;
 use cha_list::{NoMemory, Text};
 use cha_outcome::{Outcome, Totals};
 use cha_outside::{Sink, Source, Wrote};
 use flag_report::{Style, Subject, put_summary};
+use item_batches::{Batches, ItemReader};
 use pgn_games::Span;
 use pgn_results::{KeptReader, corrected_games_stay_the_same};
 use side_by_side::{Hands, finish};

@@ -2,18 +2,17 @@
 
 ghost use Rattle.std.specs.Prelude.{◌≡◌, ◌≤◌, ℕ, List, Option, Some};
 ghost use Rattle.adjudicate.specs.Jobs.{on_games, on_lines, on_made, on_replays};
-ghost use Rattle.adjudicate.specs.Readers.{IsAskedOf, GameItems, LineItems, ReplayItems};
+ghost use Rattle.item_batches.specs.Readers.{IsAskedOf, GameItems, LineItems, ReplayItems};
 ghost use Rattle.adjudicate.specs.Report.{demand_by};
 ghost use Rattle.adjudicate.specs.Runs.{IsRunOf, outside};
 ghost use Rattle.adjudicate.specs.Steps.{made_status};
 
-use crate::batches::Batches;
 use crate::endings::Status;
-use crate::readers::ItemReader;
 use crate::reports::{Form, write_report};
 use cha_judge::Judge;
 use cha_outside::{Bytes, Sink, Source};
 use flag_report::{Style, Subject};
+use item_batches::{Batches, ItemReader};
 use pgn_games::Reader;
 use random_games::games_text;
 use side_by_side::Hands;

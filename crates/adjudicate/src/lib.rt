@@ -1,21 +1,16 @@
 //! The one call that reads an input, judges its items and writes the report.
 //!
-//! `endings` has how a run ends, `readers` the items of an input, one at a time,
-//! `kept` games whose results may be corrected, `batches` the items that are worked on together, `writing` how what is printed goes out,
-//! `reports` the loop over the items of a report, `jobs` where the items of each job come from, `correcting` the games with the right
-//! results, `checking` the check of a certificate, `commands` what each order does, `top` the call `run`, and `alone` the same call without a
-//! runtime.
+//! `endings` has how a run ends, `writing` how what is printed goes out, `reports` the loop over the items of a report, `jobs` where the items
+//! of each job come from, `correcting` the games with the right results, `checking` the check of a certificate, `commands` what each order
+//! does, `top` the call `run`, and `alone` the same call without a runtime.
 #![tactic(auto)]
 
 mod alone;
-mod batches;
 mod checking;
 mod commands;
 mod correcting;
 mod endings;
 mod jobs;
-mod kept;
-mod readers;
 mod reports;
 mod top;
 mod writing;

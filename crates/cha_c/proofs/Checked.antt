@@ -11,7 +11,8 @@ use Rattle.adjudicate.specs.declared.endings.Status.TheVariants.{Done, Usage, Re
 use Rattle.adjudicate.specs.Report.{IsAccepted, demand}
 use Rattle.adjudicate.specs.Corrections.{Noted}
 use Rattle.adjudicate.specs.Orders.{IsRun}
-use Rattle.adjudicate.specs.Runs.{IsRunOf, Ended, outside, most_bytes}
+use Rattle.adjudicate.specs.Runs.{IsRunOf, Ended, outside}
+use Rattle.item_batches.specs.Items.{most_bytes}
 
 -- the word orders a check
 check_ordered : order_of (codes "check" ∷ []) ≡ Some CheckCert

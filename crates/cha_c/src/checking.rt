@@ -3,7 +3,7 @@
 ghost use Rattle.std.specs.Prelude.{◌≡◌, ◌≢◌, ◌<◌, ◌⊎◌, [], ◌∷◌, length, map, codes, string_bytes, IfOk};
 ghost use Rattle.adjudicate.specs.CertFindings.{IsTextOf, IsUnwinnableAtFirst};
 ghost use Rattle.adjudicate.specs.Report.{IsAccepted};
-ghost use Rattle.adjudicate.specs.Runs.{most_bytes};
+ghost use Rattle.item_batches.specs.Items.{most_bytes};
 ghost use Rattle.cha_words.specs.declared.orders.Order.TheVariants.{CheckCert};
 
 use crate::grown::Grown;

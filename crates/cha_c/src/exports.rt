@@ -4,7 +4,7 @@ ghost use Rattle.std.specs.Prelude.{◌≡◌, ◌<◌, ◌⊎◌, drop, length}
 ghost use Rattle.cha_c.specs.Answers.{Answers, HandsOut, number_in_c};
 ghost use Rattle.adjudicate.specs.CertFindings.{IsTextOf, IsUnwinnableAtFirst};
 ghost use Rattle.adjudicate.specs.Report.{IsAccepted};
-ghost use Rattle.adjudicate.specs.Runs.{most_bytes};
+ghost use Rattle.item_batches.specs.Items.{most_bytes};
 ghost use Rattle.cha_words.specs.declared.orders.Order.TheVariants.{CheckCert};
 
 use crate::checking::check_text;

@@ -1,6 +1,6 @@
 use Rattle.std.proofs.Common.{refl, arith}
 use Rattle.adjudicate.proofs.OrderRuns.{nothing_corrected}
-use Rattle.adjudicate.proofs.Items.{kept_asked}
+use Rattle.item_batches.proofs.Items.{kept_asked}
 use Rattle.adjudicate.proofs.correcting.correct_games.Goals as goal
 
 pub returns-in_default-clause-run : goal.returns-in_default-clause-run

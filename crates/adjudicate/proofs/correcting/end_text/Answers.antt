@@ -2,7 +2,7 @@ use Rattle.std.proofs.Common.{ap, ◌∙◌}
 use Rattle.flag_report.specs.declared.styles.Style.TheVariants.{SummaryAlone}
 use Rattle.flag_report.specs.declared.styles.Subject.TheVariants.{Games}
 use Rattle.flag_report.specs.Styles.{summary}
-use Rattle.adjudicate.specs.Readers.{KeptItems}
+use Rattle.item_batches.specs.Readers.{KeptItems}
 use Rattle.adjudicate.proofs.ReportLoop.{same_closed}
 use Rattle.adjudicate.proofs.CorrectingLoop.{ended_cut, ended_late, ended_well}
 use Rattle.adjudicate.proofs.correcting.end_text.Goals as goal

@@ -1,7 +1,7 @@
 use Rattle.std.proofs.Common.{◌≡◌, ◌≤◌, length, Some, IsSome, refl, sym, ap, ◌∙◌, subst}
 use Rattle.cha_outside.specs.Writing.{Takes}
 use Rattle.cha_outcome.specs.Outcomes.{new_result}
-use Rattle.adjudicate.specs.Steps.{game_piece}
+use Rattle.item_batches.specs.Pieces.{game_piece}
 use Rattle.adjudicate.proofs.CorrectingLoop.{same_span}
 use Rattle.adjudicate.proofs.correcting.write_game.Goals as goal
 

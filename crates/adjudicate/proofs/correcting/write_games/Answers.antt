@@ -4,7 +4,7 @@ use Rattle.std.proofs.lemmas.List.{length-map}
 use Rattle.pgn_games.specs.Games.{placed_games}
 use Rattle.cha_outcome.specs.Items.{kept_item}
 use Rattle.side_by_side.specs.Progresses.{IsOf}
-use Rattle.adjudicate.specs.Readers.{KeptItems}
+use Rattle.item_batches.specs.Readers.{KeptItems}
 use Rattle.adjudicate.proofs.RunEndings.{rose_in}
 use Rattle.adjudicate.proofs.ReportLoop.{not_more, all_taken, given_whole, next_whole, same_before, same_settled, same_count}
 use Rattle.adjudicate.proofs.CorrectingLoop.{still_whole, at_first, retook, gave, stands, room_at, game_of_item, answers_game, placed_by, not_read, no_memory, cut_game, all_judged}

@@ -1,7 +1,7 @@
 use Rattle.std.proofs.Common.{◌≡◌, ◌-◌, ◌≤◌, length, true, false}
 use Rattle.std.specs.Io.KnownBytes.{Consumes, IsAtEnd}
 use Rattle.pgn_games.specs.Settling.{settled_games}
-use Rattle.adjudicate.specs.Readers.{KeptItems}
+use Rattle.item_batches.specs.Readers.{KeptItems}
 use Rattle.adjudicate.proofs.CorrectingLoop.{IsAt}
 use Rattle.adjudicate.proofs.correcting.write_games.Given as goal
 

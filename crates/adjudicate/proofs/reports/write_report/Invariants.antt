@@ -1,7 +1,8 @@
 use Rattle.std.proofs.Common.{◌≡◌, ◌-◌, ◌≤◌, true, false, length}
 use Rattle.std.specs.Io.KnownBytes.{IsAtEnd}
 use Rattle.cha_outside.specs.Gathering.{Gathers}
-use Rattle.adjudicate.specs.Readers.{settled_by, job_on}
+use Rattle.item_batches.specs.Readers.{settled_by}
+use Rattle.adjudicate.specs.Steps.{job_on}
 use Rattle.adjudicate.proofs.ReportLoop.{IsAt}
 use Rattle.adjudicate.proofs.reports.write_report.Given as goal
 

@@ -1,0 +1,4 @@
+pub mod Items
+pub mod GivenGames
+pub mod Settling
+pub mod Batching

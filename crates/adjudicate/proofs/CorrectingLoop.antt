@@ -47,6 +47,8 @@ use Rattle.adjudicate.specs.Orders.{IsCorrecting}
 use Rattle.item_batches.specs.Readers.{ItemKind, GameItems, KeptItems, items_by, IsAskedOf}
 use Rattle.item_batches.specs.Pieces.{game_piece, end_piece}
 use Rattle.adjudicate.specs.Steps.{place_of, IsEnded}
+use Rattle.item_batches.specs.Items.{TookAsNeeded}
+use Rattle.item_batches.proofs.Batching.{took_later}
 use Rattle.adjudicate.proofs.Fronts.{front_of_none, front_settled, front_more}
 use Rattle.adjudicate.proofs.CorrectedGames.{corrected_whole}
 use Rattle.item_batches.proofs.GivenGames.{item_at, items_first}
@@ -254,7 +256,7 @@ of q changed = record { judging = on_kept_games q; changed = changed }
 
 -- How a run ends, where so many games were judged and written.
 module _ (q : Question) (changed : Bool) (asked : IsAskedOf GameItems q) (old now : Option (List ℕ)) (g : ℕ) (taken : List ℕ) (given written : ℕ) (s : Totals) (at : IsAt q changed old now taken given written s)
-    (left left' : Option (List ℕ)) (f f' : ℕ) (consumed : Consumes left left' taken) (source_later : f ≤ f') (notes : Noted) where
+    (took : TookAsNeeded settled_games taken given) (left left' : Option (List ℕ)) (f f' : ℕ) (consumed : Consumes left left' taken) (source_later : f ≤ f') (notes : Noted) where
   -- so many games may be written: they are settled, or nothing is left
   abbrev pub MayHave : ℕ → Type 0
   MayHave count = (count ≤ settled_games taken) ⊎ IsAtEnd left'
@@ -267,8 +269,12 @@ module _ (q : Question) (changed : Bool) (asked : IsAskedOf GameItems q) (old no
     subst MayHave (sym at.judged.number) may,
   )
 
+  -- nothing was read that was not needed for one more
+  took_now : TookAsNeeded settled_games taken (length at.os)
+  took_now = subst (TookAsNeeded settled_games taken) (sym at.judged.number) took
+
   whole : (least : List ℕ → ℕ) (g' : ℕ) → least taken ≤ given → MayHave given → WritesWhole (of q changed) least (outside left f old g) (outside left' f' now g') notes notes
-  whole least g' due may = (taken, consumed, (at.os, first_of now g' may, omega (arith, due, at.judged.number), (corrected_front changed taken at.os, at.text, refl)), refl)
+  whole least g' due may = (taken, consumed, (at.os, first_of now g' may, took_now, omega (arith, due, at.judged.number), (corrected_front changed taken at.os, at.text, refl)), refl)
 
   short : (x : Status) (next : Option (List ℕ)) (g' : ℕ) (notes' : Noted) → EndedCorrecting (of q changed) x (outside left f old g) (outside left' f' next g') notes notes' → (x ≡ ReadFault → Rose f f')
       → (x ≡ WriteFault → Rose g g' ⊎ Rose notes.faults notes'.faults) → x ≢ TooLong → length taken ≤ 268435456 → g ≤ g' → notes.faults ≤ notes'.faults
@@ -330,7 +336,7 @@ module _ (q : Question) (changed : Bool) (asked : IsAskedOf GameItems q) (old no
         Appends-trans old now next front (take n text) at.text added,
         (drop n text, front_next q changed taken given written s at.os o game text at.judged found text_is ∙ ap (λ x. front ++ x) (sym (take-append-drop n text)) ∙ sym (append_assoc front (take n text) (drop n text))),
       ) in
-      short WriteFault next g' notes (taken, consumed, (at.os ++ o ∷ [], inl (more, out, refl))) (λ h. cc) (λ _. inl rose) (λ h. cc) few later (omega arith)
+      short WriteFault next g' notes (taken, consumed, (at.os ++ o ∷ [], inl (more, took_later settled_games taken given (length (at.os ++ o ∷ []) - 1) (omega (arith, j.number)) took, out, refl))) (λ h. cc) (λ _. inl rose) (λ h. cc) few later (omega arith)
 
   -- all games were judged, and the rest and the summary were written or not
   pub all_judged : (status : Status) (next : Option (List ℕ)) (g0 g' : ℕ) (notes' : Noted) → g ≤ g0 → length taken ≤ 268435456 → length (placed_games taken) ≤ given → IsAtEnd left'
@@ -381,4 +387,4 @@ module _ (q : Question) (changed : Bool) (asked : IsAskedOf GameItems q) (old no
       raised (inr rose) = inr rose
 
       refused : next ≡ now → notes'.taken ≡ notes.taken → run NoMemory
-      refused same quiet = short NoMemory next g' notes' (taken, consumed, (at.os, first_of next g' (inr end), omega arith, (front, subst (λ x. Appends old x front) (sym same) at.text, refl)), quiet) (λ h. cc) (λ h. cc) (λ h. cc) few later w.notes_later
+      refused same quiet = short NoMemory next g' notes' (taken, consumed, (at.os, first_of next g' (inr end), took_now, omega arith, (front, subst (λ x. Appends old x front) (sym same) at.text, refl)), quiet) (λ h. cc) (λ h. cc) (λ h. cc) few later w.notes_later

@@ -14,12 +14,15 @@ use Rattle.item_batches.specs.Items.{most_bytes}
 use Rattle.adjudicate.specs.Corrections.{Correction, correction, Noted}
 use Rattle.adjudicate.specs.Orders.{IsCorrecting, IsRunBy, IsRun}
 use Rattle.adjudicate.proofs.Fronts.{front_of_none}
-use Rattle.adjudicate.proofs.RunEndings.{not_begun_by}
+use Rattle.item_batches.specs.Items.{TookAsNeeded}
+use Rattle.item_batches.specs.Readers.{GameItems, KeptItems, LineItems, ReplayItems}
+use Rattle.item_batches.proofs.Settling.{took_nothing}
+use Rattle.adjudicate.proofs.RunEndings.{took_all, not_begun_by}
 
 -- where memory is refused before anything is read
-pub nothing_corrected : (c : Correction) (left a : Option (List ℕ)) (f g : ℕ) (notes : Noted) → IsCorrecting c NoMemory (outside left f a g) (outside left f a g) notes notes
-nothing_corrected c left a f g notes = record {
-  ended = ([], Consumes-nil left, ([], (c.judging.items [], refl, tt, inl (omega arith)), omega arith, ([], Appends-nil a, sym (front_of_none c.changed []))), refl);
+pub nothing_corrected : (c : Correction) → TookAsNeeded c.judging.settled [] 0 → (left a : Option (List ℕ)) (f g : ℕ) (notes : Noted) → IsCorrecting c NoMemory (outside left f a g) (outside left f a g) notes notes
+nothing_corrected c took left a f g notes = record {
+  ended = ([], Consumes-nil left, ([], (c.judging.items [], refl, tt, inl (omega arith)), took, omega arith, ([], Appends-nil a, sym (front_of_none c.changed []))), refl);
   read_fault = λ e. cc;
   write_fault = λ e. cc;
   too_long = λ e. cc;
@@ -30,12 +33,14 @@ nothing_corrected c left a f g notes = record {
   notes_later = omega arith;
 }
 
-not_begun_if : (c : Option Correction) (order : Order) (left a : Option (List ℕ)) (f g : ℕ) (notes : Noted) → IsRunBy c order NoMemory (outside left f a g) (outside left f a g) notes notes
-not_begun_if None order left a f g notes = (not_begun_by (job order) left a f g, refl)
-not_begun_if (Some c) order left a f g notes = nothing_corrected c left a f g notes
-
 pub not_begun : (order : Order) (left a : Option (List ℕ)) (f g : ℕ) (notes : Noted) → IsRun order NoMemory (outside left f a g) (outside left f a g) notes notes
-not_begun order left a f g notes = not_begun_if (correction order) order left a f g notes
+not_begun (AdjudicateGames limits flagged printing) left a f g notes = (not_begun_by (job (AdjudicateGames limits flagged printing)) (took_nothing GameItems) left a f g, refl)
+not_begun (CorrectGames limits flagged changed) left a f g notes = nothing_corrected _ (took_nothing KeptItems) left a f g notes
+not_begun (JudgePositions limits printing) left a f g notes = (not_begun_by (job (JudgePositions limits printing)) (took_nothing LineItems) left a f g, refl)
+not_begun CheckCert left a f g notes = (not_begun_by None (took_all (λ _. 0) (λ _. refl) []) left a f g, refl)
+not_begun (GenGames limits seed count) left a f g notes = (not_begun_by (job (GenGames limits seed count)) (took_all (λ _. 0) (λ _. refl) []) left a f g, refl)
+not_begun (ListMates side workers depth printing) left a f g notes = (not_begun_by (job (ListMates side workers depth printing)) (took_nothing LineItems) left a f g, refl)
+not_begun (ReplayGames printing) left a f g notes = (not_begun_by (job (ReplayGames printing)) (took_nothing ReplayItems) left a f g, refl)
 
 -- an order that needs no search reports
 pub plain_run : (order : Order) (s : Status) (before now : Outside) (notes notes' : Noted) → limits_in order ≡ None → IsRunOf (demand order) s before now → notes' ≡ notes → IsRun order s before now notes notes'

@@ -1,5 +1,5 @@
 -- The one loop over items: what was judged and written so far, and how a run ends.
-use Rattle.std.proofs.Common.{◌≡◌, ◌≢◌, ◌↔◌, ◌⊎◌, inl, inr, ℕ, zero, suc, ◌+◌, ◌^◌, ◌<◌, ◌≤◌, Bool, true, false, List, [], ◌∷◌, ◌++◌, length, take, drop, Option, Some, slice_get, refl, sym, ap, ◌∙◌, arith, subst, take-append-drop, append_assoc}
+use Rattle.std.proofs.Common.{◌≡◌, ◌≢◌, ◌↔◌, ◌⊎◌, inl, inr, ℕ, zero, suc, ◌+◌, ◌-◌, ◌^◌, ◌<◌, ◌≤◌, Bool, true, false, List, [], ◌∷◌, ◌++◌, length, take, drop, Option, Some, slice_get, refl, sym, ap, ◌∙◌, arith, subst, take-append-drop, append_assoc}
 use Rattle.std.specs.Io.KnownBytes.{Appends, Consumes, IsAtEnd}
 use Rattle.std.proofs.lemmas.List.{length-map, drop_all}
 use Rattle.std.proofs.Math.Seq.{take-append_seam}
@@ -26,6 +26,8 @@ use Rattle.adjudicate.specs.Runs.{Grew, outside, IsRunOf}
 use Rattle.item_batches.specs.Readers.{ItemKind, items_by, settled_by, closed_by, IsAskedOf}
 use Rattle.adjudicate.specs.Steps.{job_on}
 use Rattle.adjudicate.proofs.RunEndings.{short_run, long_run}
+use Rattle.item_batches.specs.Items.{TookAsNeeded}
+use Rattle.item_batches.proofs.Batching.{took_later}
 use Rattle.item_batches.proofs.Items.{not_more}
 use Rattle.item_batches.proofs.Settling.{settled_more}
 use Rattle.adjudicate.proofs.Progress.{WroteUpTo, nothing_written, one_more, cut_block, whole_blocks, finished, cut_summary, room}
@@ -86,6 +88,9 @@ same_settled k k' x n e h = subst (λ b. settled_by b x ≤ n) e h
 pub same_before : (k k' : ItemKind) (x : List ℕ) (n : ℕ) → k' ≡ k → n < settled_by k' x → n < settled_by k x
 same_before k k' x n e h = subst (λ b. n < settled_by b x) e h
 
+pub same_took : (k k' : ItemKind) (x : List ℕ) (n : ℕ) → k' ≡ k → TookAsNeeded (settled_by k') x n → TookAsNeeded (settled_by k) x n
+same_took k k' x n e h = subst (λ b. TookAsNeeded (settled_by b) x n) e h
+
 pub same_count : (k k' : ItemKind) (x : List ℕ) (n : ℕ) → k' ≡ k → length (items_by k' x) ≤ n → length (items_by k x) ≤ n
 same_count k k' x n e h = subst (λ b. length (items_by b x) ≤ n) e h
 
@@ -126,15 +131,26 @@ of_job k question form = demand_by (Some (job_on k question form))
 
 -- How a run ends, where so many items were judged: what was taken is no more than an input may have, but where it was too long.
 module _ (k : ItemKind) (question : Question) (form : Form) (old now : Option (List ℕ)) (g g' : ℕ) (taken : List ℕ) (given : ℕ) (s : Totals) (at : IsAt (job_on k question form) old now taken given s)
-    (left left' : Option (List ℕ)) (f f' : ℕ) (consumed : Consumes left left' taken) (source_later : f ≤ f') where
+    (took : TookAsNeeded (settled_by k) taken given) (left left' : Option (List ℕ)) (f f' : ℕ) (consumed : Consumes left left' taken) (source_later : f ≤ f') where
   -- so many items may have a block: they are settled, or nothing is left
   abbrev pub MayHave : ℕ → Type 0
   MayHave count = (count ≤ settled_by k taken) ⊎ IsAtEnd left'
 
+  -- and nothing was read that was not needed for one more
+  abbrev Allowed : ℕ → ℕ → Type 0
+  Allowed least count = (least ≤ count) × MayHave count × TookAsNeeded (settled_by k) taken count
+
   -- so far whole blocks were written
-  whole : (least : ℕ) → least ≤ given → MayHave given → Grew old now (HasBlocks (job_on k question form) (λ count. (least ≤ count) × MayHave count) taken)
+  whole : (least : ℕ) → least ≤ given → MayHave given → Grew old now (HasBlocks (job_on k question form) (Allowed least) taken)
   whole least due may =
-      whole_blocks (job_on k question form) taken (drop given (items_by k taken)) old now s (λ count. (least ≤ count) × MayHave count) at.written (omega (arith, at.number, due), subst MayHave (sym at.number) may)
+      whole_blocks (job_on k question form) taken (drop given (items_by k taken)) old now s (Allowed least) at.written (omega (arith, at.number, due), subst MayHave (sym at.number) may, subst (TookAsNeeded (settled_by k) taken) (sym at.number) took)
+
+  -- a block that was cut is not one for which more was read
+  abbrev AllowsCut : ℕ → Type 0
+  AllowsCut count = MayHave count × TookAsNeeded (settled_by k) taken (count - 1)
+
+  for_cut : MayHave (given + 1) → AllowsCut (given + 1)
+  for_cut may = (may, took_later (settled_by k) taken given (given + 1 - 1) (omega arith) took)
 
   none_left : length (items_by k taken) ≤ given → WroteUpTo (job_on k question form) (items_by k taken) [] old now s
   none_left few = subst (λ x. WroteUpTo (job_on k question form) (items_by k taken) x old now s) (drop_all given (items_by k taken) few) at.written
@@ -162,7 +178,7 @@ module _ (k : ItemKind) (question : Question) (form : Form) (old now : Option (L
       → slice_get (items_by k taken) given ≡ Some item → Answers question item o → text ≡ block form.style (s.items + 1) o → text ≢ [] → Appends now next (take n text)
       → MayHave (given + 1) → IsRunOf (of_job k question form) WriteFault (outside left f old g) (outside left' f' next g')
   cut_item next item o text n later rose few found answers text_is some added may =
-      let cut = cut_block (job_on k question form) taken (drop given (items_by k taken)) (drop (given + 1) (items_by k taken)) item o old now next s text n at.written (next_is (items_by k taken) given item found) answers text_is some added MayHave (subst (λ n. MayHave (n + 1)) (sym at.number) may) in
+      let cut = cut_block (job_on k question form) taken (drop given (items_by k taken)) (drop (given + 1) (items_by k taken)) item o old now next s text n at.written (next_is (items_by k taken) given item found) answers text_is some added AllowsCut (subst (λ n. AllowsCut (n + 1)) (sym at.number) (for_cut may)) in
       short_run (of_job k question form) (outside left f old g) (outside left' f' next g') refl source_later later WriteFault
       (taken, consumed, (cut.0, cut.1, inl cut.2))
       (λ h. cc) (λ _. rose) (λ h. cc) (taken, consumed, few)
@@ -189,7 +205,7 @@ module _ (k : ItemKind) (question : Question) (form : Form) (old now : Option (L
             subst (λ x. IsRunOf (of_job k question form) x (outside left f old g) (outside left' f' next g')) (sym is) run)
         | inr (inr is) ↦ (
             let run : IsRunOf (of_job k question form) NoMemory (outside left f old g) (outside left' f' next g') =
-            short_run (of_job k question form) (outside left f old g) (outside left' f' next g') refl source_later later NoMemory (taken, consumed, subst (λ w. Grew old w (HasBlocks (job_on k question form) (λ count. (0 ≤ count) × MayHave count) taken)) (sym (refused is)) (whole 0 (omega arith) (inr end)))
+            short_run (of_job k question form) (outside left f old g) (outside left' f' next g') refl source_later later NoMemory (taken, consumed, subst (λ w. Grew old w (HasBlocks (job_on k question form) (Allowed 0) taken)) (sym (refused is)) (whole 0 (omega arith) (inr end)))
             (λ h. cc) (λ h. cc) (λ h. cc) (taken, consumed, few) in
             subst (λ x. IsRunOf (of_job k question form) x (outside left f old g) (outside left' f' next g')) (sym is) run)
       ]

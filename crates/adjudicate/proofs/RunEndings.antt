@@ -1,5 +1,5 @@
 -- How runs end.
-use Rattle.std.proofs.Common.{◌≡◌, ◌≢◌, ℕ, ◌+◌, ◌<◌, ◌≤◌, Bool, true, false, List, [], ◌∷◌, ◌++◌, length, Option, Some, None, Result, Err, refl, sym, ap, ◌∙◌, subst, arith, append-nil, inl, inr}
+use Rattle.std.proofs.Common.{◌≡◌, ◌≢◌, ℕ, ◌+◌, ◌-◌, ◌<◌, ◌≤◌, Bool, true, false, List, [], ◌∷◌, ◌++◌, length, Option, Some, None, Result, Err, refl, sym, ap, ◌∙◌, subst, arith, append-nil, inl, inr}
 use Rattle.std.specs.Io.KnownBytes.{Appends, Consumes, IsAtEnd}
 use Rattle.cha_outside.specs.Faults.{Rose}
 use Rattle.cha_outside.specs.Gathering.{Took}
@@ -24,7 +24,7 @@ use Rattle.adjudicate.specs.declared.endings.Status.TheVariants.{Done, Usage, Re
 use Rattle.adjudicate.specs.Statuses.{status_of_end}
 use Rattle.adjudicate.specs.CertFindings.{IsTextOf, IsUnwinnableAtFirst}
 use Rattle.adjudicate.specs.Jobs.{Job, on_games, on_made}
-use Rattle.item_batches.specs.Items.{game_items}
+use Rattle.item_batches.specs.Items.{game_items, TookAsNeeded}
 use Rattle.adjudicate.specs.Report.{Demand, demand, demand_by, HasBlocks, HasReport, HasCutBlock}
 use Rattle.adjudicate.specs.Runs.{Outside, outside, Ended, AreWhole, BeginsWhole, Takes, HasReadAll, IsRunOf}
 use Rattle.adjudicate.specs.Steps.{IsWritten, made_status}
@@ -119,6 +119,10 @@ has_read : (reads : Bool) (left a : Option (List ℕ)) (f g : ℕ) → IsAtEnd l
 has_read true left a f g end = end
 has_read false left a f g end = tt
 
+-- where no item is ever settled, any bytes may be taken
+pub took_all : (settled : List ℕ → ℕ) → ((bytes : List ℕ) → settled bytes ≡ 0) → (bytes : List ℕ) → TookAsNeeded settled bytes 0
+took_all settled none bytes = ([], (bytes, sym (append-nil bytes), omega arith, omega (arith, none bytes)))
+
 -- a source that could not be read to its end at once
 module _ {X : Type 0} (j : Option Job) (reads : (demand_by j).reads ≡ true) (none_settled : (bytes : List ℕ) → (demand_by j).settled bytes ≡ 0) (r : Result X ReadEnd) (left left' a : Option (List ℕ)) (f f' g : ℕ)
     (later : f ≤ f')
@@ -128,7 +132,7 @@ module _ {X : Type 0} (j : Option Job) (reads : (demand_by j).reads ≡ true) (n
     (cause : r ≡ Err ends.ReadFault → Rose f f')
     (within : (bytes : List ℕ) → left ≡ Some bytes → length bytes ≤ 268435456 → r ≢ Err ends.TooLong) where
   begun : (P : List ℕ → Type 0) (least : List ℕ → ℕ) → ((bytes : List ℕ) → least bytes ≡ 0) → Took left left' P → BeginsWhole (demand_by j) least (outside left f a g) (outside left' f' a g)
-  begun P least none took = (took.0, takes (demand_by j).reads left left' a a f f' g g took.0 reads took.1, ([], Appends-nil a, nothing_yet j took.0 _ (omega (arith, none took.0), inl (omega arith))))
+  begun P least none took = (took.0, takes (demand_by j).reads left left' a a f f' g g took.0 reads took.1, ([], Appends-nil a, nothing_yet j took.0 _ (omega (arith, none took.0), inl (omega arith), took_all (demand_by j).settled none_settled took.0)))
 
   unread_by : (end : ReadEnd) → r ≡ Err end → IsRunOf (demand_by j) (status_of_end end) (outside left f a g) (outside left' f' a g)
   unread_by ends.ReadFault e =
@@ -142,7 +146,7 @@ module _ {X : Type 0} (j : Option Job) (reads : (demand_by j).reads ≡ true) (n
   unread end s e is = subst (λ status. IsRunOf (demand_by j) status (outside left f a g) (outside left' f' a g)) (sym is) (unread_by end e)
 
 -- a whole input was read, and then the answer on it was written or not
-module _ (j : Option Job) (reads : (demand_by j).reads ≡ true) (bytes : List ℕ) (left left' a a' : Option (List ℕ)) (f f' g g' : ℕ) (consumed : Consumes left left' bytes) (end : IsAtEnd left') where
+module _ (j : Option Job) (reads : (demand_by j).reads ≡ true) (none_settled : (bytes : List ℕ) → (demand_by j).settled bytes ≡ 0) (bytes : List ℕ) (left left' a a' : Option (List ℕ)) (f f' g g' : ℕ) (consumed : Consumes left left' bytes) (end : IsAtEnd left') where
   abbrev d : Demand
   d = demand_by j
 
@@ -157,7 +161,7 @@ module _ (j : Option Job) (reads : (demand_by j).reads ≡ true) (bytes : List �
   ended_by_writing NotAccepted w = (bytes, taken, all_read, (w.not_accepted refl).0, (w.not_accepted refl).1)
   ended_by_writing WriteFault w = let cut = (w.cut refl).1 in (bytes, taken, (cut.0, cut.1, inr (all_read, cut.2)))
   ended_by_writing NoMemory w =
-      (bytes, taken, ([], subst (λ x. Appends a x []) (sym (w.no_memory refl)) (Appends-nil a), nothing_yet j bytes _ (omega arith, inl (omega arith))))
+      (bytes, taken, ([], subst (λ x. Appends a x []) (sym (w.no_memory refl)) (Appends-nil a), nothing_yet j bytes _ (omega arith, inl (omega arith), took_all d.settled none_settled bytes)))
   ended_by_writing Usage w = absurd (w.no_other.0 refl)
   ended_by_writing ReadFault w = absurd (w.no_other.1 refl)
   ended_by_writing TooLong w = absurd (w.no_other.2 refl)
@@ -172,9 +176,9 @@ pub rose_in : (f f' f'' : ℕ) → f ≤ f' → Rose f' f'' → Rose f f''
 rose_in f f' f'' le rose = omega arith
 
 -- where memory is refused before anything is read
-pub not_begun_by : (j : Option Job) (left a : Option (List ℕ)) (f g : ℕ) → IsRunOf (demand_by j) NoMemory (outside left f a g) (outside left f a g)
-not_begun_by j left a f g =
-    quiet_run (demand_by j) NoMemory left a a f g g (λ e. cc) (λ e. cc) (λ e. cc) (omega arith) ([], nothing_taken (demand_by j).reads, ([], Appends-nil a, nothing_yet j [] _ (omega arith, inl (omega arith))))
+pub not_begun_by : (j : Option Job) → TookAsNeeded (demand_by j).settled [] 0 → (left a : Option (List ℕ)) (f g : ℕ) → IsRunOf (demand_by j) NoMemory (outside left f a g) (outside left f a g)
+not_begun_by j took left a f g =
+    quiet_run (demand_by j) NoMemory left a a f g g (λ e. cc) (λ e. cc) (λ e. cc) (omega arith) ([], nothing_taken (demand_by j).reads, ([], Appends-nil a, nothing_yet j [] _ (omega arith, inl (omega arith), took)))
   where
     nothing_taken : (reads : Bool) → Takes reads (outside left f a g) (outside left f a g) []
     nothing_taken true = Consumes-nil left
@@ -201,14 +205,14 @@ module _ (question : Question) (seed count : ℕ) (left a a' : Option (List ℕ)
 
   -- any number of games that are made may have a block
   abbrev Allowed : ℕ → Type 0
-  Allowed many = (0 ≤ many) × AreWhole false (outside left f a' g') 0 many
+  Allowed many = (0 ≤ many) × AreWhole false (outside left f a' g') 0 many × TookAsNeeded (λ _. 0) [] many
 
-  nothing_out : (bytes out : List ℕ) (least : ℕ) → HasBlocks (on_games question SummaryAlone) (λ many. (least ≤ many) × AreWhole true (outside (Some rest) f' a' g') (settled_games bytes) many) bytes out
+  nothing_out : (bytes out : List ℕ) (least : ℕ) → HasBlocks (on_games question SummaryAlone) (λ many. (least ≤ many) × AreWhole true (outside (Some rest) f' a' g') (settled_games bytes) many × TookAsNeeded settled_games bytes many) bytes out
       → HasBlocks (on_made question seed count) Allowed [] out
   unfolding blocks
-  nothing_out bytes out least h = ([], game_items (made seed count), refl, tt, h.4 ∙ no_blocks 1 h.0, (omega arith, inr tt))
+  nothing_out bytes out least h = ([], game_items (made seed count), refl, tt, h.4 ∙ no_blocks 1 h.0, (omega arith, inr tt, took_all (λ _. 0) (λ _. refl) []))
 
-  no_cut : (bytes out : List ℕ) → HasCutBlock (on_games question SummaryAlone) (AreWhole true (outside (Some rest) f' a' g') (settled_games bytes)) bytes out → ⊥
+  no_cut : (bytes out : List ℕ) → HasCutBlock (on_games question SummaryAlone) (λ many. AreWhole true (outside (Some rest) f' a' g') (settled_games bytes) many × TookAsNeeded settled_games bytes (many - 1)) bytes out → ⊥
   unfolding block
   no_cut bytes out h = h.9 refl
 

@@ -1,5 +1,5 @@
 -- What is written where the results of games are corrected (this project).
-use Rattle.std.specs.Prelude.{◌≡◌, ℕ, ◌≤◌, Bool, true, false, List, [], ◌∷◌, ◌++◌, length, map, Option, Some, None, ◌⊎◌}
+use Rattle.std.specs.Prelude.{◌≡◌, ℕ, ◌-◌, ◌≤◌, Bool, true, false, List, [], ◌∷◌, ◌++◌, length, map, Option, Some, None, ◌⊎◌}
 use Rattle.std.specs.Io.KnownBytes.{Appends, Consumes, IsAtEnd}
 use Rattle.pgn_games.specs.declared.marks.ResultMark.{ResultMark}
 use Rattle.pgn_games.specs.declared.played.PlacedGame.{PlacedGame}
@@ -19,6 +19,7 @@ use Rattle.adjudicate.specs.declared.endings.Status.{Status}
 use Rattle.adjudicate.specs.declared.endings.Status.TheVariants.{Done, Usage, ReadFault, WriteFault, TooLong, NoMemory, NotAccepted}
 use Rattle.adjudicate.specs.Jobs.{Job, on_kept_games, draws_by, last}
 use Rattle.adjudicate.specs.Report.{IsFront}
+use Rattle.item_batches.specs.Items.{TookAsNeeded}
 use Rattle.adjudicate.specs.Runs.{Outside, Grew, AreWhole}
 use Rattle.cha_outcome.specs.declared.questions.Question.TheVariants as questions
 
@@ -84,19 +85,21 @@ Corrects c before now notes notes' =
     × ((os : List Outcome) × HasAll c.judging bytes os × Grew before.written now.written (λ out. out ≡ corrected_text c.changed bytes os)
     × Appends notes.taken notes'.taken (last c.judging bytes os))
 
--- The output was cut: in what is written of a game, and then nothing was noted; or in all of it or the summary, once all was read.
+-- The output was cut: in what is written of a game, and then nothing was noted, nor read that was not needed for it; or in all of it or the
+-- summary, once all was read.
 abbrev pub IsCutOff : Correction → Outside → Outside → Noted → Noted → Type 0
 IsCutOff c before now notes notes' =
     (bytes : List ℕ) × Consumes before.left now.left bytes × ((os : List Outcome) × (
-    (HasFirst c.judging now bytes os × Grew before.written now.written (λ out. IsFront out (corrected_front c.changed bytes os)) × (notes'.taken ≡ notes.taken))
+    (HasFirst c.judging now bytes os × TookAsNeeded c.judging.settled bytes (length os - 1) × Grew before.written now.written (λ out. IsFront out (corrected_front c.changed bytes os)) × (notes'.taken ≡ notes.taken))
     ⊎ (IsAtEnd now.left × HasAll c.judging bytes os × Grew before.written now.written (λ out. IsFront out (corrected_text c.changed bytes os)) × Grew notes.taken notes'.taken (λ out. IsFront out (last c.judging bytes os)))
     ))
 
--- some bytes were taken, and so many of their games at least were written, with all up to the end of the last; nothing was noted
+-- some bytes were taken, and so many of their games at least were written, with all up to the end of the last; nothing was noted, nor read
+-- that was not needed for one more
 abbrev pub WritesWhole : Correction → (List ℕ → ℕ) → Outside → Outside → Noted → Noted → Type 0
 WritesWhole c least before now notes notes' =
     (bytes : List ℕ) × Consumes before.left now.left bytes
-    × ((os : List Outcome) × HasFirst c.judging now bytes os × (least bytes ≤ length os) × Grew before.written now.written (λ out. out ≡ corrected_front c.changed bytes os))
+    × ((os : List Outcome) × HasFirst c.judging now bytes os × TookAsNeeded c.judging.settled bytes (length os) × (least bytes ≤ length os) × Grew before.written now.written (λ out. out ≡ corrected_front c.changed bytes os))
     × (notes'.taken ≡ notes.taken)
 
 -- what was read, written and noted by the status of the run; where the source failed, no game that is settled is left out

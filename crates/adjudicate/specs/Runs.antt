@@ -1,10 +1,10 @@
 -- What is true of a whole run.
-use Rattle.std.specs.Prelude.{◌≡◌, ◌≢◌, ℕ, ◌+◌, ◌<◌, ◌≤◌, Bool, true, false, List, length, Some, ◌⊎◌, ⊤, []}
+use Rattle.std.specs.Prelude.{◌≡◌, ◌≢◌, ℕ, ◌+◌, ◌-◌, ◌<◌, ◌≤◌, Bool, true, false, List, length, Some, ◌⊎◌, ⊤, []}
 use Rattle.std.specs.declared.option.Option.{Option}
 use Rattle.std.specs.Io.KnownBytes.{Appends, Consumes, IsAtEnd}
 use Rattle.cha_outside.specs.Faults.{Rose}
 use Rattle.cha_outside.specs.Gathering.{Took}
-use Rattle.item_batches.specs.Items.{most_bytes}
+use Rattle.item_batches.specs.Items.{most_bytes, TookAsNeeded}
 use Rattle.adjudicate.specs.declared.endings.Status.{Status}
 use Rattle.adjudicate.specs.declared.endings.Status.TheVariants.{Done, Usage, ReadFault, WriteFault, TooLong, NoMemory, NotAccepted}
 use Rattle.adjudicate.specs.Report.{Demand, IsFront}
@@ -51,21 +51,23 @@ Refuses d before now =
 abbrev pub AreWhole : Bool → Outside → ℕ → ℕ → Type 0
 AreWhole reads now settled count = (count ≤ settled) ⊎ HasReadAll reads now
 
--- some bytes were taken, and their report was begun: it was cut in a block, or somewhere once all was read
+-- some bytes were taken, and their report was begun: it was cut in a block, and nothing was read that was not needed for it, or somewhere once
+-- all was read
 abbrev pub Begins : Demand → Outside → Outside → Type 0
 Begins d before now =
     (bytes : List ℕ) × Takes d.reads before now bytes
-    × Grew before.written now.written (λ out. d.cut (AreWhole d.reads now (d.settled bytes)) bytes out ⊎ (HasReadAll d.reads now × ((whole : List ℕ) × d.report bytes whole × IsFront out whole)))
+    × Grew before.written now.written (λ out. d.cut (λ count. AreWhole d.reads now (d.settled bytes) count × TookAsNeeded d.settled bytes (count - 1)) bytes out
+    ⊎ (HasReadAll d.reads now × ((whole : List ℕ) × d.report bytes whole × IsFront out whole)))
 
--- some bytes were taken, and whole blocks alone were written, so many at least
+-- some bytes were taken, and whole blocks alone were written, so many at least; nothing was read that was not needed for one more
 abbrev pub BeginsWhole : Demand → (List ℕ → ℕ) → Outside → Outside → Type 0
 BeginsWhole d least before now =
     (bytes : List ℕ) × Takes d.reads before now bytes
-    × Grew before.written now.written (d.blocks (λ count. (least bytes ≤ count) × AreWhole d.reads now (d.settled bytes) count) bytes)
+    × Grew before.written now.written (d.blocks (λ count. (least bytes ≤ count) × AreWhole d.reads now (d.settled bytes) count × TookAsNeeded d.settled bytes count) bytes)
 
 -- What was read and written for an order, by the status of the run: its whole report on Done and NotAccepted, a front of it where
 -- the sink failed, and whole blocks of it where anything else failed. No game that was cut off has a block, and where the source failed,
--- no game that is settled is left out.
+-- no game that is settled is left out. Wherever a run ends, each item that is settled in what was taken before the last piece has its block.
 -- Words that order something never end in Usage.
 abbrev pub Ended : Demand → Status → Outside → Outside → Type 0
 Ended d Done before now = Reports d before now

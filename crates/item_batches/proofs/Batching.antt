@@ -9,6 +9,7 @@ use Rattle.side_by_side.specs.declared.progress.Progress.TheVariants.{Cut as Onl
 use Rattle.side_by_side.specs.Cuts.{item_of_cut}
 use Rattle.side_by_side.specs.Progresses.{IsOf, AreAsked, AllGoOn}
 use Rattle.item_batches.specs.declared.readers.ItemReader.{ItemReader}
+use Rattle.item_batches.specs.Items.{TookAsNeeded}
 use Rattle.item_batches.specs.Readers.{ItemKind, kind_of, taken_by, given_by, has_ended, items_by, settled_by, CanGoOn, IsAskedOf}
 use Rattle.side_by_side.specs.declared.parts.Part.{Part}
 use Rattle.side_by_side.specs.Parts.{items_of, items_of_all}
@@ -102,6 +103,7 @@ first_queue reader question goes_on asked none = record {
   goes_on = λ _. goes_on;
   most = λ _. omega (arith, none);
   settled = λ _ _. omega (arith, none);
+  waits = λ some. absurd (omega (arith, some));
 }
 
 -- where a call failed nothing is queued
@@ -113,7 +115,12 @@ no_queue reader question asked = record {
   goes_on = λ e. cc;
   most = λ e. cc;
   settled = λ e. cc;
+  waits = λ some. absurd (omega (arith, some));
 }
+
+-- no fewer items are given later
+pub took_later : (settled : List ℕ → ℕ) (taken : List ℕ) (given given' : ℕ) → given ≤ given' → TookAsNeeded settled taken given → TookAsNeeded settled taken given'
+took_later settled taken given given' more took = (took.0, (took.1.0, took.1.1, took.1.2, omega (arith, took.1.3, more)))
 
 -- the first of what is queued goes
 pub popped : (reader : ItemReader) (question : Question) (p : Progress) (queue : List Progress) (failed : Bool) → IsQueued reader question (p ∷ queue) failed → IsQueued reader question queue failed
@@ -127,6 +134,7 @@ popped reader question p queue failed h =
       goes_on = h.goes_on;
       most = h.most;
       settled = h.settled;
+      waits = λ some. took_later (settled_by (kind_of reader)) (taken_by reader) (given_by reader - suc (length queue)) (given_by reader - length queue) (omega (arith, next)) (h.waits (omega arith));
     }
 
 -- its work
@@ -168,6 +176,7 @@ none_left reader reader' question old queue failed h none kind given goes_on end
   goes_on = λ _. goes_on;
   most = λ f. (let was = h.most f in omega (arith, given, was));
   settled = λ f more_comes. (let e = sym ended ∙ more_comes in cc);
+  waits = λ some. absurd (omega (arith, some));
 })
 
 -- where the reader failed
@@ -176,8 +185,8 @@ failed_queue reader reader' question old queue failed h none kind = subst (λ q.
 
 -- work on the items of these bytes that were given last
 queued : (reader : ItemReader) (question : Question) (k : ItemKind) (t : List ℕ) (first : ℕ) (queue : List Progress) → kind_of reader ≡ k → taken_by reader ≡ t → given_by reader ≡ first + length queue → IsAskedOf k question → CanGoOn reader → given_by reader ≤ 2 ^ 62
-    → (has_ended reader ≡ false → given_by reader ≤ settled_by k t) → AreWorkFrom question (items_by k t) first queue → IsQueued reader question queue false
-queued reader question k t first queue kind taken given asked goes_on most settled work =
+    → (has_ended reader ≡ false → given_by reader ≤ settled_by k t) → TookAsNeeded (settled_by k) t first → AreWorkFrom question (items_by k t) first queue → IsQueued reader question queue false
+queued reader question k t first queue kind taken given asked goes_on most settled took work =
     let start : first ≡ given_by reader - length queue = omega (arith, given) in
     record {
       asked = subst (λ x. IsAskedOf x question) (sym kind) asked;
@@ -187,29 +196,40 @@ queued reader question k t first queue kind taken given asked goes_on most settl
       goes_on = λ _. goes_on;
       most = λ _. most;
       settled = λ _ more_comes. subst (λ x. given_by reader ≤ settled_by x (taken_by reader)) (sym kind) (subst (λ x. given_by reader ≤ settled_by k x) (sym taken) (settled more_comes));
+      waits = λ _. subst (λ x. TookAsNeeded (settled_by x) (taken_by reader) (given_by reader - length queue)) (sym kind)
+          (subst (λ x. TookAsNeeded (settled_by k) x (given_by reader - length queue)) (sym taken) (subst (λ n. TookAsNeeded (settled_by k) t n) start took));
     }
 
 -- an item that has come
 pub come : (reader reader' : ItemReader) (question : Question) (cut : Cut) → IsAskedOf (kind_of reader) question → kind_of reader' ≡ kind_of reader → CanGoOn reader' → given_by reader' ≡ given_by reader + 1 → given_by reader < 2 ^ 62
-    → (has_ended reader' ≡ false → given_by reader < settled_by (kind_of reader) (taken_by reader')) → IsCutAt (kind_of reader) (taken_by reader') (given_by reader) cut → IsQueued reader' question (OnlyCut cut ∷ []) false
-come reader reader' question cut asked kind goes_on given few settled at =
+    → (has_ended reader' ≡ false → given_by reader < settled_by (kind_of reader) (taken_by reader')) → TookAsNeeded (settled_by (kind_of reader)) (taken_by reader') (given_by reader) → IsCutAt (kind_of reader) (taken_by reader') (given_by reader) cut
+    → IsQueued reader' question (OnlyCut cut ∷ []) false
+come reader reader' question cut asked kind goes_on given few settled took at =
     let n = given_by reader in
     let items = items_by (kind_of reader) (taken_by reader') in
     let none : n + 0 ≡ n = omega arith in
     let one = subst (λ m. IsWorkAt question items m (OnlyCut cut)) (sym none) (cut_is_work question (kind_of reader) (taken_by reader') n cut asked at) in
-    queued reader' question (kind_of reader) (taken_by reader') n (OnlyCut cut ∷ []) kind refl given asked goes_on (omega (arith, given, few)) (λ more_comes. (let s = settled more_comes in omega (arith, given, s)))
+    queued reader' question (kind_of reader) (taken_by reader') n (OnlyCut cut ∷ []) kind refl given asked goes_on (omega (arith, given, few)) (λ more_comes. (let s = settled more_comes in omega (arith, given, s))) took
     (pushed question items n [] (OnlyCut cut) (no_work question items n) one)
+
+-- the last piece was taken when the first of a queue was needed, or the next item, where none is queued
+first_took : (reader : ItemReader) (question : Question) (queue : List Progress) → IsQueued reader question queue false → TookAsNeeded (settled_by (kind_of reader)) (taken_by reader) (given_by reader)
+    → TookAsNeeded (settled_by (kind_of reader)) (taken_by reader) (given_by reader - length queue)
+first_took reader question [] h took = took_later (settled_by (kind_of reader)) (taken_by reader) (given_by reader) (given_by reader - 0) (omega arith) took
+first_took reader question (p ∷ queue) h took = h.waits (omega arith)
 
 -- one more is cut
 pub one_more : (reader reader' : ItemReader) (question : Question) (queue : List Progress) (cut : Cut) → IsQueued reader question queue false → kind_of reader' ≡ kind_of reader → taken_by reader' ≡ taken_by reader → CanGoOn reader' → given_by reader' ≡ given_by reader + 1 → given_by reader < 2 ^ 62
-    → given_by reader < settled_by (kind_of reader) (taken_by reader) → IsCutAt (kind_of reader) (taken_by reader) (given_by reader) cut → IsQueued reader' question (queue ++ OnlyCut cut ∷ []) false
-one_more reader reader' question queue cut h kind taken goes_on given few settled at =
+    → given_by reader < settled_by (kind_of reader) (taken_by reader) → TookAsNeeded (settled_by (kind_of reader)) (taken_by reader') (given_by reader) → IsCutAt (kind_of reader) (taken_by reader) (given_by reader) cut
+    → IsQueued reader' question (queue ++ OnlyCut cut ∷ []) false
+one_more reader reader' question queue cut h kind taken goes_on given few settled took at =
     let items = items_by (kind_of reader) (taken_by reader) in
     let size : length (queue ++ OnlyCut cut ∷ []) ≡ length queue + 1 = length-append queue (OnlyCut cut ∷ []) in
     let first = given_by reader - length queue in
     let place : given_by reader ≡ first + length queue = omega (arith, h.few) in
     let one = subst (λ n. IsWorkAt question items n (OnlyCut cut)) place (cut_is_work question (kind_of reader) (taken_by reader) (given_by reader) cut h.asked at) in
     queued reader' question (kind_of reader) (taken_by reader) first (queue ++ OnlyCut cut ∷ []) kind taken (omega (arith, size, given, place)) h.asked goes_on (omega (arith, given, few)) (λ _. omega (arith, given, settled))
+    (first_took reader question queue h (subst (λ x. TookAsNeeded (settled_by (kind_of reader)) x (given_by reader)) taken took))
     (pushed question items first queue (OnlyCut cut) h.work one)
 
 -- where a game was written, nothing of what is queued changes
@@ -224,6 +244,8 @@ same_queue reader reader' question queue failed h kind taken given ended goes_on
   most = λ f. (let was = h.most f in omega (arith, was, given));
   settled = λ f more_comes. subst (λ k. given_by reader' ≤ settled_by k (taken_by reader')) (sym kind)
       (subst (λ t. given_by reader' ≤ settled_by (kind_of reader) t) (sym taken) (subst (λ n. n ≤ settled_by (kind_of reader) (taken_by reader)) (sym given) (h.settled f (sym ended ∙ more_comes))));
+  waits = λ some. subst (λ k. TookAsNeeded (settled_by k) (taken_by reader') (given_by reader' - length queue)) (sym kind)
+      (subst (λ t. TookAsNeeded (settled_by (kind_of reader)) t (given_by reader' - length queue)) (sym taken) (subst (λ n. TookAsNeeded (settled_by (kind_of reader)) (taken_by reader) (n - length queue)) (sym given) (h.waits some)));
 }
 
 -- the parts of two lists behind one another
@@ -268,6 +290,7 @@ went_on reader question old new h size step =
       goes_on = h.goes_on;
       most = h.most;
       settled = h.settled;
+      waits = λ some. subst (λ n. TookAsNeeded (settled_by (kind_of reader)) (taken_by reader) (given_by reader - n)) (sym size) (h.waits (omega (arith, some, size)));
     }
 
 -- one more part
@@ -349,3 +372,22 @@ no_item worked cut begun no_work no_part_begun no_cut = ap (λ w. w ++ (items_of
 -- one item alone
 pub one_item : (worked cut : List Progress) (begun : List Part) (p : Progress) → worked ≡ [] → begun ≡ [] → cut ≡ p ∷ [] → worked ++ (items_of_all begun ++ cut) ≡ p ∷ []
 one_item worked cut begun p no_work no_part_begun one = ap (λ w. w ++ (items_of_all begun ++ cut)) no_work ∙ ap (λ b. items_of_all b ++ cut) no_part_begun ∙ one
+
+-- some item is queued where the work on one has ended
+pub some_worked : (p : Progress) (all queue behind : List Progress) → all ≡ option_to_list (Some p) ++ queue → 1 ≤ length (all ++ behind)
+some_worked p all queue behind e = let size : length all ≡ suc (length queue) = ap length e in omega (arith, size, length-append all behind)
+
+-- where something is queued, the last piece was taken when its first item was needed
+pub queue_waits : (reader : ItemReader) (question : Question) (queue : List Progress) (failed : Bool) (taken : List ℕ) → IsQueued reader question queue failed → 1 ≤ length queue → taken ≡ taken_by reader → TookAsNeeded (settled_by (kind_of reader)) taken (given_by reader - length queue)
+queue_waits reader question queue failed taken h some same = subst (λ x. TookAsNeeded (settled_by (kind_of reader)) x (given_by reader - length queue)) (sym same) (h.waits some)
+
+-- where nothing is queued, all that the reader gave was given
+pub given_all : (reader : ItemReader) (queue : List Progress) → queue ≡ [] → given_by reader - length queue ≡ given_by reader
+given_all reader queue none = let all : given_by reader - 0 ≡ given_by reader = omega arith in ap (λ q. given_by reader - length q) none ∙ all
+
+pub next_waits : (k : ItemKind) (taken taken' : List ℕ) (given given' : ℕ) → taken' ≡ taken → given' ≡ given → TookAsNeeded (settled_by k) taken given → TookAsNeeded (settled_by k) taken' given'
+next_waits k taken taken' given given' same all took = subst (λ x. TookAsNeeded (settled_by k) x given') (sym same) (subst (λ n. TookAsNeeded (settled_by k) taken n) (sym all) took)
+
+-- the same of what comes only where an item is at hand
+pub at_hand_too : (settled given given' : ℕ) (P : Type 0) → given' ≡ given → (given < settled → P) → given' < settled → P
+at_hand_too settled given given' P all h few = h (subst (λ n. n < settled) all few)

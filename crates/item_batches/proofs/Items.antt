@@ -1,14 +1,16 @@
 -- The items of games and of lines.
-use Rattle.std.proofs.Common.{◌≡◌, ℕ, zero, suc, ◌+◌, ◌<◌, ◌≤◌, ◌==◌, Bool, true, false, ◌&&◌, if◌then◌else◌, List, [], ◌∷◌, length, map, take, Some, slice_get, sym, ap, ◌∙◌, arith, length-append}
+use Rattle.std.proofs.Common.{◌≡◌, ℕ, zero, suc, ◌+◌, ◌<◌, ◌≤◌, ◌==◌, Bool, true, false, ◌&&◌, if◌then◌else◌, List, [], ◌∷◌, ◌++◌, length, map, take, Some, slice_get, sym, ap, ◌∙◌, arith, length-append}
 use Rattle.std.proofs.lemmas.List.{take-map}
 use Rattle.text_lines.specs.declared.lines.TextLine.{TextLine}
-use Rattle.text_lines.specs.Lines.{lines, onto_first, begins_with_line_feed, counts, line_if, numbered, text_lines}
+use Rattle.text_lines.specs.Lines.{lines, onto_first, begins_with_line_feed, counts, line_if, numbered, text_lines, settled_lines}
 use Rattle.cha_outcome.specs.declared.questions.Question.{Question}
 use Rattle.cha_outcome.specs.declared.questions.Question.TheVariants.{Verdicts, Mates, Plies}
 use Rattle.cha_outcome.specs.Items.{line_item}
 use Rattle.pgn_games.specs.declared.played.PlacedGame.{PlacedGame}
 use Rattle.side_by_side.specs.Cuts.{IsAskedAbout}
 use Rattle.side_by_side.specs.declared.cuts.Cut.TheVariants.{Game, KeptGame, Replay, Line}
+use Rattle.text_lines.specs.Reading.{TookNoMore}
+use Rattle.item_batches.specs.Items.{TookAsNeeded}
 use Rattle.item_batches.specs.Readers.{GameItems, KeptItems, LineItems, ReplayItems, IsAskedOf}
 
 -- games are asked about for verdicts alone
@@ -96,3 +98,7 @@ lines_first n now before same =
 -- what is not more than most is at most that
 pub not_more : (n most : ℕ) → (most < n → ⊥) → n ≤ most
 not_more n most h = omega arith
+
+-- a piece of lines is no larger than one of games
+pub lines_took : (taken : List ℕ) (given : ℕ) → (piece : List ℕ) × TookNoMore taken piece given → TookAsNeeded settled_lines taken given
+lines_took taken given took = (took.0, (took.1.0, took.1.1, omega (arith, took.1.2), took.1.3))

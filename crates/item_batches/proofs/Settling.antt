@@ -7,7 +7,11 @@ use Rattle.cha_list.specs.Bytes.{in_class}
 use Rattle.text_lines.specs.Lines.{line_if, without_return, settled_lines}
 use Rattle.text_lines.specs.Holding.{IsGone}
 use Rattle.text_lines.proofs.Given.{gone_line, none_gone, settled_given, given_settled}
+use Rattle.text_lines.proofs.Kept.{none_waits}
+use Rattle.pgn_games.proofs.KeptTokens.{nothing_more}
 use Rattle.pgn_games.proofs.Settled.{settled_grow}
+use Rattle.item_batches.specs.Items.{TookAsNeeded}
+use Rattle.item_batches.proofs.Items.{lines_took}
 use Rattle.item_batches.specs.Readers.{ItemKind, GameItems, KeptItems, LineItems, ReplayItems, settled_by}
 
 -- a run is no longer than its text
@@ -60,3 +64,10 @@ settled_more GameItems bytes more = settled_grow bytes more
 settled_more KeptItems bytes more = settled_grow bytes more
 settled_more LineItems bytes more = lines_from (length bytes) [] bytes more 1 0 none_gone (omega arith)
 settled_more ReplayItems bytes more = settled_grow bytes more
+
+-- where nothing was taken, no piece was
+pub took_nothing : (k : ItemKind) → TookAsNeeded (settled_by k) [] 0
+took_nothing GameItems = ([], nothing_more [] [] refl refl)
+took_nothing KeptItems = ([], nothing_more [] [] refl refl)
+took_nothing LineItems = lines_took [] 0 (none_waits [] [] refl refl)
+took_nothing ReplayItems = ([], nothing_more [] [] refl refl)

@@ -9,6 +9,7 @@ use Rattle.side_by_side.specs.Progresses.{IsOf}
 use Rattle.side_by_side.specs.Parts.{items_of_all}
 use Rattle.item_batches.specs.declared.queue.Queue.{Queue}
 use Rattle.item_batches.specs.declared.readers.ItemReader.{ItemReader}
+use Rattle.item_batches.specs.Items.{TookAsNeeded}
 use Rattle.item_batches.specs.Readers.{ItemKind, kind_of, taken_by, given_by, has_ended, items_by, settled_by, CanGoOn, IsAskedOf}
 
 -- it was cut from bytes as their item with a number, from 0, and what can be asked of such items can be asked of it
@@ -39,7 +40,8 @@ pub record BatchesState : Type 0 where
   pub ended : Bool
   pub failed : Bool
 
--- What is true of a queue: what is queued is work on the last items that the reader gave. Before the end of the source these are settled.
+-- What is true of a queue: what is queued is work on the last items that the reader gave. Before the end of the source these are settled, and
+-- their last piece was taken when the first of them was needed.
 pub record IsQueued (reader : ItemReader) (question : Question) (queue : List Progress) (failed : Bool) : Type 0 where
   pub asked : IsAskedOf (kind_of reader) question
   pub few : length queue ≤ given_by reader
@@ -47,3 +49,4 @@ pub record IsQueued (reader : ItemReader) (question : Question) (queue : List Pr
   pub goes_on : failed ≡ false → CanGoOn reader
   pub most : failed ≡ false → given_by reader ≤ 2 ^ 62
   pub settled : failed ≡ false → has_ended reader ≡ false → given_by reader ≤ settled_by (kind_of reader) (taken_by reader)
+  pub waits : 1 ≤ length queue → TookAsNeeded (settled_by (kind_of reader)) (taken_by reader) (given_by reader - length queue)

@@ -1,5 +1,5 @@
 -- The items of an input (this project).
-use Rattle.std.specs.Prelude.{ℕ, List, map}
+use Rattle.std.specs.Prelude.{◌≡◌, ℕ, ◌≤◌, List, ◌++◌, length, map}
 use Rattle.text_lines.specs.Lines.{text_lines}
 use Rattle.pgn_games.specs.Games.{placed_games}
 use Rattle.cha_outcome.specs.declared.items.Item.{Item}
@@ -8,6 +8,11 @@ use Rattle.cha_outcome.specs.Items.{line_item, game_item, kept_item, replay_item
 -- the most bytes that an input may have
 abbrev pub most_bytes : ℕ
 most_bytes = 268435456
+
+-- What was taken is a front in which no more items are settled than so many, and one piece behind it: no piece was taken before it was needed
+-- for one item more.
+abbrev pub TookAsNeeded : (List ℕ → ℕ) → List ℕ → ℕ → Type 0
+TookAsNeeded settled taken given = (piece : List ℕ) × ((front : List ℕ) × (taken ≡ front ++ piece) × (length piece ≤ 8388608) × (settled front ≤ given))
 
 -- the items of a text of positions: its lines that count, in order
 abbrev pub position_items : List ℕ → List Item

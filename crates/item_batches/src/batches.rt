@@ -8,7 +8,7 @@ ghost use Rattle.cha_outside.specs.Faults.{Rose};
 ghost use Rattle.cha_outside.specs.Gathering.{Gathers};
 ghost use Rattle.item_batches.specs.Readers.{KeptItems, kind_of, taken_by, written_by, given_by, has_ended, items_by, settled_by, closed_by, CanGoOn, IsAskedOf};
 ghost use Rattle.item_batches.specs.Batches.{IsWorkAt};
-ghost use Rattle.item_batches.specs.Items.{most_bytes};
+ghost use Rattle.item_batches.specs.Items.{TookAsNeeded, most_bytes};
 ghost use Rattle.item_batches.specs.Pieces.{game_piece, end_piece};
 
 use crate::queue::{FIRST_ITEMS, Queue, end_all, is_empty, nothing_queued, put_first, take_first};
@@ -77,7 +77,8 @@ impl<'a, H: Hands> Batches<'a, H> {
         self.reader.is_closed()
     }
 
-    /// The work on the next item, or None where all items were given. It reads only where no item is queued. After an error no call may
+    /// The work on the next item, or None where all items were given. It reads only where each item that is settled in what was taken was given
+    /// before, and no further piece, of at most 8,388,608 bytes, than the next item needs, whatever the answer. After an error no call may
     /// follow.
     pub fn next<S: Source>(
         &mut self,
@@ -98,6 +99,8 @@ impl<'a, H: Hands> Batches<'a, H> {
         ensures end { (self.old.ended ≡ true → IsAtEnd (S.left source.old)) → self.new.ended ≡ true → IsAtEnd (S.left source.new) }
         ensures read_fault { result ≡ Err ReadEnd.ReadFault → Rose (S.faults source.old) (S.faults source.new) }
         ensures settled { result ≡ Err ReadEnd.ReadFault → settled_by self.old.kind self.new.taken ≤ self.old.given }
+        ensures at_hand { self.old.given < settled_by self.old.kind self.old.taken → source.new ≡ source.old }
+        ensures no_more { TookAsNeeded (settled_by self.old.kind) self.new.taken self.old.given }
         ensures too_long { (result ≡ Err ReadEnd.TooLong) ↔ (most_bytes < length self.new.taken) }
         ensures few { length self.new.taken ≤ most_bytes + 4096 }
         ensures failed { self.new.failed ≡ is_err result }

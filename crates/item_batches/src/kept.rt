@@ -10,7 +10,7 @@ ghost use Rattle.pgn_games.specs.Settling.{settled_games};
 ghost use Rattle.item_batches.specs.Batches.{IsCutAt};
 ghost use Rattle.item_batches.specs.Items.{kept_items};
 ghost use Rattle.item_batches.specs.Readers.{KeptItems};
-ghost use Rattle.item_batches.specs.Items.{most_bytes};
+ghost use Rattle.item_batches.specs.Items.{TookAsNeeded, most_bytes};
 ghost use Rattle.item_batches.specs.Pieces.{game_piece, end_piece};
 
 use cha_list::{NoMemory, Text};
@@ -35,6 +35,8 @@ pub fn next_kept<S: Source>(reader: &mut KeptReader, source: &mut S) -> Result<O
     ensures end { (reader.old.ended ≡ true → IsAtEnd (S.left source.old)) → reader.new.ended ≡ true → IsAtEnd (S.left source.new) }
     ensures read_fault { result ≡ Err ReadEnd.ReadFault → Rose (S.faults source.old) (S.faults source.new) }
     ensures settled { result ≡ Err ReadEnd.ReadFault → settled_games reader.new.taken ≤ reader.old.given }
+    ensures at_hand { reader.old.given < settled_games reader.old.taken → source.new ≡ source.old }
+    ensures no_more { TookAsNeeded settled_games reader.new.taken reader.old.given }
     ensures too_long { (result ≡ Err ReadEnd.TooLong) ↔ (most_bytes < length reader.new.taken) }
     ensures few { length reader.new.taken ≤ most_bytes + 4096 }
     ensures goes_on { IfOk result (λ _. (reader.new.failed ≡ false) × (length reader.new.taken ≤ most_bytes)) }
@@ -55,6 +57,7 @@ pub fn ready_kept(reader: &mut KeptReader) -> Result<Option<Cut>, NoMemory>
     ensures cut { IfOk result (λ found. IfSome found (IsCutAt KeptItems reader.old.taken reader.old.given)) }
     ensures given { IfOk result (λ found. IfSome found (λ cut. (reader.new.given ≡ reader.old.given + 1) × (reader.old.given < 2 ^ 62))) }
     ensures settled { IfOk result (λ found. IfSome found (λ cut. reader.old.given < settled_games reader.old.taken)) }
+    ensures no_more { TookAsNeeded settled_games reader.new.taken reader.old.given }
     ensures none { IfOk result (λ found. IfNone found (reader.new.given ≡ reader.old.given)) }
     ensures goes_on { IfOk result (λ _. (reader.new.failed ≡ false) × (length reader.new.taken ≤ most_bytes)) }
 {

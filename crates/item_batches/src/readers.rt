@@ -10,7 +10,7 @@ ghost use Rattle.item_batches.specs.Batches.{IsCutAt};
 ghost use Rattle.item_batches.specs.Items.{game_items, position_items, replay_items};
 ghost use Rattle.item_batches.specs.Readers.{GameItems, KeptItems, LineItems, ReplayItems, taken_by, written_by, given_by, has_ended, kind_of, items_by, settled_by, closed_by, CanGoOn};
 ghost use Rattle.item_batches.specs.Pieces.{game_piece, end_piece};
-ghost use Rattle.item_batches.specs.Items.{most_bytes};
+ghost use Rattle.item_batches.specs.Items.{TookAsNeeded, most_bytes};
 
 use crate::kept::{behind, next_kept, ready_kept, text_of_game};
 use cha_list::{NoMemory, Text};
@@ -34,7 +34,8 @@ pub enum ItemReader {
 }
 
 impl ItemReader {
-    /// What the next item was cut from its text as, or None where all were given. After an error no call may follow.
+    /// What the next item was cut from its text as, or None where all were given. No further piece is read than the item needs. After an error no
+    /// call may follow.
     pub fn next<S: Source>(&mut self, source: &mut S) -> Result<Option<Cut>, ReadEnd>
         requires { CanGoOn self.old }
         ensures kind { kind_of self.new ≡ kind_of self.old }
@@ -51,6 +52,8 @@ impl ItemReader {
         ensures end { (has_ended self.old ≡ true → IsAtEnd (S.left source.old)) → has_ended self.new ≡ true → IsAtEnd (S.left source.new) }
         ensures read_fault { result ≡ Err ReadEnd.ReadFault → Rose (S.faults source.old) (S.faults source.new) }
         ensures settled { result ≡ Err ReadEnd.ReadFault → settled_by (kind_of self.old) (taken_by self.new) ≤ given_by self.old }
+        ensures at_hand { given_by self.old < settled_by (kind_of self.old) (taken_by self.old) → source.new ≡ source.old }
+        ensures no_more { TookAsNeeded (settled_by (kind_of self.old)) (taken_by self.new) (given_by self.old) }
         ensures too_long { (result ≡ Err ReadEnd.TooLong) ↔ (most_bytes < length (taken_by self.new)) }
         ensures few { length (taken_by self.new) ≤ most_bytes + 4096 }
         ensures goes_on { IfOk result (λ _. CanGoOn self.new) }
@@ -73,6 +76,7 @@ impl ItemReader {
         ensures cut { IfOk result (λ found. IfSome found (IsCutAt (kind_of self.old) (taken_by self.old) (given_by self.old))) }
         ensures given { IfOk result (λ found. IfSome found (λ cut. (given_by self.new ≡ given_by self.old + 1) × (given_by self.old < 2 ^ 62))) }
         ensures settled { IfOk result (λ found. IfSome found (λ cut. given_by self.old < settled_by (kind_of self.old) (taken_by self.old))) }
+        ensures no_more { TookAsNeeded (settled_by (kind_of self.old)) (taken_by self.new) (given_by self.old) }
         ensures none { IfOk result (λ found. IfNone found (given_by self.new ≡ given_by self.old)) }
         ensures goes_on { IfOk result (λ _. CanGoOn self.new) }
     {
@@ -151,6 +155,8 @@ fn next_game<S: Source>(reader: &mut Reader, source: &mut S) -> Result<Option<Cu
     ensures end { (reader.old.ended ≡ true → IsAtEnd (S.left source.old)) → reader.new.ended ≡ true → IsAtEnd (S.left source.new) }
     ensures read_fault { result ≡ Err ReadEnd.ReadFault → Rose (S.faults source.old) (S.faults source.new) }
     ensures settled { result ≡ Err ReadEnd.ReadFault → settled_games reader.new.taken ≤ reader.old.given }
+    ensures at_hand { reader.old.given < settled_games reader.old.taken → source.new ≡ source.old }
+    ensures no_more { TookAsNeeded settled_games reader.new.taken reader.old.given }
     ensures too_long { (result ≡ Err ReadEnd.TooLong) ↔ (most_bytes < length reader.new.taken) }
     ensures few { length reader.new.taken ≤ most_bytes + 4096 }
     ensures goes_on { IfOk result (λ _. (reader.new.failed ≡ false) × (length reader.new.taken ≤ most_bytes)) }
@@ -170,6 +176,7 @@ fn ready_game(reader: &mut Reader) -> Result<Option<Cut>, NoMemory>
     ensures cut { IfOk result (λ found. IfSome found (IsCutAt GameItems reader.old.taken reader.old.given)) }
     ensures given { IfOk result (λ found. IfSome found (λ cut. (reader.new.given ≡ reader.old.given + 1) × (reader.old.given < 2 ^ 62))) }
     ensures settled { IfOk result (λ found. IfSome found (λ cut. reader.old.given < settled_games reader.old.taken)) }
+    ensures no_more { TookAsNeeded settled_games reader.new.taken reader.old.given }
     ensures none { IfOk result (λ found. IfNone found (reader.new.given ≡ reader.old.given)) }
     ensures goes_on { IfOk result (λ _. (reader.new.failed ≡ false) × (length reader.new.taken ≤ most_bytes)) }
 {
@@ -195,6 +202,8 @@ fn next_replay<S: Source>(reader: &mut Reader, source: &mut S) -> Result<Option<
     ensures end { (reader.old.ended ≡ true → IsAtEnd (S.left source.old)) → reader.new.ended ≡ true → IsAtEnd (S.left source.new) }
     ensures read_fault { result ≡ Err ReadEnd.ReadFault → Rose (S.faults source.old) (S.faults source.new) }
     ensures settled { result ≡ Err ReadEnd.ReadFault → settled_games reader.new.taken ≤ reader.old.given }
+    ensures at_hand { reader.old.given < settled_games reader.old.taken → source.new ≡ source.old }
+    ensures no_more { TookAsNeeded settled_games reader.new.taken reader.old.given }
     ensures too_long { (result ≡ Err ReadEnd.TooLong) ↔ (most_bytes < length reader.new.taken) }
     ensures few { length reader.new.taken ≤ most_bytes + 4096 }
     ensures goes_on { IfOk result (λ _. (reader.new.failed ≡ false) × (length reader.new.taken ≤ most_bytes)) }
@@ -214,6 +223,7 @@ fn ready_replay(reader: &mut Reader) -> Result<Option<Cut>, NoMemory>
     ensures cut { IfOk result (λ found. IfSome found (IsCutAt ReplayItems reader.old.taken reader.old.given)) }
     ensures given { IfOk result (λ found. IfSome found (λ cut. (reader.new.given ≡ reader.old.given + 1) × (reader.old.given < 2 ^ 62))) }
     ensures settled { IfOk result (λ found. IfSome found (λ cut. reader.old.given < settled_games reader.old.taken)) }
+    ensures no_more { TookAsNeeded settled_games reader.new.taken reader.old.given }
     ensures none { IfOk result (λ found. IfNone found (reader.new.given ≡ reader.old.given)) }
     ensures goes_on { IfOk result (λ _. (reader.new.failed ≡ false) × (length reader.new.taken ≤ most_bytes)) }
 {
@@ -239,6 +249,8 @@ fn next_line<S: Source>(reader: &mut LineReader, source: &mut S) -> Result<Optio
     ensures end { (reader.old.ended ≡ true → IsAtEnd (S.left source.old)) → reader.new.ended ≡ true → IsAtEnd (S.left source.new) }
     ensures read_fault { result ≡ Err ReadEnd.ReadFault → Rose (S.faults source.old) (S.faults source.new) }
     ensures settled { result ≡ Err ReadEnd.ReadFault → settled_lines reader.new.taken ≤ reader.old.given }
+    ensures at_hand { reader.old.given < settled_lines reader.old.taken → source.new ≡ source.old }
+    ensures no_more { TookAsNeeded settled_lines reader.new.taken reader.old.given }
     ensures too_long { (result ≡ Err ReadEnd.TooLong) ↔ (most_bytes < length reader.new.taken) }
     ensures few { length reader.new.taken ≤ most_bytes + 4096 }
     ensures goes_on { IfOk result (λ _. (reader.new.failed ≡ false) × (length reader.new.taken ≤ most_bytes)) }
@@ -258,6 +270,7 @@ fn ready_line(reader: &mut LineReader) -> Result<Option<Cut>, NoMemory>
     ensures cut { IfOk result (λ found. IfSome found (IsCutAt LineItems reader.old.taken reader.old.given)) }
     ensures given { IfOk result (λ found. IfSome found (λ cut. (reader.new.given ≡ reader.old.given + 1) × (reader.old.given < 2 ^ 62))) }
     ensures settled { IfOk result (λ found. IfSome found (λ cut. reader.old.given < settled_lines reader.old.taken)) }
+    ensures no_more { TookAsNeeded settled_lines reader.new.taken reader.old.given }
     ensures none { IfOk result (λ found. IfNone found (reader.new.given ≡ reader.old.given)) }
     ensures goes_on { IfOk result (λ _. (reader.new.failed ≡ false) × (length reader.new.taken ≤ most_bytes)) }
 {

@@ -1,10 +1,12 @@
 use Rattle.std.proofs.Common.{refl, arith}
+use Rattle.item_batches.specs.Readers.{KeptItems}
+use Rattle.item_batches.proofs.Settling.{took_nothing}
 use Rattle.adjudicate.proofs.OrderRuns.{nothing_corrected}
 use Rattle.item_batches.proofs.Items.{kept_asked}
 use Rattle.adjudicate.proofs.correcting.correct_games.Goals as goal
 
 pub returns-in_default-clause-run : goal.returns-in_default-clause-run
-returns-in_default-clause-run g c = nothing_corrected _ _ _ _ _ _
+returns-in_default-clause-run g c = nothing_corrected _ (took_nothing KeptItems) _ _ _ _ _
 
 pub new-games-requires-clause-goes_on : goal.new-games-requires-clause-goes_on
 new-games-requires-clause-goes_on g c = rw c.in-Ok.ensures (refl, omega arith)

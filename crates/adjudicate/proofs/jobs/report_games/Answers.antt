@@ -1,11 +1,13 @@
 use Rattle.std.proofs.Common.{Some, refl, ap, ◌∙◌, arith}
 use Rattle.std.proofs.KnownBytes.{Consumes-nil}
 use Rattle.adjudicate.specs.Jobs.{on_games}
+use Rattle.item_batches.specs.Readers.{GameItems}
+use Rattle.item_batches.proofs.Settling.{took_nothing}
 use Rattle.adjudicate.proofs.RunEndings.{not_begun_by}
 use Rattle.adjudicate.proofs.jobs.report_games.Goals as goal
 
 pub returns-in_default-clause-run : goal.returns-in_default-clause-run
-returns-in_default-clause-run g c = not_begun_by (Some (on_games _ _)) _ _ _ _
+returns-in_default-clause-run g c = not_begun_by (Some (on_games _ _)) (took_nothing GameItems) _ _ _ _
 
 pub new-items-requires-clause-goes_on : goal.new-items-requires-clause-goes_on
 new-items-requires-clause-goes_on g c = rw c.in-Ok.ensures (refl, omega arith)

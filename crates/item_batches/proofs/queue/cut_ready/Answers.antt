@@ -20,5 +20,5 @@ loop-reader-preserved c =
       goes_on = c.in_ok-cut.ensures.goes_on;
       count = omega (arith, given.0, i.count, size);
       longer = omega (arith, i.longer, size);
-      queued = λ question front was. subst (λ x. IsQueued c.ready.new.self question x false) (append_assoc front c.loop-reader.more.items (OnlyCut c.in-Some.cut ∷ [])) (one_more c.loop-reader.reader c.ready.new.self question (front ++ c.loop-reader.more.items) c.in-Some.cut (i.queued question front was) e.kind e.same.0 c.in_ok-cut.ensures.goes_on given.0 given.1 settled cut);
+      queued = λ question front was. subst (λ x. IsQueued c.ready.new.self question x false) (append_assoc front c.loop-reader.more.items (OnlyCut c.in-Some.cut ∷ [])) (one_more c.loop-reader.reader c.ready.new.self question (front ++ c.loop-reader.more.items) c.in-Some.cut (i.queued question front was) e.kind e.same.0 c.in_ok-cut.ensures.goes_on given.0 given.1 settled e.no_more cut);
     })

@@ -1,6 +1,6 @@
 use Rattle.std.proofs.Common.{◌<◌, ◌≤◌, length, sym, ◌∙◌, arith}
 use Rattle.text_lines.specs.Lines.{text_lines}
-use Rattle.item_batches.proofs.Items.{lines_about, line_given_few, line_at, lines_first}
+use Rattle.item_batches.proofs.Items.{lines_took, lines_about, line_given_few, line_at, lines_first}
 use Rattle.item_batches.proofs.Items.{not_more}
 use Rattle.item_batches.proofs.readers.next_line.Goals as goal
 
@@ -22,3 +22,12 @@ returns-in-Ok-None-clause-first g c = lines_first _ _ _ c.next.ensures.first
 
 pub returns-in-Err-clause-first : goal.returns-in-Err-clause-first
 returns-in-Err-clause-first g c = lines_first _ _ _ c.next.ensures.first
+
+pub returns-in-Ok-Some-clause-no_more : goal.returns-in-Ok-Some-clause-no_more
+returns-in-Ok-Some-clause-no_more g c = lines_took _ _ c.next.ensures.no_more
+
+pub returns-in-Ok-None-clause-no_more : goal.returns-in-Ok-None-clause-no_more
+returns-in-Ok-None-clause-no_more g c = lines_took _ _ c.next.ensures.no_more
+
+pub returns-in-Err-clause-no_more : goal.returns-in-Err-clause-no_more
+returns-in-Err-clause-no_more g c = lines_took _ _ c.next.ensures.no_more

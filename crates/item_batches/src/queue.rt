@@ -1,6 +1,6 @@
 //! What is queued: items on which nobody works any more, parts that were begun, and items that are only cut.
 
-ghost use Rattle.std.specs.Prelude.{◌≡◌, ◌≤◌, ◌+◌, ◌-◌, ◌⊎◌, List, [], ◌∷◌, ◌++◌, true, false, length, IfOk, OnOk, OnErr};
+ghost use Rattle.std.specs.Prelude.{◌≡◌, ◌≤◌, ◌<◌, ◌+◌, ◌-◌, ◌⊎◌, List, [], ◌∷◌, ◌++◌, true, false, length, IfOk, OnOk, OnErr};
 ghost use Rattle.item_batches.specs.Readers.{kind_of, taken_by, written_by, given_by, has_ended, items_by, CanGoOn};
 ghost use Rattle.cha_outcome.specs.declared.questions.Question.{Question as Asked};
 ghost use Rattle.side_by_side.specs.declared.progress.Progress.{Progress};
@@ -20,6 +20,12 @@ use std::mem;
 /// How many items the first part has at most that is begun after a read. Each next one may have twice as many, up to what the hands
 /// take, so that all threads soon have work, and few threads begin where much has come.
 pub const FIRST_ITEMS: usize = 8;
+
+/// How many times as many parts may be begun as are worked on at a time: the work on some has ended, but not on one before them.
+const AHEAD: usize = 4;
+
+/// How many parts may be begun, whatever the hands take: so many bound the memory.
+const MOST_BEGUN: usize = 32;
 
 /// What is queued: items on which nobody works any more, behind them parts that were begun, and behind these items that are only cut, for
 /// the next part, which may have so many.
@@ -132,6 +138,19 @@ fn begin_cut<H: Hands>(
     }
 }
 
+/// Whether the hands take a further part behind these, of which fewer than `most` may be begun.
+fn are_free<H: Hands>(hands: &H, most: usize, begun: &VecDeque<Part>) -> bool
+    ensures { result ≡ true → length begun.now.items < most }
+{
+    let mut open: usize = 0;
+    for part in begun.iter() {
+        if !hands.has_ended(part) {
+            open = open.saturating_add(1);
+        }
+    }
+    begun.len() < most && open < hands.most_parts()
+}
+
 /// Begins as many parts as the hands take, and cuts items for the next one. Some item is queued, and on none the work has ended.
 fn fill<H: Hands>(
     alloc: Global,
@@ -156,8 +175,8 @@ fn fill<H: Hands>(
     ensures some { OnOk result (1 ≤ length queue.new.begun.items) }
     ensures queued { OnOk result (IsQueued reader.new question.now (items_queued queue.new) false) }
 {
-    let most = hands.most_parts();
-    while queue.begun.len() < most {
+    let most = hands.most_parts().saturating_mul(AHEAD).min(MOST_BEGUN);
+    while queue.begun.is_empty() || are_free(hands, most, &queue.begun) {
         let items = hands.most_items().min(queue.most);
         cut_more(alloc, items, queue, reader)?;
         if queue.cut.is_empty() {

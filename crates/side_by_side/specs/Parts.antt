@@ -9,17 +9,17 @@ use Rattle.side_by_side.specs.declared.parts.Part.TheVariants.{Here, There}
 -- its items, as far as work on them had come when it was begun
 abbrev pub items_of : Part → List Progress
 items_of (Here items) = items.items
-items_of (There handle) = (manually_drop_value handle).promise.items.value.items
+items_of (There task) = (manually_drop_value task).handle.promise.items.value.items
 
 -- nobody works on it
 abbrev pub IsHere : Part → Type 0
 IsHere (Here items) = ⊤
-IsHere (There handle) = ⊥
+IsHere (There task) = ⊥
 
 -- a thread that works on it was told that this is asked
 abbrev pub IsAbout : Question → Part → Type 0
 IsAbout question (Here items) = ⊤
-IsAbout question (There handle) = (manually_drop_value handle).promise.question ≡ question
+IsAbout question (There task) = (manually_drop_value task).handle.promise.question ≡ question
 
 -- the items of parts behind one another
 abbrev pub items_of_all : List Part → List Progress

@@ -8,7 +8,7 @@ ghost use Rattle.cha_outcome.specs.declared.questions.Question.{Question as Aske
 ghost use Rattle.side_by_side.specs.Progresses.{AreAsked, AllGoOn};
 ghost use Rattle.side_by_side.specs.Parts.{items_of, IsAbout};
 
-use crate::parts::{Part, begin, end};
+use crate::parts::{Part, begin, end, is_told};
 use crate::progress::Progress;
 use cert_par::check_par;
 use cha_board::{Color, Position};
@@ -33,7 +33,7 @@ pub trait Hands {
     fn most_items(&self) -> usize
         ensures { 1 ≤ result };
 
-    /// How many parts may be worked on at a time, at least 1.
+    /// How many parts may be worked on at a time, at least 1. A part counts no more once it has ended.
     fn most_parts(&self) -> usize
         ensures { 1 ≤ result };
 
@@ -49,6 +49,9 @@ pub trait Hands {
         ensures same { AllGoOn question.now items.items (items_of result) }
         ensures about { IsAbout question.now result }
         ensures mine { mine result };
+
+    /// Whether the work on a part is known to have ended. Nobody waits for the answer.
+    fn has_ended(&self, part: &Part) -> bool;
 
     /// The items of a part, when nobody works on them any more.
     fn end(&self, part: Part) -> Vec<Progress>
@@ -98,6 +101,10 @@ impl Hands for OneByOne {
         Part::Here(items)
     }
 
+    fn has_ended(&self, _part: &Part) -> bool {
+        false
+    }
+
     fn end(&self, part: Part) -> Vec<Progress> {
         match part {
             Part::Here(items) => items,
@@ -118,7 +125,7 @@ impl Hands for OneByOne {
 
 /// How many items a thread gets at a time: so many that threads seldom begin and end, and so few that all are at work soon after a piece
 /// of a file was read.
-const MOST_ITEMS: usize = 256;
+const MOST_ITEMS: usize = 128;
 
 /// Threads work ahead, at most so many; where it is one, nobody does. A certificate of many nodes is checked by as many as the runtime
 /// gives.
@@ -160,6 +167,10 @@ impl<'a, R: Threads + Sync> Hands for Threaded<'a, R> {
 
     fn begin(&self, alloc: Global, question: &Question, items: Vec<Progress>) -> Part {
         begin(self.rt, alloc, question, items)
+    }
+
+    fn has_ended(&self, part: &Part) -> bool {
+        is_told(part)
     }
 
     fn end(&self, part: Part) -> Vec<Progress> {

@@ -13,5 +13,5 @@ mod progress;
 
 pub use cuts::Cut;
 pub use hands::{Hands, OneByOne, Threaded};
-pub use parts::{GoOn, Part};
+pub use parts::{GoOn, Part, Task};
 pub use progress::{Progress, finish};

@@ -5,8 +5,8 @@ use Rattle.item_batches.specs.Batches.{items_queued, IsQueued}
 use Rattle.item_batches.proofs.queue.fill.Given as goal
 
 -- nothing that was queued is lost, and the work on none has ended
-abbrev pub invariant-loop-items : goal.invariant-loop-items
-invariant-loop-items g l = record {
+abbrev pub invariant-loop-queue : goal.invariant-loop-queue
+invariant-loop-queue g l = record {
   kind : kind_of l.reader ≡ kind_of l.fn.reader;
   same : taken_by l.reader ≡ taken_by l.fn.reader;
   ended : has_ended l.reader ≡ has_ended l.fn.reader;
@@ -20,5 +20,5 @@ invariant-loop-items g l = record {
   most : 1 ≤ l.most;
 }
 
-abbrev pub decreases-loop-items : goal.decreases-loop-items
-decreases-loop-items g l = l.most - length l.queue.begun.items
+abbrev pub decreases-loop-queue : goal.decreases-loop-queue
+decreases-loop-queue g l = l.most - length l.queue.begun.items

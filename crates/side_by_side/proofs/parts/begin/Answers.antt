@@ -8,7 +8,7 @@ returns-then-len-lt-WORTH_A_THREAD-clause-same g c = all_stay c.args.question.no
 
 pub returns-in-Ok-clause-same : goal.returns-in-Ok-clause-same
 returns-in-Ok-clause-same g c =
-    let same = ap (λ h. h.promise.items.value) c.new.ensures ∙ ap (λ p. p.items.value) c.in-Ok.ensures.ok ∙ c.of.ensures in
+    let same = ap (λ t. t.handle.promise.items.value) c.new.ensures ∙ ap (λ p. p.items.value) c.in-Ok.ensures.ok ∙ c.of.ensures in
     subst (λ v. AllGoOn c.args.question.now c.args.items.items v.items) (sym same) (all_stay c.args.question.now c.args.items.items)
 
 -- where no thread could be made

@@ -8,6 +8,7 @@ mod Parts
 pub mod Spelling
 mod SharedSpelling
 mod SharedParts
+mod LabelsAgain
 mod Plain
 mod LinesAgain
 mod Rereading

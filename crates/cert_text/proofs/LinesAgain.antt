@@ -1,6 +1,7 @@
 -- Each line that is written is read again.
 use Rattle.std.proofs.Common.{◌≡◌, ◌≢◌, ℕ, zero, suc, ◌+◌, ◌-◌, ◌*◌, ◌/◌, ◌%◌, ◌^◌, ◌<◌, ◌≤◌, ◌==◌, nat_lt, nat_le, Bool, true, false, not, ◌&&◌, if◌then◌else◌, List, [], ◌∷◌, ◌++◌, length, drop, Option, Some, None, decimal, refl, ap, ◌∙◌, arith}
 use Rattle.std.proofs.Math.Nat.{pow-succ'}
+use Rattle.std.proofs.Math.Seq.{drop-append-add}
 use Rattle.std.specs.List.{list_all}
 use Rattle.std.specs.Int.{bit_at}
 use Rattle.std.proofs.lemmas.Bool.{and_parts, and_from, eq-eqb}
@@ -18,19 +19,18 @@ use Rattle.cha_board.specs.SquareSets.{has_square, set_of_bits, bits_of_set}
 use Rattle.cha_board.proofs.SetLaws.{length-set_of, has-set_of, same_squares, bit_at-bits_of_set, test_of_one_if}
 use Rattle.cha_board.specs.Letters.{kind_of, square_text, square_of}
 use Rattle.cha_fen.specs.Fen.{fen}
+use Rattle.cha_fen.specs.Written.{fen_text}
 use Rattle.cha_board.specs.Letters.{kind_letter}
 use Rattle.cha_fen.proofs.WrittenRead.{written_is_read}
 use Rattle.mob_sets.specs.Rows.{Row}
+use Rattle.cert_text.specs.declared.labels.Label.{Label}
+use Rattle.cert_text.specs.Labels.{label_word}
 use Rattle.cert_text.specs.Digits.{hex_digit, hex_digits, value_of}
-use Rattle.cert_text.specs.Spelled.{winner_line, count_line, loose_line, row_line, inner_line, leaf_line, lines_text}
+use Rattle.cert_text.specs.Spelled.{winner_line, count_line, loose_line, row_line, position_line, lines_text}
 use Rattle.cert_text.specs.TextLines.{lines_of, tail_of}
-use Rattle.cert_text.specs.Texts.{is_text, kept, fixed_of, winner_of, small_count, count_of, loose_of, follows, row_of, position_if, inner_of, leaf_of}
+use Rattle.cert_text.specs.Texts.{is_text, kept, fixed_of, winner_of, small_count, count_of, loose_of, follows, row_of, position_if, position_of}
 use Rattle.cert_text.proofs.Numbers.{decimal_read, hex_read}
 use Rattle.cert_text.proofs.Plain.{plain, ArePlain}
-
-pub if_none : {A : Type 0} (t : Bool) (o : Option A) → o ≡ None → (if t then None else o) ≡ None
-if_none true o e = refl
-if_none false o e = e
 
 pub not_zero : (n : ℕ) → n ≢ 0 → not (n == 0) ≡ true
 not_zero n other = grind (arith, nat_tests)
@@ -160,23 +160,15 @@ row_again rows row behind small width =
     let squares = set_value row.squares width in
     rw (fits, square_again row.origin small, kind_again row.kind, squares, text_same (row_line row), behind) refl
 
-pub inner_again : (q : Board) → IsValid q → inner_of (inner_line q) ≡ Some q
-unfolding inner_of inner_line
-inner_again q valid =
-    let long : nat_lt (length (inner_line q)) 6 ≡ false = grind (arith, nat_tests) in
-    rw (long, written_is_read q valid) (rw (text_same (inner_line q)) refl)
+pub no_more : (a b : ℕ) → a ≤ b → nat_lt b a ≡ false
+no_more a b low = grind (arith, nat_tests)
 
-pub leaf_again : (q : Board) → IsValid q → leaf_of (leaf_line q) ≡ Some q
-unfolding leaf_of leaf_line
-leaf_again q valid =
-    let long : nat_lt (length (leaf_line q)) 5 ≡ false = grind (arith, nat_tests) in
-    rw (long, written_is_read q valid) (rw (text_same (leaf_line q)) refl)
-
-inner_is_no_leaf : (q : Board) (o : Option Board) → kept inner_line (leaf_line q) o ≡ None
-unfolding inner_line leaf_line
-inner_is_no_leaf q None = refl
-inner_is_no_leaf q (Some x) = refl
-
-pub leaf_no_inner : (q : Board) → inner_of (leaf_line q) ≡ None
-unfolding inner_of
-leaf_no_inner q = if_none (nat_lt (length (leaf_line q)) 6) _ (inner_is_no_leaf q (position_if (fen (drop 6 (leaf_line q)))))
+pub position_again : (label : Label) (q : Board) → IsValid q → position_of label (position_line label q) ≡ Some q
+unfolding position_of position_line
+position_again label q valid =
+    let word = label_word label in
+    let line = position_line label q in
+    let long : nat_lt (length line) (length word + 1) ≡ false = no_more (length word + 1) (length line) (omega (arith, length-append word (32 ∷ fen_text q))) in
+    let fenned : position_if (fen (drop (length word + 1) line)) ≡ Some q =
+    ap (λ t. position_if (fen t)) (drop-append-add word (32 ∷ fen_text q) 1) ∙ ap position_if (written_is_read q valid) in
+    rw long (kept_again (position_line label) (position_if (fen (drop (length word + 1) line))) q fenned)

@@ -19,9 +19,13 @@ use Rattle.cha_fen.proofs.RoundTrip.{above, row_above}
 use Rattle.mob_sets.specs.Rows.{Row, SetRows}
 use Rattle.cha_cert.specs.declared.nodes.Node.{Node}
 use Rattle.cha_cert.specs.declared.nodes.Part.{Part}
-use Rattle.cha_cert.specs.declared.nodes.Part.TheVariants.{Inner, Leaf, Small, Lone}
+use Rattle.cha_cert.specs.declared.nodes.Part.TheVariants.{Inner, Leaf, Men}
+use Rattle.cert_text.specs.declared.labels.Label.{Label}
+use Rattle.cert_text.specs.declared.labels.Label.TheVariants as labels
+use Rattle.cert_text.specs.Labels.{label_word}
+use Rattle.cert_text.proofs.LabelsAgain.{all_within, word_big}
 use Rattle.cert_text.specs.Digits.{hex_digit, hex_digits}
-use Rattle.cert_text.specs.Spelled.{set_text, end_line, winner_line, count_line, loose_line, row_line, inner_line, leaf_line, small_line, lone_line, part_lines, node_lines, cert_lines}
+use Rattle.cert_text.specs.Spelled.{set_text, end_line, winner_line, count_line, loose_line, row_line, position_line, part_lines, node_lines, cert_lines}
 
 -- a byte above the line feed
 abbrev pub plain : ℕ → Bool
@@ -147,12 +151,18 @@ pub sets_plain : (sets : SetRows) → ArePlain (loose_line sets.loose ∷ map ro
 unfolding loose_line
 sets_plain sets = (both_plain (codes "loose ") (set_text sets.loose) refl (hex_plain 16 (bits_of_set sets.loose)), rows_plain sets.rows)
 
+below_blank : (b : ℕ) → nat_lt 32 b ≡ true → plain b ≡ true
+below_blank b t = grind (arith, nat_tests)
+
+pub position_plain : (label : Label) (q : Board) → list_all plain (position_line label q) ≡ true
+unfolding position_line
+position_plain label q =
+    both_plain (label_word label) (32 ∷ fen_text q) (all_within (λ b. nat_lt 32 b) plain below_blank (label_word label) (word_big label)) (one_plain 32 (fen_text q) (omega arith) (fen_plain q))
+
 part_plain : (q : Board) (part : Part) → ArePlain (part_lines q part)
-unfolding inner_line leaf_line small_line lone_line
-part_plain q Small = (both_plain (codes "small ") (fen_text q) refl (fen_plain q), tt)
-part_plain q Lone = (both_plain (codes "lone ") (fen_text q) refl (fen_plain q), tt)
-part_plain q Inner = (both_plain (codes "inner ") (fen_text q) refl (fen_plain q), tt)
-part_plain q (Leaf sets) = (both_plain (codes "leaf ") (fen_text q) refl (fen_plain q), sets_plain sets)
+part_plain q Inner = (position_plain labels.Inner q, tt)
+part_plain q (Leaf sets) = (position_plain labels.Leaf q, sets_plain sets)
+part_plain q (Men reason) = (position_plain (labels.Men reason) q, tt)
 
 nodes_plain : (nodes : List Node) → ArePlain (flat_map node_lines nodes)
 nodes_plain [] = tt

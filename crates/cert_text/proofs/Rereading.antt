@@ -13,37 +13,23 @@ use Rattle.mob_sets.specs.Rows.{Row, row_place}
 use Rattle.mob_sets.specs.Tidy.{AreTidy, IsFull}
 use Rattle.cha_cert.specs.declared.nodes.Node.{Node}
 use Rattle.cha_cert.specs.declared.nodes.Part.{Part}
-use Rattle.cha_cert.specs.declared.nodes.Part.TheVariants.{Inner, Leaf, Small, Lone}
+use Rattle.cha_cert.specs.declared.nodes.Part.TheVariants.{Inner, Leaf, Men}
 use Rattle.cert_text.specs.declared.faults.CertKind.TheVariants as kinds
-use Rattle.cert_text.specs.Spelled.{header_line, end_line, winner_line, count_line, row_line, inner_line, leaf_line, small_line, lone_line, part_lines, node_lines, cert_lines, cert_text}
+use Rattle.cert_text.specs.declared.labels.Label.TheVariants as labels
+use Rattle.cert_text.specs.Spelled.{header_line, end_line, winner_line, count_line, row_line, position_line, part_lines, node_lines, cert_lines, cert_text}
 use Rattle.cert_text.specs.TextLines.{lines_of, tail_of}
 use Rattle.cert_text.specs.Texts.{found, fixed_of, follows, wanted, begins_reach, rows_after, leaf_after, node_after, nodes_after, ended, cert_of}
 use Rattle.cert_text.specs.declared.faults.CertFault.{CertFault}
 use Rattle.cert_text.specs.Writable.{IsWritable, IsWritablePart, IsCertText}
 use Rattle.cert_text.proofs.Parts.{parts_read}
 use Rattle.cert_text.proofs.Plain.{cert_plain}
-use Rattle.cert_text.proofs.LinesAgain.{not_zero, less_test, lines_again, no_tail, fixed_again, winner_again, count_again, set_again, loose_again, row_again, inner_again, leaf_again, leaf_no_inner}
+use Rattle.cert_text.proofs.LinesAgain.{not_zero, less_test, lines_again, no_tail, fixed_again, winner_again, count_again, set_again, loose_again, row_again, position_again}
+use Rattle.cert_text.proofs.LabelsAgain.{line_labelled}
 
 -- lines of which the first does not begin as a row
 unfoldable pub NotRow : List (List ℕ) → Type 0
 NotRow [] = Unit {0}
 NotRow (line ∷ lines) = begins_reach line ≡ false
-
-inner_no_row : (q : Board) → begins_reach (inner_line q) ≡ false
-unfolding inner_line
-inner_no_row q = refl
-
-leaf_no_row : (q : Board) → begins_reach (leaf_line q) ≡ false
-unfolding leaf_line
-leaf_no_row q = refl
-
-small_no_row : (q : Board) → begins_reach (small_line q) ≡ false
-unfolding small_line
-small_no_row q = refl
-
-lone_no_row : (q : Board) → begins_reach (lone_line q) ≡ false
-unfolding lone_line
-lone_no_row q = refl
 
 row_begins : (row : Row) → begins_reach (row_line row) ≡ true
 unfolding row_line
@@ -95,24 +81,22 @@ rows_again rows (row ∷ more) n rest tidy known none =
 part_again : (q : Board) (part : Part) (n : ℕ) (rest : List (List ℕ)) → IsValid q → IsWritablePart part → NotRow rest
     → (m : ℕ) × (node_after [] n (part_lines q part ++ rest) ≡ found (record { position = q; part = part }) m rest)
 unfolding node_after leaf_after wanted
-part_again q Small n rest valid ok none = absurd ok
-part_again q Lone n rest valid ok none = absurd ok
-part_again q Inner n rest valid ok none = (n + 1, rw (inner_again q valid) refl)
+part_again q (Men reason) n rest valid ok none = absurd ok
+part_again q Inner n rest valid ok none = (n + 1, rw (line_labelled labels.Inner q, position_again labels.Inner q valid) refl)
 part_again q (Leaf sets) n rest valid ok none =
     let rows = rows_again [] sets.rows (n + 1 + 1) rest ok.0 ok.1 none in
-    (rows.0, rw (leaf_no_inner q, leaf_again q valid, loose_again sets.loose ok.2, rows.1) refl)
+    (rows.0, rw (line_labelled labels.Leaf q, position_again labels.Leaf q valid, loose_again sets.loose ok.2, rows.1) refl)
 
-part_no_row : (q : Board) (part : Part) (a b : List (List ℕ)) → NotRow ((part_lines q part ++ a) ++ b)
-unfolding NotRow
-part_no_row q Inner a b = inner_no_row q
-part_no_row q (Leaf sets) a b = leaf_no_row q
-part_no_row q Small a b = small_no_row q
-part_no_row q Lone a b = lone_no_row q
+part_no_row : (q : Board) (part : Part) (a b : List (List ℕ)) → IsWritablePart part → NotRow ((part_lines q part ++ a) ++ b)
+unfolding NotRow position_line
+part_no_row q Inner a b ok = refl
+part_no_row q (Leaf sets) a b ok = refl
+part_no_row q (Men reason) a b ok = absurd ok
 
-first_no_row : (nodes : List Node) → NotRow (flat_map node_lines nodes ++ end_line ∷ [])
+first_no_row : (nodes : List Node) → All IsWritable nodes → NotRow (flat_map node_lines nodes ++ end_line ∷ [])
 unfolding NotRow
-first_no_row [] = refl
-first_no_row (node ∷ nodes) = part_no_row node.position node.part (flat_map node_lines nodes) (end_line ∷ [])
+first_no_row [] ok = refl
+first_no_row (node ∷ nodes) ok = part_no_row node.position node.part (flat_map node_lines nodes) (end_line ∷ []) (ok 0 node (omega arith)).part
 
 nodes_again : (nodes more : List Node) (n : ℕ) → All IsWritable more
     → (m : ℕ) × (nodes_after [] (length more) nodes n (flat_map node_lines more ++ end_line ∷ []) ≡ found (nodes ++ more) m (end_line ∷ []))
@@ -120,7 +104,7 @@ unfolding nodes_after
 nodes_again nodes [] n ok = (n, ap (λ ns. found ns n (end_line ∷ [])) (sym (append-nil nodes)))
 nodes_again nodes (node ∷ more) n ok =
     let here = ok 0 node (omega arith) in
-    let read = part_again node.position node.part n (flat_map node_lines more ++ end_line ∷ []) here.position here.part (first_no_row more) in
+    let read = part_again node.position node.part n (flat_map node_lines more ++ end_line ∷ []) here.position here.part (first_no_row more (λ k d inside. ok (suc k) d (omega arith))) in
     let next = nodes_again (nodes ++ node ∷ []) more read.0 (λ k d inside. ok (suc k) d (omega arith)) in
     let cut = append_assoc (node_lines node) (flat_map node_lines more) (end_line ∷ []) in
     (next.0, rw (cut, read.1) (next.1 ∙ ap (λ ns. found ns next.0 (end_line ∷ [])) (append_assoc nodes (node ∷ []) more)))

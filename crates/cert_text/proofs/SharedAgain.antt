@@ -1,29 +1,30 @@
 -- Each line of version 2 that is written is read again.
-use Rattle.std.proofs.Common.{◌≡◌, ℕ, suc, ◌+◌, ◌%◌, ◌^◌, ◌<◌, ◌≤◌, ◌==◌, nat_lt, nat_le, Bool, true, false, List, [], ◌∷◌, ◌++◌, length, drop, take, Option, Some, None, decimal, refl, ap, ◌∙◌, arith}
-use Rattle.std.specs.List.{list_all, prefix_len}
+use Rattle.std.proofs.Common.{◌≡◌, ℕ, suc, ◌+◌, ◌%◌, ◌^◌, ◌<◌, ◌≤◌, nat_lt, nat_le, true, false, List, [], ◌∷◌, ◌++◌, length, drop, take, Option, Some, decimal, refl, ap, ◌∙◌, arith}
+use Rattle.std.specs.List.{list_all}
 use Rattle.std.proofs.Math.Seq.{take-append_seam, drop-append-add}
-use Rattle.std.proofs.lemmas.Bool.{and_parts, and_from, or_from}
+use Rattle.std.proofs.lemmas.Bool.{and_from, or_from}
 use Rattle.std.proofs.lemmas.Bool.Decides.{nat_tests}
 use Rattle.std.proofs.lemmas.Fmt.{decimal_by_steps, decimal_nonempty, length-decimal-le}
 use Rattle.std.proofs.lemmas.List.{length-append}
 use Rattle.std.proofs.lemmas.List.Folds.{list_all-append}
-use Rattle.cha_list.specs.Bytes.{is_from, in_class}
-use Rattle.cha_list.specs.declared.classes.Class.TheVariants.{NotBlank}
+use Rattle.cha_list.specs.Bytes.{is_from}
 use Rattle.cha_board.specs.Board.{Board, IsValid}
 use Rattle.cha_fen.specs.Fen.{fen}
 use Rattle.cha_fen.specs.Written.{fen_text}
 use Rattle.cha_fen.proofs.WrittenRead.{written_is_read}
 use Rattle.cha_cert.specs.declared.shared.SharedPart.{SharedPart}
-use Rattle.cha_cert.specs.declared.shared.SharedPart.TheVariants.{Inner, Leaf, Small, Lone}
+use Rattle.cha_cert.specs.declared.shared.SharedPart.TheVariants.{Inner, Leaf, Men}
 use Rattle.cha_cert.specs.Shared.{Names}
 use Rattle.cert_text.specs.Digits.{value_of}
-use Rattle.cert_text.specs.Spelled.{inner_line, small_line, lone_line}
+use Rattle.cert_text.specs.declared.labels.Label.TheVariants as labels
+use Rattle.cert_text.specs.Labels.{label_of}
 use Rattle.cert_text.specs.SharedSpelled.{sets_line, shared_leaf_line, shared_part_lines}
-use Rattle.cert_text.specs.Texts.{kept, position_if, inner_of, wanted, found}
-use Rattle.cert_text.specs.SharedTexts.{small_number, sets_of, number_len, leaf_if, shared_leaf_of, small_of, lone_of, shared_node_of}
+use Rattle.cert_text.specs.Texts.{kept, position_if, wanted, found}
+use Rattle.cert_text.specs.SharedTexts.{small_number, sets_of, number_len, leaf_if, shared_leaf_of, shared_node_of}
 use Rattle.cert_text.specs.declared.faults.CertKind.TheVariants as kinds
 use Rattle.cert_text.proofs.Numbers.{decimal_read}
-use Rattle.cert_text.proofs.LinesAgain.{if_none, less_test, kept_again, text_same, inner_again}
+use Rattle.cert_text.proofs.LinesAgain.{less_test, no_more, kept_again, text_same, position_again}
+use Rattle.cert_text.proofs.LabelsAgain.{solid, solid_over, run_ends, label_again, line_labelled}
 
 -- the number of sets
 number_again : (n : ℕ) → n < 4294967296 → small_number n ≡ Some n
@@ -43,39 +44,19 @@ sets_again n high =
     rw fits (kept_again sets_line (small_number (value_of 10 (decimal n))) n value)
 
 -- a decimal number has no blank in it
-abbrev solid : ℕ → Bool
-solid b = in_class NotBlank b
-
-solid_over : (b : ℕ) → 33 ≤ b → solid b ≡ true
-unfolding in_class
-solid_over b big =
-    let a : (b == 32) ≡ false = grind (arith, nat_tests) in
-    let c : (b == 9) ≡ false = grind (arith, nat_tests) in
-    rw (a, c) refl
-
 digit_solid : (m : ℕ) → list_all solid ((48 + m) ∷ []) ≡ true
-digit_solid m = and_from (solid (48 + m)) true (solid_over (48 + m) (omega arith)) refl
+digit_solid m = and_from (solid (48 + m)) true (solid_over (48 + m) (less_test 32 (48 + m) (omega arith))) refl
 
 decimal_solid : (n : ℕ) → n < 2 ^ 64 → list_all solid (decimal n) ≡ true
 decimal_solid n small =
     decimal_by_steps (λ m ds. list_all solid ds ≡ true) (λ m few. digit_solid m)
     (λ m ds big rest. list_all-append solid ds ((48 + m % 10) ∷ []) ∙ and_from (list_all solid ds) (list_all solid ((48 + m % 10) ∷ [])) rest (digit_solid (m % 10))) n small
 
-run_ends : (ds rest : List ℕ) → list_all solid ds ≡ true → prefix_len solid (ds ++ 32 ∷ rest) ≡ length ds
-unfolding in_class
-run_ends [] rest t = refl
-run_ends (d ∷ ds) rest t =
-    let both = and_parts (solid d) (list_all solid ds) t in
-    rw (both.0, run_ends ds rest both.1) (omega arith)
-
 -- the line of a leaf
 line_drop : (ds rest : List ℕ) → drop (length ds + 6) (108 ∷ 101 ∷ 97 ∷ 102 ∷ 32 ∷ (ds ++ 32 ∷ rest)) ≡ rest
 line_drop ds rest =
     let size : length ds + 6 ≡ suc (suc (suc (suc (suc (length ds + 1))))) = omega arith in
     ap (λ n. drop n (108 ∷ 101 ∷ 97 ∷ 102 ∷ 32 ∷ (ds ++ 32 ∷ rest))) size ∙ drop-append-add ds (32 ∷ rest) 1
-
-no_more : (a b : ℕ) → a ≤ b → nat_lt b a ≡ false
-no_more a b low = grind (arith, nat_tests)
 
 leaf_value : (m i : ℕ) (q : Board) (fenned : Option Board) (named : ℕ) → named ≡ i → fenned ≡ Some q → i < m
     → leaf_if m named (kept (shared_leaf_line named) (shared_leaf_line i q) fenned) ≡ Some (record { position = q; part = Leaf i })
@@ -99,80 +80,14 @@ shared_leaf_again m i q valid low high =
     rw (or_from (nat_lt (length line) (number_len line + 6)) (nat_lt 10 (number_len line)) long short)
     (leaf_value m i q (position_if (fen (drop (number_len line + 6) line))) (value_of 10 (take (number_len line) (drop 5 line))) named fenned low)
 
--- the line of a position with small material
-pub small_line_again : (q : Board) → IsValid q → small_of (small_line q) ≡ Some q
-unfolding small_of small_line
-small_line_again q valid =
-    let long : nat_lt (length (small_line q)) 6 ≡ false = grind (arith, nat_tests) in
-    rw (long, written_is_read q valid) (rw (text_same (small_line q)) refl)
-
--- and the line of one with lone minor pieces
-pub lone_line_again : (q : Board) → IsValid q → lone_of (lone_line q) ≡ Some q
-unfolding lone_of lone_line
-lone_line_again q valid =
-    let long : nat_lt (length (lone_line q)) 5 ≡ false = grind (arith, nat_tests) in
-    rw (long, written_is_read q valid) (rw (text_same (lone_line q)) refl)
-
--- lines of one kind are not of another
-inner_is_no_small : (q : Board) (o : Option Board) → kept inner_line (small_line q) o ≡ None
-unfolding inner_line small_line
-inner_is_no_small q None = refl
-inner_is_no_small q (Some x) = refl
-
-small_no_inner : (q : Board) → inner_of (small_line q) ≡ None
-unfolding inner_of
-small_no_inner q = if_none (nat_lt (length (small_line q)) 6) _ (inner_is_no_small q (position_if (fen (drop 6 (small_line q)))))
-
-inner_is_no_lone : (q : Board) (o : Option Board) → kept inner_line (lone_line q) o ≡ None
-unfolding inner_line lone_line
-inner_is_no_lone q None = refl
-inner_is_no_lone q (Some x) = refl
-
-lone_no_inner : (q : Board) → inner_of (lone_line q) ≡ None
-unfolding inner_of
-lone_no_inner q = if_none (nat_lt (length (lone_line q)) 6) _ (inner_is_no_lone q (position_if (fen (drop 6 (lone_line q)))))
-
-small_is_no_lone : (q : Board) (o : Option Board) → kept small_line (lone_line q) o ≡ None
-unfolding small_line lone_line
-small_is_no_lone q None = refl
-small_is_no_lone q (Some x) = refl
-
-lone_no_small : (q : Board) → small_of (lone_line q) ≡ None
-unfolding small_of
-lone_no_small q = if_none (nat_lt (length (lone_line q)) 6) _ (small_is_no_lone q (position_if (fen (drop 6 (lone_line q)))))
-
-inner_is_no_leaf : (i : ℕ) (q : Board) (o : Option Board) → kept inner_line (shared_leaf_line i q) o ≡ None
-unfolding inner_line shared_leaf_line
-inner_is_no_leaf i q None = refl
-inner_is_no_leaf i q (Some x) = refl
-
-leaf_no_inner : (i : ℕ) (q : Board) → inner_of (shared_leaf_line i q) ≡ None
-unfolding inner_of
-leaf_no_inner i q = if_none (nat_lt (length (shared_leaf_line i q)) 6) _ (inner_is_no_leaf i q (position_if (fen (drop 6 (shared_leaf_line i q)))))
-
-small_is_no_leaf : (i : ℕ) (q : Board) (o : Option Board) → kept small_line (shared_leaf_line i q) o ≡ None
-unfolding small_line shared_leaf_line
-small_is_no_leaf i q None = refl
-small_is_no_leaf i q (Some x) = refl
-
-leaf_no_small : (i : ℕ) (q : Board) → small_of (shared_leaf_line i q) ≡ None
-unfolding small_of
-leaf_no_small i q = if_none (nat_lt (length (shared_leaf_line i q)) 6) _ (small_is_no_leaf i q (position_if (fen (drop 6 (shared_leaf_line i q)))))
-
-lone_is_no_leaf : (i : ℕ) (q : Board) (o : Option Board) → kept lone_line (shared_leaf_line i q) o ≡ None
-unfolding lone_line shared_leaf_line
-lone_is_no_leaf i q None = refl
-lone_is_no_leaf i q (Some x) = refl
-
-leaf_no_lone : (i : ℕ) (q : Board) → lone_of (shared_leaf_line i q) ≡ None
-unfolding lone_of
-leaf_no_lone i q = if_none (nat_lt (length (shared_leaf_line i q)) 5) _ (lone_is_no_leaf i q (position_if (fen (drop 5 (shared_leaf_line i q)))))
+leaf_labelled : (i : ℕ) (q : Board) → label_of (shared_leaf_line i q) ≡ Some labels.Leaf
+unfolding shared_leaf_line
+leaf_labelled i q = label_again labels.Leaf (decimal i ++ 32 ∷ fen_text q)
 
 -- the line of a node
 pub node_line_again : (m : ℕ) (q : Board) (part : SharedPart) (n : ℕ) (rest : List (List ℕ)) → m < 4294967296 → IsValid q → Names m part
     → wanted (shared_node_of m) kinds.Node n (shared_part_lines q part ++ rest) ≡ found (record { position = q; part = part }) (n + 1) rest
 unfolding wanted shared_node_of
-node_line_again m q Inner n rest high valid named = rw (inner_again q valid) refl
-node_line_again m q (Leaf i) n rest high valid named = rw (leaf_no_inner i q, leaf_no_small i q, leaf_no_lone i q, shared_leaf_again m i q valid named high) refl
-node_line_again m q Small n rest high valid named = rw (small_no_inner q, small_line_again q valid) refl
-node_line_again m q Lone n rest high valid named = rw (lone_no_inner q, lone_no_small q, lone_line_again q valid) refl
+node_line_again m q Inner n rest high valid named = rw (line_labelled labels.Inner q, position_again labels.Inner q valid) refl
+node_line_again m q (Leaf i) n rest high valid named = rw (leaf_labelled i q, shared_leaf_again m i q valid named high) refl
+node_line_again m q (Men reason) n rest high valid named = rw (line_labelled (labels.Men reason) q, position_again (labels.Men reason) q valid) refl

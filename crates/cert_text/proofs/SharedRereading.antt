@@ -7,18 +7,19 @@ use Rattle.cha_fen.specs.Written.{fen_text}
 use Rattle.mob_sets.specs.Rows.{SetRows}
 use Rattle.cha_cert.specs.declared.shared.SharedNode.{SharedNode}
 use Rattle.cha_cert.specs.declared.shared.SharedPart.{SharedPart}
-use Rattle.cha_cert.specs.declared.shared.SharedPart.TheVariants.{Inner, Leaf, Small, Lone}
+use Rattle.cha_cert.specs.declared.shared.SharedPart.TheVariants.{Inner, Leaf, Men}
 use Rattle.cha_cert.specs.Shared.{Shared, Names, AreNamed}
 use Rattle.cert_text.specs.declared.faults.CertFault.{CertFault}
 use Rattle.cert_text.specs.declared.faults.CertKind.TheVariants as kinds
-use Rattle.cert_text.specs.Spelled.{end_line, winner_line, count_line, loose_line, inner_line, small_line, lone_line}
+use Rattle.cert_text.specs.declared.labels.Label.TheVariants as labels
+use Rattle.cert_text.specs.Spelled.{end_line, winner_line, count_line, loose_line}
 use Rattle.cert_text.specs.SharedSpelled.{sets_line, shared_leaf_line, set_lines, shared_part_lines, shared_node_lines, shared_header_line, shared_lines, shared_text}
 use Rattle.cert_text.specs.TextLines.{lines_of, tail_of}
 use Rattle.cert_text.specs.Texts.{found, fixed_of, wanted, begins_reach, ended}
 use Rattle.cert_text.specs.SharedTexts.{sets_after, shared_node_of, many_after, shared_cert_of}
 use Rattle.cert_text.specs.Writable.{IsWritableSets, HasValidPosition, IsSharedText}
 use Rattle.cert_text.proofs.SharedParts.{shared_parts_read}
-use Rattle.cert_text.proofs.Plain.{plain, ArePlain, both_plain, one_plain, fen_plain, decimal_plain, winner_plain, count_plain, sets_plain, plain_append}
+use Rattle.cert_text.proofs.Plain.{plain, ArePlain, both_plain, one_plain, fen_plain, decimal_plain, position_plain, winner_plain, count_plain, sets_plain, plain_append}
 use Rattle.cert_text.proofs.LinesAgain.{lines_again, no_tail, fixed_again, winner_again, count_again, loose_again}
 use Rattle.cert_text.proofs.Rereading.{NotRow, rows_again, one_saying}
 use Rattle.cert_text.proofs.SharedAgain.{sets_again, node_line_again}
@@ -29,10 +30,9 @@ unfolding sets_line
 sets_line_plain n small = both_plain (codes "sets ") (decimal n) refl (decimal_plain n small)
 
 node_plain : (m : ℕ) (q : Board) (part : SharedPart) → m < 2 ^ 64 → Names m part → ArePlain (shared_part_lines q part)
-unfolding inner_line small_line lone_line shared_leaf_line
-node_plain m q Inner small named = (both_plain (codes "inner ") (fen_text q) refl (fen_plain q), tt)
-node_plain m q Small small named = (both_plain (codes "small ") (fen_text q) refl (fen_plain q), tt)
-node_plain m q Lone small named = (both_plain (codes "lone ") (fen_text q) refl (fen_plain q), tt)
+unfolding shared_leaf_line
+node_plain m q Inner small named = (position_plain labels.Inner q, tt)
+node_plain m q (Men reason) small named = (position_plain (labels.Men reason) q, tt)
 node_plain m q (Leaf i) small named =
     (both_plain (codes "leaf ") (decimal i ++ 32 ∷ fen_text q) refl (both_plain (decimal i) (32 ∷ fen_text q) (decimal_plain i (omega (arith, small, named))) (one_plain 32 (fen_text q) (omega arith) (fen_plain q))), tt)
 

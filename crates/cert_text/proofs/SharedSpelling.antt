@@ -8,17 +8,21 @@ use Rattle.cha_board.specs.Board.{Board}
 use Rattle.cha_fen.specs.Fen.{fen}
 use Rattle.mob_sets.specs.Rows.{SetRows}
 use Rattle.cha_cert.specs.declared.shared.SharedNode.{SharedNode}
-use Rattle.cha_cert.specs.declared.shared.SharedPart.TheVariants.{Inner, Leaf, Small, Lone}
+use Rattle.cha_cert.specs.declared.shared.SharedPart.{SharedPart}
+use Rattle.cha_cert.specs.declared.shared.SharedPart.TheVariants.{Inner, Leaf, Men}
 use Rattle.cert_text.specs.declared.faults.CertFault.{CertFault}
 use Rattle.cert_text.specs.declared.faults.CertKind.TheVariants as kinds
 use Rattle.cert_text.specs.declared.shared_reader.SharedCertificate.{SharedCertificate}
 use Rattle.cert_text.specs.Digits.{value_of}
-use Rattle.cert_text.specs.Spelled.{end_line, winner_line, count_line, row_line, small_line, lone_line, lines_text}
-use Rattle.cert_text.specs.SharedSpelled.{sets_line, shared_leaf_line, set_lines, shared_node_lines, shared_header_line, shared_lines, shared_text}
+use Rattle.cert_text.specs.declared.labels.Label.{Label}
+use Rattle.cert_text.specs.declared.labels.Label.TheVariants as labels
+use Rattle.cert_text.specs.Labels.{label_of}
+use Rattle.cert_text.specs.Spelled.{end_line, winner_line, count_line, row_line, position_line, lines_text}
+use Rattle.cert_text.specs.SharedSpelled.{sets_line, shared_leaf_line, set_lines, shared_part_lines, shared_node_lines, shared_header_line, shared_lines, shared_text}
 use Rattle.cert_text.specs.TextLines.{lines_of, tail_of}
-use Rattle.cert_text.specs.Texts.{Found, and_then, fixed_of, winner_of, count_of, loose_of, kept, position_if, inner_of, on_some, wanted, rows_after, ended}
-use Rattle.cert_text.specs.SharedTexts.{small_number, sets_of, number_len, leaf_if, leaf_numbered, shared_leaf_of, small_of, lone_of, shared_node_of, sets_after, many_after, shared_cert_of}
-use Rattle.cert_text.proofs.Spelling.{joined, then_ok, wanted_ok, if_some, if_kept, if_left, kept_ok, fixed_ok, winner_ok, count_ok, loose_ok, inner_ok, rows_ok}
+use Rattle.cert_text.specs.Texts.{Found, and_then, fixed_of, winner_of, count_of, loose_of, kept, position_if, position_of, on_some, wanted, rows_after, ended}
+use Rattle.cert_text.specs.SharedTexts.{small_number, sets_of, number_len, leaf_if, leaf_numbered, shared_leaf_of, node_if, shared_labelled, shared_node_of, sets_after, many_after, shared_cert_of}
+use Rattle.cert_text.proofs.Spelling.{joined, then_ok, wanted_ok, if_some, if_kept, if_left, kept_ok, fixed_ok, winner_ok, count_ok, loose_ok, position_ok, rows_ok}
 
 sets_ok : (line : List ℕ) (m : ℕ) → sets_of line ≡ Some m → (line ≡ sets_line m) × (m < 4294967296)
 unfolding sets_of
@@ -45,43 +49,23 @@ shared_leaf_ok m line node e =
     let o = position_if (fen (drop (n + 6) line)) in
     leaf_cases m i line o node refl (kept (shared_leaf_line i) line o) refl (if_left (nat_lt (length line) (n + 6) || nat_lt 10 n) (leaf_numbered m n line) node e)
 
-small_ok : (line : List ℕ) (q : Board) → small_of line ≡ Some q → line ≡ small_line q
-unfolding small_of
-small_ok line q e = (kept_ok small_line line _ q (if_left (nat_lt (length line) 6) _ q e)).1
-
-lone_ok : (line : List ℕ) (q : Board) → lone_of line ≡ Some q → line ≡ lone_line q
-unfolding lone_of
-lone_ok line q e = (kept_ok lone_line line _ q (if_left (nat_lt (length line) 5) _ q e)).1
-
-lone_cases : (m : ℕ) (line : List ℕ) (node : SharedNode) (lone : Option Board) → lone_of line ≡ lone
-    → on_some lone (shared_leaf_of m line) (λ q. Some (record { position = q; part = Lone })) ≡ Some node → line ∷ [] ≡ shared_node_lines node
-lone_cases m line node None s e = shared_leaf_ok m line node e
-lone_cases m line node (Some q) s e =
-    let is : record { position = q; part = Lone } ≡ node = cc in
-    ap (λ l. l ∷ []) (lone_ok line q s) ∙ ap shared_node_lines is
-
-small_cases : (m : ℕ) (line : List ℕ) (node : SharedNode) (small : Option Board) → small_of line ≡ small
-    → on_some small (on_some (lone_of line) (shared_leaf_of m line) (λ q. Some (record { position = q; part = Lone }))) (λ q. Some (record { position = q; part = Small })) ≡ Some node
+-- the line of another node
+named_ok : (label : Label) (part : SharedPart) (line : List ℕ) (node : SharedNode) (o : Option Board) → position_of label line ≡ o → ((q : Board) → position_line label q ∷ [] ≡ shared_part_lines q part) → node_if part o ≡ Some node
     → line ∷ [] ≡ shared_node_lines node
-small_cases m line node None s e = lone_cases m line node (lone_of line) refl e
-small_cases m line node (Some q) s e =
-    let is : record { position = q; part = Small } ≡ node = cc in
-    ap (λ l. l ∷ []) (small_ok line q s) ∙ ap shared_node_lines is
+named_ok label part line node None s spelled e = cc
+named_ok label part line node (Some q) s spelled e =
+    let is : record { position = q; part = part } ≡ node = cc in
+    ap (λ l. l ∷ []) (position_ok label line q s) ∙ spelled q ∙ ap shared_node_lines is
 
-node_cases : (m : ℕ) (line : List ℕ) (node : SharedNode) (inner : Option Board) → inner_of line ≡ inner
-    → on_some inner
-    (on_some (small_of line) (on_some (lone_of line) (shared_leaf_of m line) (λ q. Some (record { position = q; part = Lone }))) (λ q. Some (record { position = q; part = Small })))
-    (λ q. Some (record { position = q; part = Inner }))
-    ≡ Some node
-    → line ∷ [] ≡ shared_node_lines node
-node_cases m line node None s e = small_cases m line node (small_of line) refl e
-node_cases m line node (Some q) s e =
-    let is : record { position = q; part = Inner } ≡ node = cc in
-    ap (λ l. l ∷ []) (inner_ok line q s) ∙ ap shared_node_lines is
+labelled_ok : (m : ℕ) (line : List ℕ) (node : SharedNode) (o : Option Label) → on_some o None (shared_labelled m line) ≡ Some node → line ∷ [] ≡ shared_node_lines node
+labelled_ok m line node None e = cc
+labelled_ok m line node (Some labels.Inner) e = named_ok labels.Inner Inner line node (position_of labels.Inner line) refl (λ q. refl) e
+labelled_ok m line node (Some labels.Leaf) e = shared_leaf_ok m line node e
+labelled_ok m line node (Some (labels.Men reason)) e = named_ok (labels.Men reason) (Men reason) line node (position_of (labels.Men reason) line) refl (λ q. refl) e
 
 shared_node_ok : (m : ℕ) (line : List ℕ) (node : SharedNode) → shared_node_of m line ≡ Some node → line ∷ [] ≡ shared_node_lines node
 unfolding shared_node_of
-shared_node_ok m line node e = node_cases m line node (inner_of line) refl e
+shared_node_ok m line node e = labelled_ok m line node (label_of line) e
 
 one_node_ok : (m n : ℕ) (lines : List (List ℕ)) (f : Found SharedNode) → wanted (shared_node_of m) kinds.Node n lines ≡ Ok f → lines ≡ shared_node_lines f.value ++ f.lines
 one_node_ok m n lines f e =

@@ -17,9 +17,12 @@ use Rattle.cert_text.specs.declared.faults.CertKind.{CertKind}
 use Rattle.cert_text.specs.declared.faults.CertKind.TheVariants as kinds
 use Rattle.cert_text.specs.declared.reader.Certificate.{Certificate}
 use Rattle.cert_text.specs.Digits.{value_of}
-use Rattle.cert_text.specs.Spelled.{header_line, end_line, winner_line, count_line, loose_line, row_line, inner_line, leaf_line, node_lines, cert_lines, lines_text, cert_text}
+use Rattle.cert_text.specs.declared.labels.Label.{Label}
+use Rattle.cert_text.specs.declared.labels.Label.TheVariants as labels
+use Rattle.cert_text.specs.Labels.{label_word, label_of}
+use Rattle.cert_text.specs.Spelled.{header_line, end_line, winner_line, count_line, loose_line, row_line, position_line, node_lines, cert_lines, lines_text, cert_text}
 use Rattle.cert_text.specs.TextLines.{lines_of, tail_of}
-use Rattle.cert_text.specs.Texts.{Found, found, misfit, is_text, kept, fixed_of, winner_of, small_count, count_of, loose_of, follows, following, row_of, inner_of, leaf_of, and_then, on_some, wanted, begins_reach, rows_after, leaf_after, node_after, nodes_after, ended, cert_of}
+use Rattle.cert_text.specs.Texts.{Found, found, misfit, is_text, kept, fixed_of, winner_of, small_count, count_of, loose_of, follows, following, row_of, position_of, and_then, on_some, wanted, begins_reach, rows_after, leaf_after, node_labelled, node_after, nodes_after, ended, cert_of}
 
 -- a text is its lines and what is behind them
 join_step : (b : ℕ) (bs : List ℕ) (v : Bool) (lines : List (List ℕ)) → (b == 10) ≡ v → lines_of bs ≡ lines → lines_text lines ++ tail_of bs ≡ bs → lines_text (lines_of (b ∷ bs)) ++ tail_of (b ∷ bs) ≡ b ∷ bs
@@ -122,13 +125,9 @@ row_ok : (rows : List Row) (line : List ℕ) (row : Row) → row_of rows line �
 unfolding row_of
 row_ok rows line row e = (kept_ok row_line line _ row (following_ok rows _ row (if_kept (length line == 27) _ row e))).1
 
-pub inner_ok : (line : List ℕ) (q : Board) → inner_of line ≡ Some q → line ≡ inner_line q
-unfolding inner_of
-inner_ok line q e = (kept_ok inner_line line _ q (if_left (nat_lt (length line) 6) _ q e)).1
-
-leaf_ok : (line : List ℕ) (q : Board) → leaf_of line ≡ Some q → line ≡ leaf_line q
-unfolding leaf_of
-leaf_ok line q e = (kept_ok leaf_line line _ q (if_left (nat_lt (length line) 5) _ q e)).1
+pub position_ok : (label : Label) (line : List ℕ) (q : Board) → position_of label line ≡ Some q → line ≡ position_line label q
+unfolding position_of
+position_ok label line q e = (kept_ok (position_line label) line _ q (if_left (nat_lt (length line) (length (label_word label) + 1)) _ q e)).1
 
 -- rows behind rows
 pub record RowsRead (rows : List Row) (lines : List (List ℕ)) (f : Found (List Row)) : Type 0 where
@@ -164,7 +163,7 @@ rows_ok tail rows n [] f e = rows_none tail rows n f (begins_reach tail) e
 rows_ok tail rows n (line ∷ lines) f e = mutual_rows tail rows n line lines f (begins_reach line) (row_of rows line) refl (λ row. rows_ok tail (rows ++ row ∷ []) (n + 1) lines f) e
 
 -- a node, by its lines
-leaf_read : (tail : List ℕ) (q : Board) (n : ℕ) (lines : List (List ℕ)) (f : Found Node) → leaf_after tail q n lines ≡ Ok f → leaf_line q ∷ lines ≡ node_lines f.value ++ f.lines
+leaf_read : (tail : List ℕ) (q : Board) (n : ℕ) (lines : List (List ℕ)) (f : Found Node) → leaf_after tail q n lines ≡ Ok f → position_line labels.Leaf q ∷ lines ≡ node_lines f.value ++ f.lines
 unfolding leaf_after
 leaf_read tail q n lines f e =
     let a = then_ok (wanted loose_of kinds.Loose n lines) _ f e in
@@ -175,23 +174,31 @@ leaf_read tail q n lines f e =
     let one : record { value = node; number = b.value.number; lines = b.value.lines } ≡ f = cc in
     let says = loose_ok loose.line a.value.value loose.says in
     let behind : a.value.lines ≡ map row_line b.value.value ++ b.value.lines = rows.is ∙ ap (λ rs. map row_line rs ++ b.value.lines) (sym rows.value) in
-    let here : leaf_line q ∷ lines ≡ node_lines node ++ b.value.lines = ap (λ ls. leaf_line q ∷ ls) (loose.is ∙ (λ i. says i ∷ behind i)) in
+    let here : position_line labels.Leaf q ∷ lines ≡ node_lines node ++ b.value.lines = ap (λ ls. position_line labels.Leaf q ∷ ls) (loose.is ∙ (λ i. says i ∷ behind i)) in
     here ∙ ap (λ (g : Found Node). node_lines g.value ++ g.lines) one
 
-node_cases : (tail : List ℕ) (n : ℕ) (line : List ℕ) (lines : List (List ℕ)) (f : Found Node) (inner leaf : Option Board) → inner_of line ≡ inner → leaf_of line ≡ leaf
-    → on_some inner (on_some leaf (misfit n kinds.Node) (λ q. leaf_after tail q (n + 1) lines)) (λ q. found (record { position = q; part = Inner }) (n + 1) lines) ≡ Ok f
+behind_ok : (tail : List ℕ) (label : Label) (q : Board) (n : ℕ) (lines : List (List ℕ)) (f : Found Node) → node_labelled tail label q n lines ≡ Ok f → position_line label q ∷ lines ≡ node_lines f.value ++ f.lines
+behind_ok tail labels.Inner q n lines f e =
+    let one : record { value = record { position = q; part = Inner }; number = n + 1; lines = lines } ≡ f = cc in
+    ap (λ (g : Found Node). node_lines g.value ++ g.lines) one
+behind_ok tail labels.Leaf q n lines f e = leaf_read tail q (n + 1) lines f e
+behind_ok tail (labels.Men reason) q n lines f e = cc
+
+position_cases : (tail : List ℕ) (n : ℕ) (line : List ℕ) (lines : List (List ℕ)) (f : Found Node) (label : Label) (o : Option Board) → position_of label line ≡ o
+    → on_some o (misfit n kinds.Node) (λ q. node_labelled tail label q n lines) ≡ Ok f → line ∷ lines ≡ node_lines f.value ++ f.lines
+position_cases tail n line lines f label None s e = cc
+position_cases tail n line lines f label (Some q) s e = ap (λ l. l ∷ lines) (position_ok label line q s) ∙ behind_ok tail label q n lines f e
+
+label_cases : (tail : List ℕ) (n : ℕ) (line : List ℕ) (lines : List (List ℕ)) (f : Found Node) (o : Option Label)
+    → on_some o (misfit n kinds.Node) (λ label. on_some (position_of label line) (misfit n kinds.Node) (λ q. node_labelled tail label q n lines)) ≡ Ok f
     → line ∷ lines ≡ node_lines f.value ++ f.lines
-node_cases tail n line lines f (Some q) leaf s t e =
-    let node : Node = record { position = q; part = Inner } in
-    let one : record { value = node; number = n + 1; lines = lines } ≡ f = cc in
-    ap (λ l. l ∷ lines) (inner_ok line q s) ∙ ap (λ (g : Found Node). node_lines g.value ++ g.lines) one
-node_cases tail n line lines f None (Some q) s t e = ap (λ l. l ∷ lines) (leaf_ok line q t) ∙ leaf_read tail q (n + 1) lines f e
-node_cases tail n line lines f None None s t e = cc
+label_cases tail n line lines f None e = cc
+label_cases tail n line lines f (Some label) e = position_cases tail n line lines f label (position_of label line) refl e
 
 node_ok : (tail : List ℕ) (n : ℕ) (lines : List (List ℕ)) (f : Found Node) → node_after tail n lines ≡ Ok f → lines ≡ node_lines f.value ++ f.lines
 unfolding node_after
 node_ok tail n [] f e = cc
-node_ok tail n (line ∷ lines) f e = node_cases tail n line lines f (inner_of line) (leaf_of line) refl refl e
+node_ok tail n (line ∷ lines) f e = label_cases tail n line lines f (label_of line) e
 
 record NodesRead (k : ℕ) (nodes : List Node) (lines : List (List ℕ)) (f : Found (List Node)) : Type 0 where
   more : List Node

@@ -1,5 +1,6 @@
 -- what public contracts say
 pub mod Digits
+pub mod Labels
 pub mod Spelled
 pub mod SharedSpelled
 pub mod TextLines

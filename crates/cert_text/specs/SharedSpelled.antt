@@ -7,9 +7,10 @@ use Rattle.cha_fen.specs.Written.{fen_text}
 use Rattle.mob_sets.specs.Rows.{SetRows}
 use Rattle.cha_cert.specs.declared.shared.SharedNode.{SharedNode}
 use Rattle.cha_cert.specs.declared.shared.SharedPart.{SharedPart}
-use Rattle.cha_cert.specs.declared.shared.SharedPart.TheVariants.{Inner, Leaf, Small, Lone}
+use Rattle.cha_cert.specs.declared.shared.SharedPart.TheVariants.{Inner, Leaf, Men}
 use Rattle.cha_cert.specs.Shared.{Shared}
-use Rattle.cert_text.specs.Spelled.{winner_line, count_line, loose_line, row_line, inner_line, small_line, lone_line, end_line, lines_text}
+use Rattle.cert_text.specs.declared.labels.Label.TheVariants as labels
+use Rattle.cert_text.specs.Spelled.{winner_line, count_line, loose_line, row_line, position_line, end_line, lines_text}
 
 -- sets 1
 unfoldable pub sets_line : ℕ → List ℕ
@@ -25,10 +26,9 @@ set_lines sets = loose_line sets.loose ∷ map row_line sets.rows
 
 -- the line of a node
 abbrev pub shared_part_lines : Board → SharedPart → List (List ℕ)
-shared_part_lines q Inner = inner_line q ∷ []
+shared_part_lines q Inner = position_line labels.Inner q ∷ []
 shared_part_lines q (Leaf i) = shared_leaf_line i q ∷ []
-shared_part_lines q Small = small_line q ∷ []
-shared_part_lines q Lone = lone_line q ∷ []
+shared_part_lines q (Men reason) = position_line (labels.Men reason) q ∷ []
 
 abbrev pub shared_node_lines : SharedNode → List (List ℕ)
 shared_node_lines node = shared_part_lines node.position node.part

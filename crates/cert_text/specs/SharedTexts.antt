@@ -7,15 +7,19 @@ use Rattle.cha_board.specs.Board.{Board}
 use Rattle.cha_fen.specs.Fen.{fen}
 use Rattle.mob_sets.specs.Rows.{SetRows}
 use Rattle.cha_cert.specs.declared.shared.SharedNode.{SharedNode}
-use Rattle.cha_cert.specs.declared.shared.SharedPart.TheVariants.{Inner, Leaf, Small, Lone}
+use Rattle.cha_cert.specs.declared.shared.SharedPart.{SharedPart}
+use Rattle.cha_cert.specs.declared.shared.SharedPart.TheVariants.{Inner, Leaf, Men}
 use Rattle.cert_text.specs.declared.faults.CertFault.{CertFault}
 use Rattle.cert_text.specs.declared.faults.CertKind.TheVariants as kinds
 use Rattle.cert_text.specs.declared.shared_reader.SharedCertificate.{SharedCertificate}
 use Rattle.cert_text.specs.Digits.{value_of}
-use Rattle.cert_text.specs.Spelled.{small_line, lone_line, end_line}
+use Rattle.cert_text.specs.declared.labels.Label.{Label}
+use Rattle.cert_text.specs.declared.labels.Label.TheVariants as labels
+use Rattle.cert_text.specs.Labels.{label_of}
+use Rattle.cert_text.specs.Spelled.{end_line}
 use Rattle.cert_text.specs.SharedSpelled.{sets_line, shared_leaf_line, shared_header_line}
 use Rattle.cert_text.specs.TextLines.{lines_of, tail_of}
-use Rattle.cert_text.specs.Texts.{Found, found, and_then, on_some, kept, fixed_of, winner_of, count_of, loose_of, position_if, inner_of, wanted, rows_after, ended}
+use Rattle.cert_text.specs.Texts.{Found, found, and_then, on_some, kept, fixed_of, winner_of, count_of, loose_of, position_if, position_of, wanted, rows_after, ended}
 
 -- a number of sets: from 0 to 4294967295
 abbrev pub small_number : ℕ → Option ℕ
@@ -43,20 +47,20 @@ unfoldable pub shared_leaf_of : ℕ → List ℕ → Option SharedNode
 shared_leaf_of m line =
     if nat_lt (length line) (number_len line + 6) || nat_lt 10 (number_len line) then None else leaf_numbered m (number_len line) line
 
-unfoldable pub small_of : List ℕ → Option Board
-small_of line = if nat_lt (length line) 6 then None else kept small_line line (position_if (fen (drop 6 line)))
+-- a node on the position that is there, if one is
+abbrev pub node_if : SharedPart → Option Board → Option SharedNode
+node_if part None = None
+node_if part (Some q) = Some (record { position = q; part = part })
 
-unfoldable pub lone_of : List ℕ → Option Board
-lone_of line = if nat_lt (length line) 5 then None else kept lone_line line (position_if (fen (drop 5 line)))
+-- the node of a line with a label, where so many sets are there
+abbrev pub shared_labelled : ℕ → List ℕ → Label → Option SharedNode
+shared_labelled m line labels.Inner = node_if Inner (position_of labels.Inner line)
+shared_labelled m line labels.Leaf = shared_leaf_of m line
+shared_labelled m line (labels.Men reason) = node_if (Men reason) (position_of (labels.Men reason) line)
 
 -- a node's line, where so many sets are there
 unfoldable pub shared_node_of : ℕ → List ℕ → Option SharedNode
-shared_node_of m line =
-    on_some (inner_of line)
-    (on_some (small_of line)
-    (on_some (lone_of line) (shared_leaf_of m line) (λ q. Some (record { position = q; part = Lone })))
-    (λ q. Some (record { position = q; part = Small })))
-    (λ q. Some (record { position = q; part = Inner }))
+shared_node_of m line = on_some (label_of line) None (shared_labelled m line)
 
 -- the lines of sets
 unfoldable pub sets_after : List ℕ → ℕ → List (List ℕ) → Result (Found SetRows) CertFault

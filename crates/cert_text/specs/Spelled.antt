@@ -10,8 +10,11 @@ use Rattle.cha_fen.specs.Written.{fen_text}
 use Rattle.mob_sets.specs.Rows.{Row}
 use Rattle.cha_cert.specs.declared.nodes.Node.{Node}
 use Rattle.cha_cert.specs.declared.nodes.Part.{Part}
-use Rattle.cha_cert.specs.declared.nodes.Part.TheVariants.{Inner, Leaf, Small, Lone}
+use Rattle.cha_cert.specs.declared.nodes.Part.TheVariants.{Inner, Leaf, Men}
+use Rattle.cert_text.specs.declared.labels.Label.{Label}
+use Rattle.cert_text.specs.declared.labels.Label.TheVariants as labels
 use Rattle.cert_text.specs.Digits.{hex_digits}
+use Rattle.cert_text.specs.Labels.{label_word}
 
 -- a set as sixteen hexadecimal digits: bit s of the number stands for square s
 abbrev pub set_text : List Bool → List ℕ
@@ -36,27 +39,14 @@ row_line row =
     codes "reach " ++ square_text row.origin ++ (32 ∷ kind_letter row.kind ∷ 32 ∷ set_text row.squares)
 
 -- inner 8/1k6/8/8/8/8/8/4K3 w - -
-unfoldable pub inner_line : Board → List ℕ
-inner_line q = codes "inner " ++ fen_text q
+unfoldable pub position_line : Label → Board → List ℕ
+position_line label q = label_word label ++ 32 ∷ fen_text q
 
--- leaf 8/1k6/8/8/8/8/8/4K3 w - -
-unfoldable pub leaf_line : Board → List ℕ
-leaf_line q = codes "leaf " ++ fen_text q
-
--- small 8/8/8/4k3/3q4/8/8/4KN2 w - -
-unfoldable pub small_line : Board → List ℕ
-small_line q = codes "small " ++ fen_text q
-
--- lone 8/8/8/4k3/3q4/7q/8/4KN2 w - -
-unfoldable pub lone_line : Board → List ℕ
-lone_line q = codes "lone " ++ fen_text q
-
--- the lines of a node; version 1 has none for small material and for lone minor pieces, and is asked of no such node
+-- the lines of a node; version 1 has none for what the men alone show, and is asked of no such node
 abbrev pub part_lines : Board → Part → List (List ℕ)
-part_lines q Inner = inner_line q ∷ []
-part_lines q (Leaf sets) = leaf_line q ∷ loose_line sets.loose ∷ map row_line sets.rows
-part_lines q Small = small_line q ∷ []
-part_lines q Lone = lone_line q ∷ []
+part_lines q Inner = position_line labels.Inner q ∷ []
+part_lines q (Leaf sets) = position_line labels.Leaf q ∷ loose_line sets.loose ∷ map row_line sets.rows
+part_lines q (Men reason) = position_line (labels.Men reason) q ∷ []
 
 abbrev pub node_lines : Node → List (List ℕ)
 node_lines node = part_lines node.position node.part
@@ -65,8 +55,7 @@ node_lines node = part_lines node.position node.part
 abbrev pub IsInnerOrLeaf : Part → Type 0
 IsInnerOrLeaf Inner = ⊤
 IsInnerOrLeaf (Leaf sets) = ⊤
-IsInnerOrLeaf Small = ⊥
-IsInnerOrLeaf Lone = ⊥
+IsInnerOrLeaf (Men reason) = ⊥
 
 abbrev pub AreInnerOrLeaves : List Node → Type 0
 AreInnerOrLeaves nodes = All (λ node. IsInnerOrLeaf node.part) nodes

@@ -19,7 +19,10 @@ use Rattle.cert_text.specs.declared.faults.CertKind.{CertKind}
 use Rattle.cert_text.specs.declared.faults.CertKind.TheVariants as kinds
 use Rattle.cert_text.specs.declared.reader.Certificate.{Certificate}
 use Rattle.cert_text.specs.Digits.{value_of}
-use Rattle.cert_text.specs.Spelled.{winner_line, count_line, loose_line, row_line, inner_line, leaf_line, header_line, end_line}
+use Rattle.cert_text.specs.declared.labels.Label.{Label}
+use Rattle.cert_text.specs.declared.labels.Label.TheVariants as labels
+use Rattle.cert_text.specs.Labels.{label_word, label_of}
+use Rattle.cert_text.specs.Spelled.{winner_line, count_line, loose_line, row_line, position_line, header_line, end_line}
 use Rattle.cert_text.specs.TextLines.{lines_of, tail_of}
 
 abbrev pub is_text : List ℕ → List ℕ → Bool
@@ -72,11 +75,11 @@ abbrev pub position_if : Result Board FenFault → Option Board
 position_if (Ok q) = Some q
 position_if (Err fault) = None
 
-unfoldable pub inner_of : List ℕ → Option Board
-inner_of line = if nat_lt (length line) 6 then None else kept inner_line line (position_if (fen (drop 6 line)))
-
-unfoldable pub leaf_of : List ℕ → Option Board
-leaf_of line = if nat_lt (length line) 5 then None else kept leaf_line line (position_if (fen (drop 5 line)))
+-- the position of a line with a label
+unfoldable pub position_of : Label → List ℕ → Option Board
+position_of label line =
+    if nat_lt (length line) (length (label_word label) + 1) then None
+    else kept (position_line label) line (position_if (fen (drop (length (label_word label) + 1) line)))
 
 -- What a reader found, the number of the line behind it, and the lines from there on.
 pub record Found (A : Type 0) : Type 0 where
@@ -121,13 +124,18 @@ leaf_after tail q n lines =
     and_then (rows_after tail [] loose.number loose.lines) (λ rows.
     found (record { position = q; part = Leaf (record { rows = rows.value; loose = loose.value }) }) rows.number rows.lines))
 
+-- what stands behind the line of a position; version 1 has no such line for what the men alone show
+abbrev pub node_labelled : List ℕ → Label → Board → ℕ → List (List ℕ) → Result (Found Node) CertFault
+node_labelled tail labels.Inner q n lines = found (record { position = q; part = Inner }) (n + 1) lines
+node_labelled tail labels.Leaf q n lines = leaf_after tail q (n + 1) lines
+node_labelled tail (labels.Men reason) q n lines = misfit n kinds.Node
+
 -- a node's lines
 unfoldable pub node_after : List ℕ → ℕ → List (List ℕ) → Result (Found Node) CertFault
 node_after tail n [] = misfit n kinds.Node
 node_after tail n (line ∷ lines) =
-    on_some (inner_of line)
-    (on_some (leaf_of line) (misfit n kinds.Node) (λ q. leaf_after tail q (n + 1) lines))
-    (λ q. found (record { position = q; part = Inner }) (n + 1) lines)
+    on_some (label_of line) (misfit n kinds.Node) (λ label.
+    on_some (position_of label line) (misfit n kinds.Node) (λ q. node_labelled tail label q n lines))
 
 -- so many nodes, behind some
 unfoldable pub nodes_after : List ℕ → ℕ → List Node → ℕ → List (List ℕ) → Result (Found (List Node)) CertFault

@@ -7,7 +7,7 @@ use Rattle.mob_sets.specs.Rows.{SetRows}
 use Rattle.mob_sets.specs.Tidy.{AreTidy}
 use Rattle.cha_cert.specs.declared.nodes.Node.{Node}
 use Rattle.cha_cert.specs.declared.nodes.Part.{Part}
-use Rattle.cha_cert.specs.declared.nodes.Part.TheVariants.{Inner, Leaf, Small, Lone}
+use Rattle.cha_cert.specs.declared.nodes.Part.TheVariants.{Inner, Leaf, Men}
 use Rattle.cha_cert.specs.declared.shared.SharedNode.{SharedNode}
 use Rattle.cha_cert.specs.Shared.{Shared, AreNamed}
 use Rattle.cert_text.specs.Spelled.{cert_text}
@@ -21,8 +21,7 @@ IsWritableSets sets = AreTidy sets.rows × All (λ row. row.origin < 64) sets.ro
 abbrev pub IsWritablePart : Part → Type 0
 IsWritablePart Inner = ⊤
 IsWritablePart (Leaf sets) = IsWritableSets sets
-IsWritablePart Small = ⊥
-IsWritablePart Lone = ⊥
+IsWritablePart (Men reason) = ⊥
 
 -- a node whose text is read as that node: its position is valid, and version 1 has lines for what it says
 pub record IsWritable (node : Node) : Type 0 where

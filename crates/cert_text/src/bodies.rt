@@ -4,62 +4,18 @@ ghost use Rattle.std.specs.Prelude.{◌≤◌, ◌<◌, ◌^◌, drop, length, �
 ghost use Rattle.cha_cert.specs.Shared.{expansion};
 ghost use Rattle.cert_text.specs.TextLines.{lines_of, tail_of};
 ghost use Rattle.cert_text.specs.Spelled.{IsInnerOrLeaf, AreInnerOrLeaves};
-ghost use Rattle.cert_text.specs.Texts.{inner_of, leaf_of, leaf_after, node_after, nodes_after};
+ghost use Rattle.cert_text.specs.Texts.{leaf_after, node_after, nodes_after};
 ghost use Rattle.cert_text.specs.Agreeing.{Agrees, seen};
 
 use crate::faults::{CertFault, CertKind};
+use crate::labels::{Label, position_named};
 use crate::leaves::{loose_line, rows_of_leaf};
 use crate::rest::Left;
-use crate::spelled::{put_inner, put_leaf};
 use crate::text_lines::{misfit, next_line};
 use cha_board::Position;
 use cha_cert::{Node, Part, SharedCert, append};
-use cha_fen::read;
-use cha_list::{NoMemory, Text};
 use mob_sets::Sets;
 use std::alloc::Global;
-
-/// The position of a line `inner FEN`.
-#[tactic(auto, unfolding(crate::specs::Texts::inner_of))]
-pub fn inner_named(alloc: Global, line: &[u8]) -> Result<Option<Position>, NoMemory>
-    ensures { IfOk result (λ position. position ≡ inner_of line.now) }
-{
-    if line.len() < 6 {
-        return Ok(None);
-    }
-    let (_label, fen) = line.split_at(6);
-    let Ok(position) = read(fen) else {
-        return Ok(None);
-    };
-    let mut text = Text::new(alloc);
-    put_inner(alloc, &position, &mut text)?;
-    Ok(if line == text.items() {
-        Some(position)
-    } else {
-        None
-    })
-}
-
-/// The position of a line `leaf FEN`.
-#[tactic(auto, unfolding(crate::specs::Texts::leaf_of))]
-fn leaf_named(alloc: Global, line: &[u8]) -> Result<Option<Position>, NoMemory>
-    ensures { IfOk result (λ position. position ≡ leaf_of line.now) }
-{
-    if line.len() < 5 {
-        return Ok(None);
-    }
-    let (_label, fen) = line.split_at(5);
-    let Ok(position) = read(fen) else {
-        return Ok(None);
-    };
-    let mut text = Text::new(alloc);
-    put_leaf(alloc, &position, &mut text)?;
-    Ok(if line == text.items() {
-        Some(position)
-    } else {
-        None
-    })
-}
 
 /// The leaf on a position.
 #[tactic(auto, unfolding(crate::specs::Texts::leaf_after))]
@@ -98,13 +54,19 @@ fn node(alloc: Global, bytes: &[u8], left: Left) -> Result<(Node, Left), CertFau
     let Some((line, rest)) = next_line(bytes, left) else {
         return Err(misfit(left.number, CertKind::Node));
     };
-    if let Some(position) = inner_named(alloc, line)? {
-        let part = Part::Inner;
-        return Ok((Node { position, part }, rest));
-    }
-    match leaf_named(alloc, line)? {
-        Some(position) => leaf(alloc, position, bytes, rest),
-        None => Err(misfit(left.number, CertKind::Node)),
+    let Some(label) = Label::of_line(line) else {
+        return Err(misfit(left.number, CertKind::Node));
+    };
+    let Some(position) = position_named(alloc, label, line)? else {
+        return Err(misfit(left.number, CertKind::Node));
+    };
+    match label {
+        Label::Inner => {
+            let part = Part::Inner;
+            Ok((Node { position, part }, rest))
+        }
+        Label::Leaf => leaf(alloc, position, bytes, rest),
+        Label::Men(_) => Err(misfit(left.number, CertKind::Node)),
     }
 }
 

@@ -1,7 +1,7 @@
 //! The text of a certificate, version 1: written, and read so that one certificate has one text; and the text of a shared
 //! certificate, version 2, written and read (this project).
 //!
-//! `faults` says why a text is refused, `digits` has numbers as digits, `spelled` and `shared_spelled` write, `rest` and
+//! `faults` says why a text is refused, `digits` has numbers as digits, `labels` the line of a position, `spelled` and `shared_spelled` write, `rest` and
 //! `text_lines` cut a text into lines,
 //! `heads` reads the first three lines, `leaves` a leaf's lines, `bodies` the nodes, and `reader` the whole;
 //! `shared_bodies` and `shared_reader` do so for version 2, and `versions` tells them apart and leads from the first to the second.
@@ -11,6 +11,7 @@ mod bodies;
 mod digits;
 mod faults;
 mod heads;
+mod labels;
 mod leaves;
 mod reader;
 mod rest;

@@ -4,19 +4,18 @@ ghost use Rattle.std.specs.Prelude.{◌≤◌, drop, length, ◌≡◌, [], IfOk
 ghost use Rattle.cha_cert.specs.Shared.{Names};
 ghost use Rattle.cert_text.specs.declared.faults.CertKind.TheVariants.{Sets as SetsKind, Node as NodeKind};
 ghost use Rattle.cert_text.specs.TextLines.{lines_of, tail_of};
-ghost use Rattle.cert_text.specs.Texts.{wanted};
-ghost use Rattle.cert_text.specs.SharedTexts.{sets_of, shared_leaf_of, small_of, lone_of, shared_node_of, sets_after, many_after};
+ghost use Rattle.cert_text.specs.Texts.{position_of, wanted};
+ghost use Rattle.cert_text.specs.SharedTexts.{sets_of, shared_leaf_of, node_if, shared_node_of, sets_after, many_after};
 ghost use Rattle.cert_text.specs.Agreeing.{Agrees, seen};
 
-use crate::bodies::inner_named;
 use crate::digits::number;
 use crate::faults::{CertFault, CertKind};
+use crate::labels::{Label, position_named};
 use crate::leaves::{loose_line, rows_of_leaf};
 use crate::rest::Left;
 use crate::shared_spelled::{put_sets_count, put_shared_leaf};
-use crate::spelled::{put_lone, put_small};
 use crate::text_lines::{misfit, next_line};
-use cha_board::{Kept, Position};
+use cha_board::Kept;
 use cha_cert::{SharedCert, SharedNode, SharedPart};
 use cha_fen::read;
 use cha_list::{Class, NoMemory, Text, run_of};
@@ -111,45 +110,22 @@ fn shared_leaf_named(alloc: Global, sets: u32, line: &[u8]) -> Result<Option<Sha
     })
 }
 
-/// The position of a line `small FEN`.
-#[tactic(auto, unfolding(crate::specs::SharedTexts::small_of))]
-fn small_named(alloc: Global, line: &[u8]) -> Result<Option<Position>, NoMemory>
-    ensures { IfOk result (λ position. position ≡ small_of line.now) }
+/// The node of a line with a label that no number follows.
+fn node_named(
+    alloc: Global,
+    label: Label,
+    part: SharedPart,
+    line: &[u8],
+) -> Result<Option<SharedNode>, NoMemory>
+    ensures value { IfOk result (λ node. node ≡ node_if part (position_of label line.now)) }
+    ensures part { IfOk result (λ node. IfSome node (λ node. node.part ≡ part)) }
 {
-    if line.len() < 6 {
-        return Ok(None);
-    }
-    let (_label, fen) = line.split_at(6);
-    let Ok(position) = read(fen) else {
-        return Ok(None);
-    };
-    let mut text = Text::new(alloc);
-    put_small(alloc, &position, &mut text)?;
-    Ok(if line == text.items() {
-        Some(position)
-    } else {
-        None
-    })
-}
-
-/// The position of a line `lone FEN`.
-#[tactic(auto, unfolding(crate::specs::SharedTexts::lone_of))]
-fn lone_named(alloc: Global, line: &[u8]) -> Result<Option<Position>, NoMemory>
-    ensures { IfOk result (λ position. position ≡ lone_of line.now) }
-{
-    if line.len() < 5 {
-        return Ok(None);
-    }
-    let (_label, fen) = line.split_at(5);
-    let Ok(position) = read(fen) else {
-        return Ok(None);
-    };
-    let mut text = Text::new(alloc);
-    put_lone(alloc, &position, &mut text)?;
-    Ok(if line == text.items() {
-        Some(position)
-    } else {
-        None
+    Ok(match position_named(alloc, label, line)? {
+        Some(position) => Some(SharedNode {
+            position: Kept::of(&position),
+            part,
+        }),
+        None => None,
     })
 }
 
@@ -159,25 +135,14 @@ fn shared_node_named(alloc: Global, sets: u32, line: &[u8]) -> Result<Option<Sha
     ensures value { IfOk result (λ node. node ≡ shared_node_of sets line.now) }
     ensures named { IfOk result (λ node. IfSome node (λ node. Names sets node.part)) }
 {
-    if let Some(position) = inner_named(alloc, line)? {
-        return Ok(Some(SharedNode {
-            position: Kept::of(&position),
-            part: SharedPart::Inner,
-        }));
+    let Some(label) = Label::of_line(line) else {
+        return Ok(None);
+    };
+    match label {
+        Label::Inner => node_named(alloc, label, SharedPart::Inner, line),
+        Label::Men(reason) => node_named(alloc, label, SharedPart::Men(reason), line),
+        Label::Leaf => shared_leaf_named(alloc, sets, line),
     }
-    if let Some(position) = small_named(alloc, line)? {
-        return Ok(Some(SharedNode {
-            position: Kept::of(&position),
-            part: SharedPart::Small,
-        }));
-    }
-    if let Some(position) = lone_named(alloc, line)? {
-        return Ok(Some(SharedNode {
-            position: Kept::of(&position),
-            part: SharedPart::Lone,
-        }));
-    }
-    shared_leaf_named(alloc, sets, line)
 }
 
 /// The next node, where so many sets are there.

@@ -7,7 +7,8 @@ ghost use Rattle.cert_text.specs.SharedSpelled.{sets_line, shared_leaf_line, set
 ghost use Rattle.cert_text.specs.SharedTexts.{shared_cert_of};
 ghost use Rattle.cert_text.specs.Writable.{IsWritableSets, HasValidPosition};
 
-use crate::spelled::{put_count, put_inner, put_lone, put_sets, put_small};
+use crate::labels::{Label, put_position};
+use crate::spelled::{put_count, put_sets};
 use cha_board::{Color, Position};
 use cha_cert::{SharedCert, SharedNode, SharedPart};
 use cha_list::{NoMemory, Text};
@@ -49,10 +50,9 @@ fn put_shared_node(alloc: Global, node: &SharedNode, text: &mut Text) -> Result<
     let position = node.position.position();
     position.known();
     match node.part {
-        SharedPart::Inner => put_inner(alloc, &position, text)?,
+        SharedPart::Inner => put_position(alloc, Label::Inner, &position, text)?,
         SharedPart::Leaf(number) => put_shared_leaf(alloc, number, &position, text)?,
-        SharedPart::Small => put_small(alloc, &position, text)?,
-        SharedPart::Lone => put_lone(alloc, &position, text)?,
+        SharedPart::Men(reason) => put_position(alloc, Label::Men(reason), &position, text)?,
     }
     text.push(b'\n')?;
     Ok(())
@@ -121,7 +121,7 @@ fn put_node_count(alloc: Global, count: u64, text: &mut Text) -> Result<(), NoMe
 /// ```
 ///
 /// Each line ends with a line feed. The sets come first, each once, and a leaf names its sets by their number, from 0. A
-/// node of small material has the line `small FEN`, and one of lone minor pieces `lone FEN`. The text is read as the same shared
+/// node whose men show it alone has the word of the reason and the position: `small FEN`, `lone FEN`. The text is read as the same shared
 /// certificate again.
 pub fn write2(alloc: Global, winner: Color, cert: &SharedCert) -> Result<Text, NoMemory>
     requires some { 0 < length cert.now.nodes }

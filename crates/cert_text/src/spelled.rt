@@ -3,12 +3,13 @@
 ghost use Rattle.std.specs.Prelude.{◌≡◌, ◌<◌, ◌≤◌, ◌^◌, ◌++◌, [], ◌∷◌, Ok, length, map, OnOk, IfOk};
 ghost use Rattle.std.specs.List.{All, flat_map};
 ghost use Rattle.mob_sets.specs.Tidy.{AreTidy};
-ghost use Rattle.cert_text.specs.Spelled.{header_line, winner_line, count_line, loose_line, row_line, inner_line, leaf_line, small_line, lone_line, node_lines, IsInnerOrLeaf, AreInnerOrLeaves, lines_text, cert_text};
+ghost use Rattle.cert_text.specs.Spelled.{header_line, winner_line, count_line, loose_line, row_line, node_lines, IsInnerOrLeaf, AreInnerOrLeaves, lines_text, cert_text};
 ghost use Rattle.cert_text.specs.Texts.{cert_of};
 ghost use Rattle.cert_text.specs.Writable.{IsWritable};
 
 use crate::digits::put_hex;
-use cha_board::{Color, Position, SquareSet, put_square};
+use crate::labels::{Label, put_position};
+use cha_board::{Color, SquareSet, put_square};
 use cha_cert::{Cert, Node, Part};
 use cha_list::{NoMemory, Text};
 use mob_sets::{SetRow, Sets};
@@ -48,46 +49,6 @@ pub fn put_row(row: SetRow, text: &mut Text) -> Result<(), NoMemory>
     put_hex(16, row.squares.bits(), text)
 }
 
-/// Writes `inner FEN`.
-#[tactic(auto, unfolding(crate::specs::Spelled::inner_line))]
-pub fn put_inner(alloc: Global, position: &Position, text: &mut Text) -> Result<(), NoMemory>
-    ensures { OnOk result (text.new ≡ text.old ++ inner_line position.now) }
-{
-    let fen = cha_fen::write(alloc, position)?;
-    text.append(b"inner ")?;
-    text.append(fen.items())
-}
-
-/// Writes `leaf FEN`.
-#[tactic(auto, unfolding(crate::specs::Spelled::leaf_line))]
-pub fn put_leaf(alloc: Global, position: &Position, text: &mut Text) -> Result<(), NoMemory>
-    ensures { OnOk result (text.new ≡ text.old ++ leaf_line position.now) }
-{
-    let fen = cha_fen::write(alloc, position)?;
-    text.append(b"leaf ")?;
-    text.append(fen.items())
-}
-
-/// Writes `small FEN`.
-#[tactic(auto, unfolding(crate::specs::Spelled::small_line))]
-pub fn put_small(alloc: Global, position: &Position, text: &mut Text) -> Result<(), NoMemory>
-    ensures { OnOk result (text.new ≡ text.old ++ small_line position.now) }
-{
-    let fen = cha_fen::write(alloc, position)?;
-    text.append(b"small ")?;
-    text.append(fen.items())
-}
-
-/// Writes `lone FEN`.
-#[tactic(auto, unfolding(crate::specs::Spelled::lone_line))]
-pub fn put_lone(alloc: Global, position: &Position, text: &mut Text) -> Result<(), NoMemory>
-    ensures { OnOk result (text.new ≡ text.old ++ lone_line position.now) }
-{
-    let fen = cha_fen::write(alloc, position)?;
-    text.append(b"lone ")?;
-    text.append(fen.items())
-}
-
 /// Writes the lines of rows.
 fn put_rows(rows: &[SetRow], text: &mut Text) -> Result<(), NoMemory>
     ensures text { OnOk result (text.new ≡ text.old ++ lines_text (map row_line rows.now)) }
@@ -123,17 +84,16 @@ fn put_node(alloc: Global, node: &Node, text: &mut Text) -> Result<(), NoMemory>
     node.position.known();
     match &node.part {
         Part::Inner => {
-            put_inner(alloc, &node.position, text)?;
+            put_position(alloc, Label::Inner, &node.position, text)?;
             text.push(b'\n')?;
             Ok(())
         }
         Part::Leaf(sets) => {
-            put_leaf(alloc, &node.position, text)?;
+            put_position(alloc, Label::Leaf, &node.position, text)?;
             text.push(b'\n')?;
             put_sets(sets, text)
         }
-        Part::Small => unreachable!(),
-        Part::Lone => unreachable!(),
+        Part::Men(_) => unreachable!(),
     }
 }
 

@@ -9,11 +9,10 @@ use Rattle.cha_moves.specs.Moves.{after}
 use Rattle.cha_moves.specs.Ends.{IsMatingLine, IsUnwinnable}
 use Rattle.mob_law.proofs.Law.{bounded}
 use Rattle.mob_sets.specs.Rows.{sets_of}
-use Rattle.mob_small.proofs.Keeping.{small_bounded}
-use Rattle.mob_small.proofs.LoneKeeping.{lone_bounded}
+use Rattle.mob_small.proofs.MenAlone.{bounded as men_bounded}
 use Rattle.cha_cert.specs.declared.nodes.Node.{Node}
 use Rattle.cha_cert.specs.declared.nodes.Part.{Part}
-use Rattle.cha_cert.specs.declared.nodes.Part.TheVariants.{Inner, Leaf, Small, Lone}
+use Rattle.cha_cert.specs.declared.nodes.Part.TheVariants.{Inner, Leaf, Men}
 use Rattle.cha_cert.specs.Certificates.{positions_of, AllValid, PartHolds, NodeHolds, IsValidCert}
 
 -- what is known of the position of some node
@@ -36,8 +35,8 @@ module _ (w : Color) (nodes : List Node) (valid : AllValid nodes) (holds : All (
         holds = subst (λ p. PartHolds w nodes p node.part) same (holds (there.0) d inside);
       }
 
-  -- no list of legal moves from the position of a node mates: at a leaf by its sets, on small material and lone minor pieces by their
-  -- laws, and at an inner node since it is no mate itself, and the first move leads to the position of a node again
+  -- no list of legal moves from the position of a node mates: at a leaf by its sets, where the men show it alone by their law,
+  -- and at an inner node since it is no mate itself, and the first move leads to the position of a node again
   never : (ms : List Move) (q : Board) (part : Part) → IsValid q → PartHolds w nodes q part → IsMatingLine q w ms → ⊥
   never [] q Inner good held line = held.no_mate line
   never (m ∷ rest) q Inner good held line =
@@ -45,10 +44,8 @@ module _ (w : Color) (nodes : List Node) (valid : AllValid nodes) (holds : All (
       never rest (after q m) next.part next.valid next.holds line.1
   never [] q (Leaf sets) good held line = bounded q (sets_of sets) w good held.closed held.no_mate [] line
   never (m ∷ rest) q (Leaf sets) good held line = bounded q (sets_of sets) w good held.closed held.no_mate (m ∷ rest) line
-  never [] q Small good held line = small_bounded q w good held [] line
-  never (m ∷ rest) q Small good held line = small_bounded q w good held (m ∷ rest) line
-  never [] q Lone good held line = lone_bounded q w good held [] line
-  never (m ∷ rest) q Lone good held line = lone_bounded q w good held (m ∷ rest) line
+  never [] q (Men reason) good held line = men_bounded q w reason good held [] line
+  never (m ∷ rest) q (Men reason) good held line = men_bounded q w reason good held (m ∷ rest) line
 
 pub valid_is_unwinnable : (p : Board) (w : Color) (nodes : List Node) → IsValidCert p w nodes → IsUnwinnable p w
 valid_is_unwinnable p w [] cert ms line = cert.begins

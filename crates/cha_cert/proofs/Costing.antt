@@ -13,7 +13,7 @@ use Rattle.cha_cert.specs.declared.nodes.Part.{Part}
 use Rattle.cha_cert.specs.declared.nodes.Part.TheVariants.{Inner}
 use Rattle.cha_cert.specs.declared.shared.SharedNode.{SharedNode}
 use Rattle.cha_cert.specs.declared.shared.SharedPart.{SharedPart}
-use Rattle.cha_cert.specs.declared.shared.SharedPart.TheVariants.{Inner as SharedInner, Leaf as SharedLeaf, Small as SharedSmall, Lone as SharedLone}
+use Rattle.cha_cert.specs.declared.shared.SharedPart.TheVariants.{Inner as SharedInner, Leaf as SharedLeaf, Men as SharedMen}
 use Rattle.cha_cert.specs.Indexed.{IsIndexOf}
 use Rattle.cha_cert.specs.Shared.{Shared, part_of, node_of, expansion}
 use Rattle.cha_cert.specs.Costs.{moves_at, shared_moves_at, shared_moves, inner_moves, CostsAtMost}
@@ -101,8 +101,7 @@ shared_inner_cost c places q part x y is inner cost =
 pub moves_expanded : (sets : List SetRows) (q : Board) (part : SharedPart) → shared_moves_at q part ≡ moves_at q (part_of sets part)
 moves_expanded sets q SharedInner = refl
 moves_expanded sets q (SharedLeaf i) = refl
-moves_expanded sets q SharedSmall = refl
-moves_expanded sets q SharedLone = refl
+moves_expanded sets q (SharedMen reason) = refl
 
 -- one more node
 pub node_cost : (n k : ℕ) (nodes : List Node) (d : Node) (moves x y z : ℕ) → k < length nodes → moves ≡ moves_at (get_or nodes k d).position (get_or nodes k d).part

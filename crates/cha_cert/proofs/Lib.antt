@@ -1,6 +1,7 @@
 mod Finding
 mod Costing
 pub mod Bounded
+pub mod Leaves
 pub mod Answering
 mod Leading
 mod OnceWritten

@@ -11,19 +11,19 @@ use Rattle.cha_list.proofs.Distinct.{push_apart}
 use Rattle.cha_list.proofs.Longer.{stays_at, was_at, last_at}
 use Rattle.cha_board.specs.Board.{Board}
 use Rattle.mob_sets.specs.Rows.{SetRows}
+use Rattle.mob_small.specs.declared.reasons.Reason.{Reason}
 use Rattle.cha_cert.specs.declared.nodes.Node.{Node}
-use Rattle.cha_cert.specs.declared.nodes.Part.TheVariants.{Inner, Leaf, Small, Lone}
+use Rattle.cha_cert.specs.declared.nodes.Part.TheVariants.{Inner, Leaf, Men}
 use Rattle.cha_cert.specs.declared.shared.SharedNode.{SharedNode}
 use Rattle.cha_cert.specs.declared.shared.SharedPart.{SharedPart}
-use Rattle.cha_cert.specs.declared.shared.SharedPart.TheVariants.{Inner as SharedInner, Leaf as SharedLeaf, Small as SharedSmall, Lone as SharedLone}
+use Rattle.cha_cert.specs.declared.shared.SharedPart.TheVariants.{Inner as SharedInner, Leaf as SharedLeaf, Men as SharedMen}
 use Rattle.cha_cert.specs.Shared.{Shared, Names, no_sets, part_of, node_of, IsFirstNamed, Shares, IsAt}
 
 -- more sets change no node that names others
 pub part_grown : (sets more : List SetRows) (part : SharedPart) → Names (length sets) part → part_of (sets ++ more) part ≡ part_of sets part
 part_grown sets more SharedInner named = refl
 part_grown sets more (SharedLeaf i) named = ap Leaf (get_or_append_left sets more no_sets i named)
-part_grown sets more SharedSmall named = refl
-part_grown sets more SharedLone named = refl
+part_grown sets more (SharedMen reason) named = refl
 
 pub expansion_grown : (sets more : List SetRows) (nodes : List SharedNode) → All (λ node. Names (length sets) node.part) nodes
     → map (node_of (sets ++ more)) nodes ≡ map (node_of sets) nodes
@@ -48,8 +48,7 @@ first_stays nodes node i f = record {
 names_more : (n : ℕ) (part : SharedPart) → Names n part → Names (n + 1) part
 names_more n SharedInner named = tt
 names_more n (SharedLeaf i) named = omega (arith, named)
-names_more n SharedSmall named = tt
-names_more n SharedLone named = tt
+names_more n (SharedMen reason) named = tt
 
 -- a node that names sets that are there
 pub node_shared : (c : Shared) (nodes : List Node) (node : SharedNode) → Names (length c.sets) node.part → Shares c nodes
@@ -118,17 +117,11 @@ pub inner_added : (c d : Shared) (nodes : List Node) (q : Board) → d ≡ recor
 inner_added c d nodes q e s =
     subst (λ (x : Shared). Shares x (nodes ++ (record { position = q; part = Inner }) ∷ [])) (sym e) (node_shared c nodes (record { position = q; part = SharedInner }) tt s)
 
--- a node of small material
-pub small_added : (c d : Shared) (nodes : List Node) (q : Board) → d ≡ record { sets = c.sets; nodes = c.nodes ++ (record { position = q; part = SharedSmall }) ∷ [] } → Shares c nodes
-    → Shares d (nodes ++ (record { position = q; part = Small }) ∷ [])
-small_added c d nodes q e s =
-    subst (λ (x : Shared). Shares x (nodes ++ (record { position = q; part = Small }) ∷ [])) (sym e) (node_shared c nodes (record { position = q; part = SharedSmall }) tt s)
-
--- a node of lone minor pieces
-pub lone_added : (c d : Shared) (nodes : List Node) (q : Board) → d ≡ record { sets = c.sets; nodes = c.nodes ++ (record { position = q; part = SharedLone }) ∷ [] } → Shares c nodes
-    → Shares d (nodes ++ (record { position = q; part = Lone }) ∷ [])
-lone_added c d nodes q e s =
-    subst (λ (x : Shared). Shares x (nodes ++ (record { position = q; part = Lone }) ∷ [])) (sym e) (node_shared c nodes (record { position = q; part = SharedLone }) tt s)
+-- a node whose men show it alone
+pub men_added : (c d : Shared) (nodes : List Node) (q : Board) (reason : Reason) → d ≡ record { sets = c.sets; nodes = c.nodes ++ (record { position = q; part = SharedMen reason }) ∷ [] } → Shares c nodes
+    → Shares d (nodes ++ (record { position = q; part = Men reason }) ∷ [])
+men_added c d nodes q reason e s =
+    subst (λ (x : Shared). Shares x (nodes ++ (record { position = q; part = Men reason }) ∷ [])) (sym e) (node_shared c nodes (record { position = q; part = SharedMen reason }) tt s)
 
 -- a leaf whose sets are there
 pub old_added : (c d : Shared) (all : List SetRows) (nodes : List Node) (q : Board) (s : SetRows) (i : ℕ) → all ≡ c.sets → IsAt all s i

@@ -10,11 +10,10 @@ use Rattle.cha_moves.specs.Ends.{IsMated}
 use Rattle.mob_law.specs.Closed.{IsClosed}
 use Rattle.mob_law.specs.Threats.{HasNoMate}
 use Rattle.mob_sets.specs.Rows.{SetRows, sets_of}
-use Rattle.mob_small.specs.Small.{IsSmallUnwinnable}
-use Rattle.mob_small.specs.Lone.{IsLoneUnwinnable}
+use Rattle.mob_small.specs.Reasons.{ReasonHolds}
 use Rattle.cha_cert.specs.declared.nodes.Node.{Node}
 use Rattle.cha_cert.specs.declared.nodes.Part.{Part}
-use Rattle.cha_cert.specs.declared.nodes.Part.TheVariants.{Inner, Leaf, Small, Lone}
+use Rattle.cha_cert.specs.declared.nodes.Part.TheVariants.{Inner, Leaf, Men}
 use Rattle.cha_cert.specs.declared.checking.Checked.{Checked}
 use Rattle.cha_cert.specs.declared.checking.Checked.TheVariants.{Accepted, Fails}
 
@@ -32,12 +31,17 @@ pub record LeafHolds (w : Color) (q : Board) (sets : SetRows) : Type 0 where
   pub closed : IsClosed q (sets_of sets)
   pub no_mate : HasNoMate q (sets_of sets) w
 
+-- by its part alone a position is one from which no series of legal moves mates
+unfoldable pub IsLeaf : Color → Board → Part → Type 0
+IsLeaf w q Inner = ⊥
+IsLeaf w q (Leaf sets) = LeafHolds w q sets
+IsLeaf w q (Men reason) = ReasonHolds q w reason
+
 -- what a node's part says of its position holds
 abbrev pub PartHolds : Color → List Node → Board → Part → Type 0
 PartHolds w nodes q Inner = InnerHolds w nodes q
 PartHolds w nodes q (Leaf sets) = LeafHolds w q sets
-PartHolds w nodes q Small = IsSmallUnwinnable q w
-PartHolds w nodes q Lone = IsLoneUnwinnable q w
+PartHolds w nodes q (Men reason) = ReasonHolds q w reason
 
 abbrev pub NodeHolds : Color → List Node → Node → Type 0
 NodeHolds w nodes node = PartHolds w nodes node.position node.part

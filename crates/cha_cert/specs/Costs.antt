@@ -4,17 +4,16 @@ use Rattle.cha_board.specs.Board.{Board}
 use Rattle.cha_moves.specs.Moves.{legal}
 use Rattle.cha_cert.specs.declared.nodes.Node.{Node}
 use Rattle.cha_cert.specs.declared.nodes.Part.{Part}
-use Rattle.cha_cert.specs.declared.nodes.Part.TheVariants.{Inner, Leaf, Small, Lone}
+use Rattle.cha_cert.specs.declared.nodes.Part.TheVariants.{Inner, Leaf, Men}
 use Rattle.cha_cert.specs.declared.shared.SharedNode.{SharedNode}
 use Rattle.cha_cert.specs.declared.shared.SharedPart.{SharedPart}
-use Rattle.cha_cert.specs.declared.shared.SharedPart.TheVariants.{Inner as SharedInner, Leaf as SharedLeaf, Small as SharedSmall, Lone as SharedLone}
+use Rattle.cha_cert.specs.declared.shared.SharedPart.TheVariants.{Inner as SharedInner, Leaf as SharedLeaf, Men as SharedMen}
 
 -- the number of legal moves of a position, if a node on it is an inner one
 abbrev pub moves_at : Board → Part → ℕ
 moves_at q Inner = length (legal q)
 moves_at q (Leaf sets) = 0
-moves_at q Small = 0
-moves_at q Lone = 0
+moves_at q (Men reason) = 0
 
 -- the number of legal moves of all inner nodes
 abbrev pub inner_moves : List Node → ℕ
@@ -24,8 +23,7 @@ inner_moves nodes = sum_by (λ (node : Node). moves_at node.position node.part) 
 abbrev pub shared_moves_at : Board → SharedPart → ℕ
 shared_moves_at q SharedInner = length (legal q)
 shared_moves_at q (SharedLeaf i) = 0
-shared_moves_at q SharedSmall = 0
-shared_moves_at q SharedLone = 0
+shared_moves_at q (SharedMen reason) = 0
 
 abbrev pub shared_moves : SharedNode → ℕ
 shared_moves node = shared_moves_at node.position node.part

@@ -9,10 +9,10 @@ use Rattle.cha_board.specs.SquareSets.{empty_set}
 use Rattle.mob_sets.specs.Rows.{Row, SetRows}
 use Rattle.cha_cert.specs.declared.nodes.Node.{Node}
 use Rattle.cha_cert.specs.declared.nodes.Part.{Part}
-use Rattle.cha_cert.specs.declared.nodes.Part.TheVariants.{Inner, Leaf, Small, Lone}
+use Rattle.cha_cert.specs.declared.nodes.Part.TheVariants.{Inner, Leaf, Men}
 use Rattle.cha_cert.specs.declared.shared.SharedNode.{SharedNode}
 use Rattle.cha_cert.specs.declared.shared.SharedPart.{SharedPart}
-use Rattle.cha_cert.specs.declared.shared.SharedPart.TheVariants.{Inner as SharedInner, Leaf as SharedLeaf, Small as SharedSmall, Lone as SharedLone}
+use Rattle.cha_cert.specs.declared.shared.SharedPart.TheVariants.{Inner as SharedInner, Leaf as SharedLeaf, Men as SharedMen}
 
 -- a list of sets, and nodes whose leaves name them by their numbers
 pub record Shared : Type 0 where
@@ -23,8 +23,7 @@ pub record Shared : Type 0 where
 abbrev pub Names : ℕ → SharedPart → Type 0
 Names n SharedInner = ⊤
 Names n (SharedLeaf i) = i < n
-Names n SharedSmall = ⊤
-Names n SharedLone = ⊤
+Names n (SharedMen reason) = ⊤
 
 -- each leaf names sets that are there
 abbrev pub AreNamed : Shared → Type 0
@@ -38,8 +37,7 @@ no_sets = record { rows = []; loose = empty_set }
 abbrev pub part_of : List SetRows → SharedPart → Part
 part_of sets SharedInner = Inner
 part_of sets (SharedLeaf i) = Leaf (slice_index_or sets i no_sets)
-part_of sets SharedSmall = Small
-part_of sets SharedLone = Lone
+part_of sets (SharedMen reason) = Men reason
 
 abbrev pub node_of : List SetRows → SharedNode → Node
 node_of sets node = record { position = node.position; part = part_of sets node.part }
@@ -86,8 +84,7 @@ leaf_added c q s None = record { sets = c.sets ++ s ∷ []; nodes = c.nodes ++ (
 
 abbrev pub part_added : Shared → Board → Part → Shared
 part_added c q Inner = record { sets = c.sets; nodes = c.nodes ++ (record { position = q; part = SharedInner }) ∷ [] }
-part_added c q Small = record { sets = c.sets; nodes = c.nodes ++ (record { position = q; part = SharedSmall }) ∷ [] }
-part_added c q Lone = record { sets = c.sets; nodes = c.nodes ++ (record { position = q; part = SharedLone }) ∷ [] }
+part_added c q (Men reason) = record { sets = c.sets; nodes = c.nodes ++ (record { position = q; part = SharedMen reason }) ∷ [] }
 part_added c q (Leaf s) = leaf_added c q s (number_in c.sets s)
 
 -- the nodes with their equal sets written once

@@ -15,7 +15,6 @@ use cha_list::{NoMemory, Steps};
 use cha_moves::{after, is_mate, legal};
 use mob_check::proves_unwinnable;
 use mob_sets::Sets;
-use mob_small::{lone_verdict, small_verdict};
 use std::alloc::Global;
 use std::marker::Brand;
 use std::sync::ledger::{Blank, Ledger};
@@ -32,11 +31,9 @@ pub enum Checked {
 
 /// Checks that a certificate shows that no series of legal moves from a position mates for a side (this project).
 ///
-/// A leaf holds where its mobility sets are closed for its position and have no mate for the side. A node of small material
-/// holds where there is no pawn, at most one man beside each king, and no mate for the side with such men. A node of lone
-/// minor pieces holds where the side has beside its king one knight, and the other side queens alone, or the side has only
-/// bishops of one colour, the other only rooks, queens and bishops of that colour, and the position is no mate. An inner node
-/// holds where its position is no mate for the side and each legal move leads to the position of some node.
+/// A leaf holds where its mobility sets are closed for its position and have no mate for the side. A node whose men show it
+/// alone holds where the reason that it names does. An inner node holds where its position is no mate for the side and each
+/// legal move leads to the position of some node.
 pub fn check(
     alloc: Global,
     position: &Position,
@@ -137,8 +134,7 @@ fn node_holds<L: Ledger>(
     match &node.part {
         Part::Inner => inner_holds(alloc, index, winner, &node.position, steps),
         Part::Leaf(sets) => Ok(leaf_holds(winner, &node.position, sets)),
-        Part::Small => Ok(small_verdict(&node.position, winner)),
-        Part::Lone => Ok(lone_verdict(&node.position, winner)),
+        Part::Men(reason) => Ok(reason.holds(&node.position, winner)),
     }
 }
 

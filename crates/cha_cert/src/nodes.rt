@@ -5,6 +5,7 @@ ghost use Rattle.std.specs.Prelude.{◌≡◌, [], ◌∷◌, ◌++◌, OnOk, On
 use cha_board::Position;
 use cha_list::{Listed, NoMemory};
 use mob_sets::Sets;
+use mob_small::Reason;
 use std::alloc::Global;
 use std::marker::Model;
 
@@ -15,10 +16,8 @@ pub enum Part {
     Inner,
     /// These mobility sets are closed for the position and have no mate.
     Leaf(Sets),
-    /// The position has small material, with which the side cannot mate.
-    Small,
-    /// The position has lone minor pieces, with which the side cannot mate.
-    Lone,
+    /// The men that the position has show it alone.
+    Men(Reason),
 }
 
 /// A position, and why no series of legal moves from it mates.

@@ -6,6 +6,7 @@ ghost use Rattle.cha_cert.specs.Shared.{Names, AreNamed, leaf_added};
 use cha_board::Kept;
 use cha_list::{Listed, NoMemory};
 use mob_sets::Sets;
+use mob_small::Reason;
 use std::alloc::Global;
 use std::marker::Model;
 
@@ -16,10 +17,8 @@ pub enum SharedPart {
     Inner,
     /// The mobility sets of this number, counted from 0, are closed for the position and have no mate.
     Leaf(u32),
-    /// The position has small material, with which the side cannot mate.
-    Small,
-    /// The position has lone minor pieces, with which the side cannot mate.
-    Lone,
+    /// The men that the position has show it alone.
+    Men(Reason),
 }
 
 /// A position, and why no series of legal moves from it mates.

@@ -14,7 +14,6 @@ use crate::indexing::Index;
 use crate::shared::{SharedCert, SharedNode, SharedPart};
 use cha_board::{Color, Position, same_position};
 use cha_list::{NoMemory, Steps};
-use mob_small::{lone_verdict, small_verdict};
 use std::alloc::Global;
 use std::marker::Brand;
 use std::sync::ledger::{Blank, Ledger};
@@ -144,7 +143,6 @@ fn holds<L: Ledger>(
             let sets = &shared.sets()[number as usize];
             Ok(leaf_holds(winner, &position, sets))
         }
-        SharedPart::Small => Ok(small_verdict(&position, winner)),
-        SharedPart::Lone => Ok(lone_verdict(&position, winner)),
+        SharedPart::Men(reason) => Ok(reason.holds(&position, winner)),
     }
 }

@@ -2,7 +2,7 @@
 
 ghost use Rattle.std.specs.Prelude.{◌≡◌, ◌<◌, ◌≤◌, ◌^◌, ◌+◌, [], ◌∷◌, ◌++◌, List, None, length, IfOk, IfSome, OnOk, OnErr, Contains};
 ghost use Rattle.cha_cert.specs.declared.nodes.Node.{Node as CertNode};
-ghost use Rattle.cha_cert.specs.declared.nodes.Part.TheVariants.{Inner as CertInner, Leaf as CertLeaf, Small as CertSmall, Lone as CertLone};
+ghost use Rattle.cha_cert.specs.declared.nodes.Part.TheVariants.{Inner as CertInner, Leaf as CertLeaf, Men as CertMen};
 ghost use Rattle.cha_cert.specs.Shared.{Names, AreInOrder, Shares, IsAt, expansion, part_of, number_in, part_added, shared_of};
 
 use crate::equal_sets::same_sets;
@@ -11,6 +11,7 @@ use crate::shared::{SharedCert, SharedNode, SharedPart};
 use cha_board::Kept;
 use cha_list::NoMemory;
 use mob_sets::Sets;
+use mob_small::Reason;
 use std::alloc::Global;
 
 /// The certificate with its equal sets written once: its expansion is the one that is given, its sets are distinct, each is
@@ -40,8 +41,7 @@ fn add(alloc: Global, shared: &mut SharedCert, node: &Node) -> Result<(), NoMemo
     match &node.part {
         Part::Inner => add_inner(shared, position),
         Part::Leaf(sets) => add_leaf(alloc, shared, position, sets),
-        Part::Small => add_small(shared, position),
-        Part::Lone => add_lone(shared, position),
+        Part::Men(reason) => add_men(shared, position, *reason),
     }
 }
 
@@ -58,28 +58,15 @@ fn add_inner(shared: &mut SharedCert, position: Kept) -> Result<(), NoMemory>
     Ok(())
 }
 
-/// Appends a node of small material.
-fn add_small(shared: &mut SharedCert, position: Kept) -> Result<(), NoMemory>
-    ensures exact { OnOk result (shared.new ≡ part_added shared.old position CertSmall) }
+/// Appends a node whose men show it alone.
+fn add_men(shared: &mut SharedCert, position: Kept, reason: Reason) -> Result<(), NoMemory>
+    ensures exact { OnOk result (shared.new ≡ part_added shared.old position (CertMen reason)) }
     ensures err { OnErr result (shared.new ≡ shared.old) }
-    ensures shares { (nodes : List CertNode) → Shares shared.old nodes → OnOk result (Shares shared.new (nodes ++ (record { position = position; part = CertSmall }) ∷ [])) }
+    ensures shares { (nodes : List CertNode) → Shares shared.old nodes → OnOk result (Shares shared.new (nodes ++ (record { position = position; part = CertMen reason }) ∷ [])) }
 {
     shared.push(SharedNode {
         position,
-        part: SharedPart::Small,
-    })?;
-    Ok(())
-}
-
-/// Appends a node of lone minor pieces.
-fn add_lone(shared: &mut SharedCert, position: Kept) -> Result<(), NoMemory>
-    ensures exact { OnOk result (shared.new ≡ part_added shared.old position CertLone) }
-    ensures err { OnErr result (shared.new ≡ shared.old) }
-    ensures shares { (nodes : List CertNode) → Shares shared.old nodes → OnOk result (Shares shared.new (nodes ++ (record { position = position; part = CertLone }) ∷ [])) }
-{
-    shared.push(SharedNode {
-        position,
-        part: SharedPart::Lone,
+        part: SharedPart::Men(reason),
     })?;
     Ok(())
 }
@@ -132,8 +119,7 @@ pub fn append(shared: &mut SharedCert, node: Node) -> Result<(), NoMemory>
             Ok(())
         }
         Part::Inner => add_inner(shared, position),
-        Part::Small => add_small(shared, position),
-        Part::Lone => add_lone(shared, position),
+        Part::Men(reason) => add_men(shared, position, reason),
     }
 }
 
@@ -172,8 +158,7 @@ fn part_with(alloc: Global, sets: &[Sets], part: SharedPart) -> Result<Part, NoM
 {
     match part {
         SharedPart::Inner => Ok(Part::Inner),
-        SharedPart::Small => Ok(Part::Small),
-        SharedPart::Lone => Ok(Part::Lone),
+        SharedPart::Men(reason) => Ok(Part::Men(reason)),
         SharedPart::Leaf(number) => Ok(Part::Leaf(sets[number as usize].copy(alloc)?)),
     }
 }

@@ -1,6 +1,8 @@
 -- Certificates of one node, and what is shown without a search.
-use Rattle.std.proofs.Common.{◌≡◌, zero, suc, List, [], ◌∷◌, Result, Ok, Err, IfOk, sym, subst, refl, inr, arith}
+use Rattle.std.proofs.Common.{◌≡◌, zero, suc, List, [], ◌∷◌, Option, Some, None, Result, Ok, Err, IfOk, sym, subst, refl, inr, arith}
 use Rattle.std.specs.List.{All}
+use Rattle.std.specs.Option.{IfSome}
+use Rattle.std.proofs.lemmas.Option.{same_Some}
 use Rattle.cha_list.specs.declared.memory.NoMemory.{NoMemory}
 use Rattle.cha_board.specs.declared.men.Color.{Color}
 use Rattle.cha_board.specs.Board.{Board, IsValid}
@@ -10,13 +12,14 @@ use Rattle.mob_law.specs.Threats.{HasNoMate}
 use Rattle.mob_sets.specs.Rows.{SetRows, sets_of}
 use Rattle.cha_cert.specs.declared.nodes.Node.{Node}
 use Rattle.cha_cert.specs.declared.nodes.Part.{Part}
-use Rattle.cha_cert.specs.declared.nodes.Part.TheVariants.{Inner, Leaf, Small, Lone}
-use Rattle.cha_cert.specs.Certificates.{AllValid, PartHolds, NodeHolds, IsValidCert}
-use Rattle.mob_small.specs.Small.{IsSmallUnwinnable}
-use Rattle.mob_small.specs.Lone.{IsLoneUnwinnable}
+use Rattle.cha_cert.specs.declared.nodes.Part.TheVariants.{Inner, Leaf, Men}
+use Rattle.cha_cert.specs.Certificates.{AllValid, LeafHolds, IsLeaf, PartHolds, NodeHolds, IsValidCert}
+use Rattle.mob_small.specs.declared.reasons.Reason.{Reason}
+use Rattle.mob_small.specs.Reasons.{ReasonHolds}
+use Rattle.cha_cert.proofs.Leaves.{leaf_holds}
 use Rattle.cha_limits.specs.Bounds.{Bounds}
 use Rattle.cha_verdict.specs.declared.verdicts.Verdict.TheVariants.{Unwinnable}
-use Rattle.cha_verdict.specs.AtOnce.{IsShownAtOnce, BySets, BySmallMaterial, ByLoneMen}
+use Rattle.cha_cert.specs.AtOnce.{IsShownAtOnce, BySets}
 use Rattle.forced_graph.specs.Outcomes.{HasExpandedInner}
 use Rattle.cha_decide.specs.Shown.{HasNoInner, IsShownUnwinnable, IsShownAlone, IsFound}
 
@@ -32,29 +35,24 @@ module _ (q : Board) (w : Color) (part : Part) (valid : IsValid q) where
   all_valid zero d small = valid
   all_valid (suc k) d small = absurd (omega arith)
 
-  -- what holds of its node makes it valid
-  pub node_is_valid : PartHolds w (node ∷ []) q part → (cert : List Node) → cert ≡ node ∷ [] → IsValidCert q w cert
-  node_is_valid holds cert is =
-      let one : IsValidCert q w (node ∷ []) = record { begins = refl; positions = all_valid; holds = all_hold holds } in
+  -- a leaf makes it valid
+  pub leaf_is_valid : IsLeaf w q part → (cert : List Node) → cert ≡ node ∷ [] → IsValidCert q w cert
+  leaf_is_valid leaf cert is =
+      let one : IsValidCert q w (node ∷ []) = record { begins = refl; positions = all_valid; holds = all_hold (leaf_holds w (node ∷ []) q part leaf) } in
       subst (λ nodes. IsValidCert q w nodes) (sym is) one
 
--- closed mobility sets without a mate
-pub leaf_is_valid : (q : Board) (w : Color) (sets : SetRows) → IsValid q → IsClosed q (sets_of sets) → HasNoMate q (sets_of sets) w → (cert : List Node) → cert ≡ record { position = q; part = Leaf sets } ∷ [] → IsValidCert q w cert
-leaf_is_valid q w sets valid closed no_mate cert is = node_is_valid q w (Leaf sets) valid (record { closed = closed; no_mate = no_mate }) cert is
+-- closed mobility sets without a mate are a leaf
+pub leaf_of_sets : (q : Board) (w : Color) (verdict : Option SetRows) (sets : SetRows) → verdict ≡ Some sets → IfSome verdict (λ s. IsClosed q (sets_of s)) → IfSome verdict (λ s. HasNoMate q (sets_of s) w) → IsLeaf w q (Leaf sets)
+unfolding IsLeaf
+leaf_of_sets q w None sets is closed no_mate = cc
+leaf_of_sets q w (Some s) sets is closed no_mate =
+    let holds : LeafHolds w q s = record { closed = closed; no_mate = no_mate } in
+    subst (λ (x : SetRows). LeafHolds w q x) (same_Some s sets is) holds
 
--- small material with which the side cannot mate
-pub small_is_valid : (q : Board) (w : Color) → IsValid q → IsSmallUnwinnable q w → (cert : List Node) → cert ≡ record { position = q; part = Small } ∷ [] → IsValidCert q w cert
-small_is_valid q w valid small cert is = node_is_valid q w Small valid small cert is
-
--- lone minor pieces with which the side cannot mate
-pub lone_is_valid : (q : Board) (w : Color) → IsValid q → IsLoneUnwinnable q w → (cert : List Node) → cert ≡ record { position = q; part = Lone } ∷ [] → IsValidCert q w cert
-lone_is_valid q w valid lone cert is = node_is_valid q w Lone valid lone cert is
-
--- what neither sets show nor the men
-pub not_at_once : (q : Board) (w : Color) → (IsStaticallyUnwinnable q w → ⊥) → (IsSmallUnwinnable q w → ⊥) × (IsLoneUnwinnable q w → ⊥) → IsShownAtOnce q w → ⊥
-not_at_once q w static material (BySets shown) = static shown
-not_at_once q w static material (BySmallMaterial shown) = material.0 shown
-not_at_once q w static material (ByLoneMen shown) = material.1 shown
+-- and so are men that show it alone
+pub leaf_of_men : (q : Board) (w : Color) (reason : Reason) → ReasonHolds q w reason → IsLeaf w q (Men reason)
+unfolding IsLeaf
+leaf_of_men q w reason holds = holds
 
 -- what is not shown without a search is not shown by sets
 pub no_sets : (q : Board) (w : Color) → (IsShownAtOnce q w → ⊥) → IsStaticallyUnwinnable q w → ⊥

@@ -14,7 +14,7 @@ use Rattle.forced_graph.specs.Outcomes.{HasExpanded, HasExpandedInner}
 use Rattle.cha_verdict.specs.declared.verdicts.Verdict.{Verdict}
 use Rattle.cha_verdict.specs.declared.verdicts.Verdict.TheVariants.{Winnable, Unwinnable, Undecided, Skipped}
 use Rattle.cha_verdict.specs.declared.decisions.Decision.{Decision}
-use Rattle.cha_verdict.specs.AtOnce.{IsShownAtOnce}
+use Rattle.cha_cert.specs.AtOnce.{IsShownAtOnce}
 use Rattle.cha_limits.specs.Bounds.{Bounds}
 use Rattle.cha_verdict.specs.Verdicts.{is_skipped, IsPrintable}
 use Rattle.cha_verdict.specs.Sound.{IsTrueOf, verdict_on}

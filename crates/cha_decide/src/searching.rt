@@ -4,7 +4,7 @@ ghost use Rattle.std.specs.Prelude.{◌≡◌, ◌≤◌, ◌⊎◌, IfOk, IfSom
 ghost use Rattle.cha_board.specs.Men.{other_color};
 ghost use Rattle.cha_moves.specs.Ends.{IsMated, IsMatingLine, HasNoMateWithin};
 ghost use Rattle.cha_moves.specs.Lines.{HasLines};
-ghost use Rattle.cha_verdict.specs.AtOnce.{IsShownAtOnce};
+ghost use Rattle.cha_cert.specs.AtOnce.{IsShownAtOnce};
 ghost use Rattle.cha_verdict.specs.Sound.{IsUndecided};
 ghost use Rattle.cha_fact.specs.Entries.{MadeSome};
 ghost use Rattle.forced_graph.specs.Outcomes.{HasExpanded};

@@ -7,13 +7,12 @@ use Rattle.cha_moves.specs.Ends.{IsMatingLine, IsUnwinnable}
 use Rattle.cha_moves.specs.Lines.{HasPositions}
 use Rattle.mob_law.proofs.Exploring.{explored_positions}
 use Rattle.mob_law.proofs.Law.{static_bounded}
-use Rattle.mob_small.proofs.Keeping.{small_bounded}
-use Rattle.mob_small.proofs.LoneKeeping.{lone_bounded}
+use Rattle.mob_small.proofs.MenAlone.{bounded}
+use Rattle.cha_cert.specs.AtOnce.{IsShownAtOnce, BySets, ByMen}
 use Rattle.cha_cert.proofs.Bounded.{valid_is_unwinnable}
 use Rattle.cha_verdict.specs.declared.verdicts.Verdict.{Verdict}
 use Rattle.cha_verdict.specs.declared.verdicts.Verdict.TheVariants.{Winnable, Unwinnable, Undecided, Skipped}
 use Rattle.cha_verdict.specs.declared.decisions.Decision.{Decision}
-use Rattle.cha_verdict.specs.AtOnce.{IsShownAtOnce, BySets, BySmallMaterial, ByLoneMen}
 use Rattle.cha_limits.specs.Bounds.{Bounds}
 use Rattle.cha_verdict.specs.Verdicts.{is_winnable, is_unwinnable, is_undecided, is_skipped}
 use Rattle.cha_verdict.specs.Sound.{IsTrueOf, IsSound, IsComplete, verdict_on}
@@ -21,8 +20,7 @@ use Rattle.cha_verdict.specs.Sound.{IsTrueOf, IsSound, IsComplete, verdict_on}
 -- what is shown without a search holds
 at_once_bounded : (q : Board) (w : Color) → IsValid q → IsShownAtOnce q w → IsUnwinnable q w
 at_once_bounded q w valid (BySets static) = static_bounded q w valid static
-at_once_bounded q w valid (BySmallMaterial small) = small_bounded q w valid small
-at_once_bounded q w valid (ByLoneMen lone) = lone_bounded q w valid lone
+at_once_bounded q w valid (ByMen reason holds) = bounded q w reason valid holds
 
 module _ (q : Board) (w : Color) (limits : Bounds) where
   -- a side that is examined is winnable where a mate within two plies exists

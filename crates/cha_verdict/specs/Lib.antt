@@ -1,4 +1,3 @@
-pub mod AtOnce
 pub mod Verdicts
 pub mod Sound
 pub mod Scans

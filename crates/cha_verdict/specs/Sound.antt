@@ -12,7 +12,7 @@ use Rattle.cha_cert.specs.Certificates.{IsValidCert}
 use Rattle.cha_verdict.specs.declared.verdicts.Verdict.{Verdict}
 use Rattle.cha_verdict.specs.declared.verdicts.Verdict.TheVariants.{Winnable, Unwinnable, Undecided, Skipped}
 use Rattle.cha_verdict.specs.declared.decisions.Decision.{Decision}
-use Rattle.cha_verdict.specs.AtOnce.{IsShownAtOnce}
+use Rattle.cha_cert.specs.AtOnce.{IsShownAtOnce}
 use Rattle.cha_limits.specs.Bounds.{Bounds}
 use Rattle.cha_verdict.specs.Verdicts.{is_winnable, is_unwinnable, is_undecided, is_skipped}
 

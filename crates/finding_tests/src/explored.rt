@@ -11,7 +11,7 @@ use cha_cert::{Checked, Part, check};
 use cha_fact::{Facts, Line, Proved};
 use cha_moves::{Move, is_mate, replays};
 use forced_graph::{Explored, explore, explore_in};
-use mob_small::small_verdict;
+use mob_small::{Reason, small_verdict};
 use mob_solve::static_verdict;
 use shard_table::{Shard, Table};
 use std::alloc::Global;
@@ -75,8 +75,7 @@ fn has_second(
 #[derive(Clone, Copy, PartialEq, Eq)]
 enum Left {
     Sets,
-    Small,
-    Lone,
+    Men(Reason),
 }
 
 /// What shows the end of a node, if it is a leaf.
@@ -84,8 +83,7 @@ fn shown_by(part: &Part) -> Option<Left> {
     match part {
         Part::Inner => None,
         Part::Leaf(_) => Some(Left::Sets),
-        Part::Small => Some(Left::Small),
-        Part::Lone => Some(Left::Lone),
+        Part::Men(reason) => Some(Left::Men(*reason)),
     }
 }
 
@@ -120,7 +118,7 @@ fn is_closed_by(rt: &impl Abort, alloc: Global, root: &str, left: &str, want: Le
     let left = place(rt, left);
     let shown = static_verdict(alloc, &left, Color::White);
     assert!(rt; shown.expect(rt, "memory").is_none());
-    assert!(rt; small_verdict(&left, Color::White) == (want == Left::Small));
+    assert!(rt; small_verdict(&left, Color::White) == (want == Left::Men(Reason::Small)));
     let mut shard = Shard::new(alloc, 16).expect(rt, "memory");
     let closed = explored(rt, alloc, &position, 1, &mut shard);
     has_second(rt, alloc, &position, &closed, &left, want);
@@ -130,13 +128,19 @@ fn is_closed_by(rt: &impl Abort, alloc: Global, root: &str, left: &str, want: Le
 // are not small material.
 #[test]
 fn a_graph_that_the_men_left_end_is_closed(rt: HostRuntime) {
-    is_closed_by(&rt, rt.alloc(), KNIGHT_LEFT, KNIGHT_AND_QUEEN, Left::Small);
+    is_closed_by(
+        &rt,
+        rt.alloc(),
+        KNIGHT_LEFT,
+        KNIGHT_AND_QUEEN,
+        Left::Men(Reason::Small),
+    );
     is_closed_by(
         &rt,
         rt.alloc(),
         LONE_KNIGHT_LEFT,
         KNIGHT_AND_QUEENS,
-        Left::Lone,
+        Left::Men(Reason::Lone),
     );
 }
 

@@ -10,11 +10,12 @@ use Rattle.cha_board.specs.Board.{Board, IsValid}
 use Rattle.cha_moves.specs.Moves.{after}
 use Rattle.cha_cert.specs.declared.nodes.Node.{Node as CertNode}
 use Rattle.cha_cert.specs.declared.nodes.Part.{Part}
-use Rattle.cha_cert.specs.declared.nodes.Part.TheVariants.{Inner, Leaf, Small, Lone}
+use Rattle.cha_cert.specs.declared.nodes.Part.TheVariants.{Inner}
 use Rattle.cha_cert.specs.Certificates.{positions_of, PartHolds, NodeHolds, BeginsAt, IsValidCert}
 use Rattle.node_store.specs.Nodes.{Node, positions}
 use Rattle.node_store.specs.Graphs.{IsStore}
-use Rattle.forced_graph.specs.Regions.{Waits, IsLeaf, IsSettled, AreLed, AreExpanded, Between, certified}
+use Rattle.cha_cert.proofs.Leaves.{leaf_holds, not_inner}
+use Rattle.forced_graph.specs.Regions.{Waits, IsSettled, AreLed, AreExpanded, Between, certified}
 use Rattle.forced_graph.specs.declared.explored.Explored.TheVariants.{Closed}
 use Rattle.forced_graph.specs.Outcomes.{IsCertSize, HasExpandedInner, IsOutcome}
 use Rattle.forced_graph.proofs.ByName.{length_positions}
@@ -41,13 +42,6 @@ begins_at : (root : Board) (qs : List Board) (parts : List Part) → length part
 begins_at root [] parts size at = cc
 begins_at root (q ∷ qs) [] size at = absurd (omega (arith, size))
 begins_at root (q ∷ qs) (part ∷ parts) size at = same_Some q root at
-
-leaf_holds : (w : Color) (nodes : List CertNode) (q : Board) (part : Part) → IsLeaf w q part → PartHolds w nodes q part
-unfolding IsLeaf
-leaf_holds w nodes q Inner leaf = absurd leaf
-leaf_holds w nodes q (Leaf sets) leaf = leaf
-leaf_holds w nodes q Small leaf = leaf
-leaf_holds w nodes q Lone leaf = leaf
 
 -- each node holds
 holds : (root : Board) (w : Color) (count : ℕ) (nodes : List Node) (waiting : List (List ℕ)) (parts : List Part) → Between root w count nodes waiting parts → ((name : ℕ) → Waits waiting name → ⊥) → (cert : List CertNode) → positions_of cert ≡ positions nodes
@@ -114,14 +108,6 @@ closed_ok (Err e) root w count nodes waiting parts store was none is = tt
 pub size_ok : (o : Result (List CertNode) NoMemory) (root : Board) (w : Color) (count : ℕ) (nodes : List Node) (waiting : List (List ℕ)) (parts : List Part) → IsStore nodes waiting → Between root w count nodes waiting parts → IfOk o (λ cert. cert ≡ certified (positions nodes) parts) → IfOk o (λ cert. IsCertSize (length cert))
 size_ok (Ok cert) root w count nodes waiting parts store was is = cert_size nodes waiting parts cert store was.map.size is
 size_ok (Err e) root w count nodes waiting parts store was is = tt
-
--- an inner node is no leaf
-not_inner : (w : Color) (q : Board) (part : Part) → IsLeaf w q part → part ≡ Inner → ⊥
-unfolding IsLeaf
-not_inner w q Inner leaf is = leaf
-not_inner w q (Leaf sets) leaf is = cc
-not_inner w q Small leaf is = cc
-not_inner w q Lone leaf is = cc
 
 -- so each of them was expanded
 inner_expanded : (root : Board) (w : Color) (count : ℕ) (nodes : List Node) (waiting : List (List ℕ)) (parts : List Part) (was : Between root w count nodes waiting parts) → ((name : ℕ) → Waits waiting name → ⊥)

@@ -21,7 +21,9 @@ use Rattle.node_store.proofs.Marking.{same_positions, same_length, at_marked, at
 use Rattle.node_store.proofs.Paths.{at_within}
 use Rattle.forced_graph.specs.HowManyWait.{how_many}
 use Rattle.forced_graph.specs.Grown.{IsGrown}
-use Rattle.forced_graph.specs.Regions.{Waits, IsLeaf, IsLeafPart, IsOpen, IsSettled, AreLed, AreExpanded, IsMap, Between, Popped, Expanding}
+use Rattle.cha_cert.specs.AtOnce.{BySets}
+use Rattle.cha_cert.specs.Certificates.{IsLeaf}
+use Rattle.forced_graph.specs.Regions.{Waits, IsLeafPart, IsOpen, IsSettled, AreLed, AreExpanded, IsMap, Between, Popped, Expanding}
 use Rattle.forced_graph.proofs.Waiting.{none_waits, fewer_wait, first_waits, waits_on, waited, waits_nowhere, put_waits}
 use Rattle.forced_graph.proofs.Members.{IsNext, grown_none, grown_more}
 use Rattle.forced_graph.proofs.ByName.{get_contained, contained_get, get_set, same_origins}
@@ -193,7 +195,7 @@ next_here root w nodes waiting parts members name here (Some o) m grown at new h
           by = o.by;
           is_legal = subst (λ (b : Board). Contains (legal b) o.by) same reached.2.0;
           leads = subst (λ (b : Board). after b o.by ≡ here) same reached.2.1;
-          unshown = λ zeroing shown. unshown o parent.0 here from parent.1 at zeroing (inl shown);
+          unshown = λ zeroing shown. unshown o parent.0 here from parent.1 at zeroing (BySets shown);
         };
         unshown = unshown o parent.0 here from parent.1 at;
       },

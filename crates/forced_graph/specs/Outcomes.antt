@@ -1,5 +1,5 @@
 -- What an exploration answers (this project).
-use Rattle.std.specs.Prelude.{◌≡◌, ℕ, suc, ◌≤◌, ⊤, ◌⊎◌, IsTrue, List, Some, length, slice_get, Contains}
+use Rattle.std.specs.Prelude.{◌≡◌, ℕ, suc, ◌≤◌, ⊤, IsTrue, List, Some, length, slice_get, Contains}
 use Rattle.std.specs.List.{All}
 use Rattle.cha_list.specs.Distinct.{AreDistinct}
 use Rattle.cha_board.specs.declared.men.Color.{Color}
@@ -7,12 +7,10 @@ use Rattle.cha_board.specs.Board.{Board}
 use Rattle.cha_moves.specs.Moves.{is_zeroing}
 use Rattle.cha_moves.specs.Ends.{IsMatingLine}
 use Rattle.cha_moves.specs.Lines.{HasPositions}
-use Rattle.mob_law.specs.Static.{IsStaticallyUnwinnable}
 use Rattle.mob_law.specs.Explored.{ComesFrom, IsExplored}
-use Rattle.mob_small.specs.Small.{IsSmallUnwinnable}
-use Rattle.mob_small.specs.Lone.{IsLoneUnwinnable}
 use Rattle.cha_cert.specs.declared.nodes.Node.{Node}
 use Rattle.cha_cert.specs.declared.nodes.Part.TheVariants.{Inner}
+use Rattle.cha_cert.specs.AtOnce.{IsShownAtOnce}
 use Rattle.cha_cert.specs.Certificates.{IsValidCert}
 use Rattle.forced_graph.specs.declared.explored.Explored.{Explored}
 use Rattle.forced_graph.specs.declared.explored.Explored.TheVariants.{Mate, Closed, Spent}
@@ -21,15 +19,11 @@ use Rattle.forced_graph.specs.declared.explored.Explored.TheVariants.{Mate, Clos
 abbrev pub IsCertSize : ℕ → Type 0
 IsCertSize n = (1 ≤ n) × (n ≤ 4294967295)
 
--- closed sets without a mate show that w cannot mate, or the men are too few for it, or its minor pieces are lone
-abbrev pub IsShown : Board → Color → Type 0
-IsShown q w = IsStaticallyUnwinnable q w ⊎ IsSmallUnwinnable q w ⊎ IsLoneUnwinnable q w
-
 -- A position comes by a legal move from one of the first so many of a list; where that move is a capture or a pawn's, nothing
 -- shows at once that w cannot mate.
 pub record ComesUnshown (members : List Board) (before : ℕ) (w : Color) (q : Board) : Type 0 where
   pub comes : ComesFrom members before w q
-  pub unshown : IsTrue (is_zeroing comes.origin comes.by) → IsShown q w → ⊥
+  pub unshown : IsTrue (is_zeroing comes.origin comes.by) → IsShownAtOnce q w → ⊥
 
 -- each position of a list but the first comes from an earlier one, and where a capture or a pawn's move leads to it, nothing shows
 -- at once that w cannot mate

@@ -6,38 +6,29 @@ use Rattle.cha_board.specs.Board.{Board}
 use Rattle.cha_moves.specs.Step.{Move}
 use Rattle.cha_moves.specs.Moves.{after, legal, is_zeroing}
 use Rattle.cha_moves.specs.Ends.{IsMated}
-use Rattle.mob_small.specs.Small.{IsSmallUnwinnable}
-use Rattle.mob_small.specs.Lone.{IsLoneUnwinnable}
 use Rattle.cha_cert.specs.declared.nodes.Node.{Node as CertNode}
 use Rattle.cha_cert.specs.declared.nodes.Part.{Part}
-use Rattle.cha_cert.specs.declared.nodes.Part.TheVariants.{Inner, Leaf, Small, Lone}
-use Rattle.cha_cert.specs.Certificates.{LeafHolds}
+use Rattle.cha_cert.specs.declared.nodes.Part.TheVariants.{Inner}
+use Rattle.cha_cert.specs.AtOnce.{IsShownAtOnce}
+use Rattle.cha_cert.specs.Certificates.{IsLeaf}
 use Rattle.node_store.specs.declared.origin.Origin.{Origin}
 use Rattle.node_store.specs.NameLists.{list_at, Has, put}
 use Rattle.node_store.specs.Nodes.{Node, positions, origins, IsAt, IsNew}
 use Rattle.forced_graph.specs.declared.region.Region.{Region}
-use Rattle.forced_graph.specs.Outcomes.{IsShown}
 use Rattle.forced_graph.specs.Grown.{IsGrown}
 
 -- a name waits in some list
 unfoldable pub Waits : List (List ℕ) → ℕ → Type 0
 Waits waiting name = (b : ℕ) × Has (list_at waiting b) name
 
--- by its part alone a position is one from which no series of legal moves mates
-unfoldable pub IsLeaf : Color → Board → Part → Type 0
-IsLeaf w q Inner = ⊥
-IsLeaf w q (Leaf sets) = LeafHolds w q sets
-IsLeaf w q Small = IsSmallUnwinnable q w
-IsLeaf w q Lone = IsLoneUnwinnable q w
-
--- and so is the node of a name
+-- by its part alone the node of a name is one from which no series of legal moves mates
 unfoldable pub IsLeafPart : List Node → ℕ → Color → Part → Type 0
 IsLeafPart nodes name w part = (q : Board) → IsAt nodes name q → IsLeaf w q part
 
 -- where a capture or a pawn's move led to a node, nothing shows at once that w cannot mate
 unfoldable pub IsOpen : List Node → ℕ → Color → Type 0
 IsOpen nodes name w = (o : Origin) (p q : Board) → slice_get (origins nodes) name ≡ Some (Some o) → IsAt nodes o.parent p → IsAt nodes name q
-    → IsTrue (is_zeroing p o.by) → IsShown q w → ⊥
+    → IsTrue (is_zeroing p o.by) → IsShownAtOnce q w → ⊥
 
 -- a node waits, or was expanded, or is a leaf
 unfoldable pub IsSettled : Color → List (List ℕ) → List Board → ℕ → Board → Part → Type 0

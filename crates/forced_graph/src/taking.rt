@@ -10,7 +10,7 @@ use crate::region::Region;
 use cha_board::Color;
 use cha_cert::Part;
 use cha_list::NoMemory;
-use mob_small::{lone_verdict, small_verdict};
+use mob_small::Reason;
 use mob_solve::static_verdict;
 use node_store::Store;
 use std::alloc::Global;
@@ -60,8 +60,8 @@ impl Region {
     }
 }
 
-/// What a node is as a leaf, if it is one: where the move that led there changes the position for good, it is looked at for
-/// small material, then for lone minor pieces, and then for closed sets without a mate.
+/// What a node is as a leaf, if it is one: where the move that led there changes the position for good, its men are looked at,
+/// which may show it alone, and then closed sets without a mate are looked for.
 fn leaf_part(
     alloc: Global,
     store: &Store,
@@ -79,11 +79,8 @@ fn leaf_part(
     if !is_lasting(&store.position(origin.parent), origin.by, &next) {
         return Ok(None);
     }
-    if small_verdict(&next, winner) {
-        return Ok(Some(Part::Small));
-    }
-    if lone_verdict(&next, winner) {
-        return Ok(Some(Part::Lone));
+    if let Some(reason) = Reason::find(&next, winner) {
+        return Ok(Some(Part::Men(reason)));
     }
     match static_verdict(alloc, &next, winner)? {
         None => Ok(None),

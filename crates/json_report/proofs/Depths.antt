@@ -29,7 +29,7 @@ use Rattle.json.specs.Json.{Members, no_members, max_depth}
 use Rattle.json.specs.Tree.{depth, items_depth, members_depth}
 use Rattle.json_report.specs.declared.extras.Extras.{Extras}
 use Rattle.json_report.specs.declared.grounds.Ground.{Ground}
-use Rattle.json_report.specs.declared.grounds.Ground.TheVariants.{Sets, Material, LonePieces, Graph}
+use Rattle.json_report.specs.declared.grounds.Ground.TheVariants.{Sets, Men, Graph}
 use Rattle.json_report.specs.Lines.{texts, words_of, fens_of, line_members}
 use Rattle.json_report.specs.Summaries.{games_json, positions_json, mates_json, plies_json}
 use Rattle.cha_outcome.specs.declared.totals.Totals.{Totals}
@@ -56,8 +56,7 @@ certs_low false winner cert = omega arith
 grounds_low : (ground : Ground) (nodes : ℕ) (more : Members) → members_depth more ≤ 1 → members_depth (ground_members ground nodes more) ≤ 1
 unfolding ground_members
 grounds_low Sets nodes more h = omega (arith, h)
-grounds_low Material nodes more h = omega (arith, h)
-grounds_low LonePieces nodes more h = omega (arith, h)
+grounds_low (Men reason) nodes more h = omega (arith, h)
 grounds_low Graph nodes more h = omega (arith, h)
 
 -- the verdict on a side

@@ -4,7 +4,7 @@ use Rattle.cha_board.specs.declared.men.Color.{Color}
 use Rattle.cha_board.specs.Board.{Board}
 use Rattle.cha_cert.specs.declared.nodes.Node.{Node}
 use Rattle.cha_cert.specs.declared.nodes.Part.{Part}
-use Rattle.cha_cert.specs.declared.nodes.Part.TheVariants.{Inner, Leaf, Small, Lone}
+use Rattle.cha_cert.specs.declared.nodes.Part.TheVariants.{Inner, Leaf, Men}
 use Rattle.cha_cert.specs.Shared.{shared_of}
 use Rattle.cert_text.specs.SharedSpelled.{shared_text}
 use Rattle.cha_moves.specs.Step.{Move}
@@ -13,28 +13,27 @@ use Rattle.cha_verdict.specs.declared.verdicts.Verdict.TheVariants.{Winnable, Un
 use Rattle.json.specs.Json.{Json, string, array, object, Members, no_members, member}
 use Rattle.json_report.specs.declared.extras.Extras.{Extras}
 use Rattle.json_report.specs.declared.grounds.Ground.{Ground}
-use Rattle.json_report.specs.declared.grounds.Ground.TheVariants.{Sets, Material, LonePieces, Graph}
+use Rattle.json_report.specs.declared.grounds.Ground.TheVariants as grounds
+use Rattle.mob_small.specs.Reasons.{reason_name}
 use Rattle.json_report.specs.Lines.{count, texts, fens_of, line_members}
 
 -- what a certificate of one node rests on, by its part
 abbrev pub ground_by : Part → Ground
-ground_by Inner = Graph
-ground_by (Leaf sets) = Sets
-ground_by Small = Material
-ground_by Lone = LonePieces
+ground_by Inner = grounds.Graph
+ground_by (Leaf sets) = grounds.Sets
+ground_by (Men reason) = grounds.Men reason
 
 -- what a certificate rests on: of one node that is a leaf, on that leaf; of all else on the graph of its nodes
 abbrev pub ground_of : List Node → Ground
-ground_of [] = Graph
+ground_of [] = grounds.Graph
 ground_of (node ∷ []) = ground_by node.part
-ground_of (node ∷ next ∷ nodes) = Graph
+ground_of (node ∷ next ∷ nodes) = grounds.Graph
 
 -- its name, before further members, and of a graph also how many nodes it has
 unfoldable pub ground_members : Ground → ℕ → Members → Members
-ground_members Sets nodes more = member (codes "by") (string (codes "sets")) more
-ground_members Material nodes more = member (codes "by") (string (codes "material")) more
-ground_members LonePieces nodes more = member (codes "by") (string (codes "lone pieces")) more
-ground_members Graph nodes more = member (codes "by") (string (codes "graph")) (member (codes "nodes") (count nodes) more)
+ground_members grounds.Sets nodes more = member (codes "by") (string (codes "sets")) more
+ground_members (grounds.Men reason) nodes more = member (codes "by") (string (reason_name reason)) more
+ground_members grounds.Graph nodes more = member (codes "by") (string (codes "graph")) (member (codes "nodes") (count nodes) more)
 
 -- the certificate of a side that cannot mate, its equal sets written once, where certificates are printed
 abbrev pub cert_members : Bool → Color → List Node → Members

@@ -9,6 +9,7 @@ use crate::members::{put_count, put_text};
 use cha_cert::{Node, Part};
 use cha_list::NoMemory;
 use json_text::JsonText;
+use mob_small::Reason;
 use std::alloc::Global;
 
 /// What a certificate rests on.
@@ -16,10 +17,8 @@ use std::alloc::Global;
 pub enum Ground {
     /// Closed mobility sets of the position itself.
     Sets,
-    /// Small material.
-    Material,
-    /// Lone minor pieces.
-    LonePieces,
+    /// The men on the board alone.
+    Men(Reason),
     /// Several positions that lead to each other.
     Graph,
 }
@@ -31,8 +30,7 @@ fn ground_alone(part: &Part) -> Ground
     match part {
         Part::Inner => Ground::Graph,
         Part::Leaf(_) => Ground::Sets,
-        Part::Small => Ground::Material,
-        Part::Lone => Ground::LonePieces,
+        Part::Men(reason) => Ground::Men(*reason),
     }
 }
 
@@ -61,12 +59,8 @@ pub fn put_ground(
             put_text(b"by", b"sets", json)?;
             Ok(())
         }
-        Ground::Material => {
-            put_text(b"by", b"material", json)?;
-            Ok(())
-        }
-        Ground::LonePieces => {
-            put_text(b"by", b"lone pieces", json)?;
+        Ground::Men(reason) => {
+            put_text(b"by", reason.name(), json)?;
             Ok(())
         }
         Ground::Graph => {

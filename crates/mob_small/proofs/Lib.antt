@@ -14,3 +14,4 @@ pub mod Uncovering
 pub mod Knights
 pub mod Bishops
 pub mod LoneKeeping
+pub mod MenAlone

@@ -1,6 +1,6 @@
 use Rattle.std.proofs.Common.{◌<◌, arith}
 use Rattle.node_store.proofs.Paths.{earlier}
-use Rattle.forced_graph.proofs.Opening.{open_root, open_quiet, open_unshown, leaf_shown, leaf_small, leaf_lone}
+use Rattle.forced_graph.proofs.Opening.{open_root, open_quiet, open_unshown, leaf_shown, leaf_men}
 use Rattle.forced_graph.proofs.taking.leaf_part.Goals as goal
 
 pub returns-in_default-clause-open : goal.returns-in_default-clause-open
@@ -18,15 +18,11 @@ returns-then-not-is_lasting-clause-open c =
 
 pub returns-in-None-clause-open : goal.returns-in-None-clause-open
 returns-in-None-clause-open c =
-    open_unshown c.args.store.now.nodes c.args.name c.args.winner c.position-next.result c.in_ok-static_verdict.field-0 c.position-next.ensures c.in-None.is c.in_ok-static_verdict.ensures.none
-    (λ small. let is = c.small_verdict.ensures.1 small in let not = c.if-small_verdict.false in cc) (λ lone. let is = c.lone_verdict.ensures.1 lone in let not = c.if-lone_verdict.false in cc)
+    open_unshown c.args.store.now.nodes c.args.name c.args.winner c.position-next.result c.in_ok-static_verdict.field-0 c.position-next.ensures c.in-None.is c.in_ok-static_verdict.ensures.none c.in_default-find.ensures
 
 pub returns-in-Some-2-clause-leaf : goal.returns-in-Some-2-clause-leaf
 returns-in-Some-2-clause-leaf c =
     leaf_shown c.args.store.now.nodes c.args.name c.args.winner c.position-next.result c.in_ok-static_verdict.field-0 c.in-Some-2.sets c.position-next.ensures c.in-Some-2.is c.in_ok-static_verdict.ensures.closed c.in_ok-static_verdict.ensures.no_mate
 
-pub returns-then-small_verdict-clause-leaf : goal.returns-then-small_verdict-clause-leaf
-returns-then-small_verdict-clause-leaf c = leaf_small c.args.store.now.nodes c.args.name c.args.winner c.position-next.result c.position-next.ensures (c.small_verdict.ensures.0 c.if-small_verdict.true)
-
-pub returns-then-lone_verdict-clause-leaf : goal.returns-then-lone_verdict-clause-leaf
-returns-then-lone_verdict-clause-leaf c = leaf_lone c.args.store.now.nodes c.args.name c.args.winner c.position-next.result c.position-next.ensures (c.lone_verdict.ensures.0 c.if-lone_verdict.true)
+pub returns-in-Some-find-clause-leaf : goal.returns-in-Some-find-clause-leaf
+returns-in-Some-find-clause-leaf c = leaf_men c.args.store.now.nodes c.args.name c.args.winner c.position-next.result c.find.result c.in-Some-find.reason c.position-next.ensures c.in-Some-find.is c.find.ensures

@@ -6,13 +6,11 @@ pub returns-in_ok-put_text-in-Sets : goal.returns-in_ok-put_text-in-Sets
 unfolding ground_members
 returns-in_ok-put_text-in-Sets c = λ more. rw c.in-Sets.is (next _ _ _ _ _ c.in_ok-put_text-in-Sets.ensures)
 
-pub returns-in_ok-put_text-in-Material : goal.returns-in_ok-put_text-in-Material
+pub returns-in_ok-put_text-in-Men : goal.returns-in_ok-put_text-in-Men
 unfolding ground_members
-returns-in_ok-put_text-in-Material c = λ more. rw c.in-Material.is (next _ _ _ _ _ c.in_ok-put_text-in-Material.ensures)
-
-pub returns-in_ok-put_text-in-LonePieces : goal.returns-in_ok-put_text-in-LonePieces
-unfolding ground_members
-returns-in_ok-put_text-in-LonePieces c = λ more. rw c.in-LonePieces.is (next _ _ _ _ _ c.in_ok-put_text-in-LonePieces.ensures)
+returns-in_ok-put_text-in-Men c =
+    let named = rw c.name.ensures at c.in_ok-put_text-in-Men.ensures in
+    λ more. rw c.in-Men.is (next _ _ _ _ _ named)
 
 pub returns-in_ok-put_count-in-Graph : goal.returns-in_ok-put_count-in-Graph
 unfolding ground_members

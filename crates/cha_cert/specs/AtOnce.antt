@@ -2,14 +2,12 @@
 use Rattle.cha_board.specs.declared.men.Color.{Color}
 use Rattle.cha_board.specs.Board.{Board}
 use Rattle.mob_law.specs.Static.{IsStaticallyUnwinnable}
-use Rattle.mob_small.specs.Small.{IsSmallUnwinnable}
-use Rattle.mob_small.specs.Lone.{IsLoneUnwinnable}
+use Rattle.mob_small.specs.declared.reasons.Reason.{Reason}
+use Rattle.mob_small.specs.Reasons.{ReasonHolds}
 
 -- a side is shown unable to mate without a search
 pub data IsShownAtOnce (q : Board) (winner : Color) : Type 0 where
   -- by closed mobility sets without a mate,
   BySets : IsStaticallyUnwinnable q winner → IsShownAtOnce q winner
-  -- or since the men are so few,
-  BySmallMaterial : IsSmallUnwinnable q winner → IsShownAtOnce q winner
-  -- or since its minor pieces never mate beside the other men
-  ByLoneMen : IsLoneUnwinnable q winner → IsShownAtOnce q winner
+  -- or by the men alone
+  ByMen : (reason : Reason) → ReasonHolds q winner reason → IsShownAtOnce q winner

@@ -161,6 +161,35 @@ def words_are_refused(row: Row, program: Program, library: Optional[Library]) ->
             yield f"wanted {expected!r}, found {found.error!r}"
 
 
+#: what an empty input gives, by the first word of what is ordered: as text, and the beginning of a line of JSON
+EMPTY = {
+    "games": (b"games: 0, unreadable: 0, changed: 0, undecided: 0\n", b'{"games":0,'),
+    "positions": (b"positions: 0, refused: 0, dead: 0, undecided: 0\n", b'{"positions":0,'),
+    "mates": (b"positions: 0, refused: 0, found: 0\n", b'{"positions":0,'),
+    "replay": (b"games: 0, unreadable: 0\n", b'{"games":0,'),
+    "correct": (b"", None),
+    "check": (b"refused: line 1 header\n", None),
+}
+
+
+def words_order(row: Row, program: Program, library: Optional[Library]) -> Iterator[str]:
+    """Words that are in the language: the program does what they order. What a search may spend is not seen; `hall_tests` tests that."""
+    words, ordered = words_of(row.columns[0]), row.columns[1].split()
+    for engine in (program, library):
+        if not engine:
+            continue
+        if ordered[0] == "gen":
+            text, json_text = f"games: {ordered[6]}, unreadable: 0, ".encode(), None
+            if engine is library:
+                continue
+        else:
+            text, json_text = EMPTY[ordered[0]]
+        found = engine.run(words, b"")
+        wanted = json_text if "json" in ordered and json_text else text
+        if found.status != (6 if ordered[0] == "check" else 0) or not found.output.startswith(wanted):
+            yield f"wanted {wanted!r}, found {found}"
+
+
 def replayed(words: str, start: Optional[str], engine: Callable[..., Answer]) -> List[str]:
     """The lines of `replay` on a game of these words."""
     head = f'[FEN "{start}"]\n\n' if start else ""

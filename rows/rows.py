@@ -35,6 +35,7 @@ TABLES = {
     "verdicts": checks.verdict_fits,
     "helpmates": checks.helpmate_fits,
     "words": checks.words_are_refused,
+    "ordered": checks.words_order,
     "moves": checks.move_fits,
     "written": checks.written_fits,
     "whole-games": checks.game_fits,

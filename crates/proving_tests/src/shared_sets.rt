@@ -58,6 +58,7 @@ fn checked(rt: &impl Abort, alloc: Global, position: &Position, cert: &Cert) -> 
 
 /// Asserts that both checks answer the same.
 fn is_answered_alike(rt: &impl Abort, alloc: Global, position: &Position, shared: &SharedCert) {
+    assert!(rt; shared.nodes().len() <= 99);
     let back = expand(alloc, shared).expect(rt, "memory");
     let plain = checked(rt, alloc, position, &back);
     let answer = check_shared(alloc, position, Color::White, shared);

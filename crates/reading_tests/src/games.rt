@@ -116,12 +116,18 @@ fn named(fault: GameFault) -> &'static str {
     }
 }
 
+/// Asserts the games of a text that comes in pieces of a size.
+fn gives_games(rt: &impl Abort, alloc: Global, text: &[u8], size: u32, want: &[u8]) {
+    let found = shown(rt, alloc, text, size);
+    assert!(rt; found.as_slice() == want, "{text:?}");
+}
+
 /// Asserts the games of a text, whatever pieces it comes in.
 fn has_games(rt: &impl Abort, alloc: Global, text: &[u8], want: &[u8]) {
-    for size in &[1, 2, 7, 4096] {
-        let found = shown(rt, alloc, text, *size);
-        assert_eq!(rt; found.as_slice(), want, "{text:?}");
-    }
+    gives_games(rt, alloc, text, 1, want);
+    gives_games(rt, alloc, text, 2, want);
+    gives_games(rt, alloc, text, 7, want);
+    gives_games(rt, alloc, text, 4096, want);
 }
 
 /// Asserts the games of each text of a table.
@@ -144,31 +150,27 @@ fn texts_have_their_games(rt: HostRuntime) {
     }
 }
 
-/// Whether the reader of eight bytes in pieces of three failed, and how reading the first game ended, where a read fails.
-fn first_game(rt: &impl Abort, alloc: Global, failing: u32) -> (bool, Option<ReadEnd>) {
-    let mut source = pieces_of(rt, alloc, b"e4 * d4 ", 3, failing);
-    let mut reader = Reader::new(alloc).expect(rt, "memory");
-    let end = first_end(rt, &mut reader, &mut source);
-    (reader.failed(), end)
-}
-
-/// How reading a game ended.
-fn first_end(rt: &impl Abort, reader: &mut Reader, source: &mut Pieces) -> Option<ReadEnd>
+/// Asserts that the first game cannot be read where this says so, and is read else.
+fn has_first(rt: &impl Abort, reader: &mut Reader, source: &mut Pieces, fails: bool)
     requires { reader.old.failed ≡ false }
 {
-    match reader.next(source) {
-        Ok(Some(_game)) => None,
-        Ok(None) => panic!(rt; "no game"),
-        Err(end) => Some(end),
-    }
+    let end = reader.next(source).err();
+    assert!(rt;
+        end == if fails {
+            Some(ReadEnd::ReadFault)
+        } else {
+            None
+        }
+    );
+    assert!(rt; reader.failed() == fails);
 }
 
 /// The first game needs two reads: the byte behind its last token is in the second piece.
 #[test]
 fn a_reader_fails_where_its_source_fails(rt: HostRuntime) {
     for failing in 1..7 {
-        let (failed, end) = first_game(&rt, rt.alloc(), failing);
-        assert_eq!(rt; failed, failing <= 2, "call {failing}");
-        assert!(rt; end.is_none() || end == Some(ReadEnd::ReadFault));
+        let mut source = pieces_of(&rt, rt.alloc(), b"e4 * d4 ", 3, failing);
+        let mut reader = Reader::new(rt.alloc()).expect(&rt, "memory");
+        has_first(&rt, &mut reader, &mut source, failing <= 2);
     }
 }

@@ -8,7 +8,7 @@ import select
 import subprocess
 import tempfile
 import termios
-from typing import List, NamedTuple, Optional
+from typing import List, NamedTuple, Optional, Union
 
 
 class Answer(NamedTuple):
@@ -82,3 +82,11 @@ class Library:
     def run(self, words: List[str], data: bytes) -> Answer:
         status, output = self.calls.run(words, data)
         return Answer(status, output, None)
+
+
+class Engines:
+    """What is asked: the program, and the library where one is given."""
+
+    def __init__(self, program: Program, library: Optional[Library]) -> None:
+        self.program, self.library = program, library
+        self.all: List[Union[Program, Library]] = [program, *([library] if library else [])]

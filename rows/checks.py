@@ -5,7 +5,7 @@ import re
 import shlex
 from typing import Callable, Iterator, List, Optional, Tuple
 
-from asking import Answer, Library, Program
+from asking import Answer, Engines, Program
 from reading import Row, Run, meant
 
 #: commands that take a number of workers, and the numbers that are tried; the report is the same for each
@@ -64,16 +64,16 @@ def ways(run: Run) -> Iterator[Tuple[List[str], Optional[int]]]:
         yield run.words, size
 
 
-def run_fits(run: Run, is_filled: bool, program: Program, library: Optional[Library]) -> Iterator[str]:
+def run_fits(run: Run, is_filled: bool, engines: Engines) -> Iterator[str]:
     """A whole run, by the program in each way, and by the library; where that is asked, also with each room for its output."""
     data = run.text("<")
     for words, size in ways(run):
         way = shlex.join(["cha", *words]) + (f", pieces of {size} bytes" if size else "")
-        yield from fits(run, way, program.run(words, data, size=size))
-    if library:
-        yield from fits(run, "the library", library.run(run.words, data))
+        yield from fits(run, way, engines.program.run(words, data, size=size))
+    if engines.library:
+        yield from fits(run, "the library", engines.library.run(run.words, data))
     if is_filled:
-        yield from every_room(run, program)
+        yield from every_room(run, engines.program)
 
 
 def every_room(run: Run, program: Program) -> Iterator[str]:
@@ -90,35 +90,31 @@ def certificates(report: bytes) -> List[bytes]:
     return re.findall(rb"^cha-cert 2\n(?:.*\n)*?end\n", report, re.MULTILINE)
 
 
-def verdict_fits(row: Row, program: Program, library: Optional[Library]) -> Iterator[str]:
+def verdict_fits(row: Row, engines: Engines) -> Iterator[str]:
     """A position with its verdicts; the certificates of sides that cannot mate are accepted."""
     fen, white, black, status = row.columns
     block = f"position 1\nfen: {fen}\nwhite: {white}\nblack: {black}\nstatus: {status}\npositions: 1, "
     wanted = re.escape(block.encode()).replace(rb"\.\.", rb"[^\n]+")
     words, data = ["position", "--budget", "3000", "--depth", "2"], f"{fen}\n".encode()
-    for engine in (program, library):
-        if engine:
-            found = engine.run(words, data)
-            if found.status or found.error or not re.match(wanted, found.output):
-                yield f"wanted {block!r}, found {found.output!r}"
-    report = program.run([*words, "--certs"], data).output
+    for engine in engines.all:
+        found = engine.run(words, data)
+        if found.status or found.error or not re.match(wanted, found.output):
+            yield f"wanted {block!r}, found {found.output!r}"
+    report = engines.program.run([*words, "--certs"], data).output
     printed = certificates(report)
     if len(printed) != report.count(b": unwinnable\n"):
         yield f"{len(printed)} certificates in {report!r}"
     for certificate in printed:
         winner = b"w" if b"\nwinner w\n" in certificate else b"b"
-        for engine in (program, library):
-            if engine:
-                yield from compared("a certificate", engine.run(["check"], certificate), 0, b"accepted " + winner + b"\n")
+        for engine in engines.all:
+            yield from compared("a certificate", engine.run(["check"], certificate), 0, b"accepted " + winner + b"\n")
 
 
-def helpmate_fits(row: Row, program: Program, library: Optional[Library]) -> Iterator[str]:
+def helpmate_fits(row: Row, engines: Engines) -> Iterator[str]:
     """The shortest mates: as many plies and lines as are known, of which the program lists 200, and none in a ply less."""
     fen, side, plies, count = row.columns[:4]
     depth, data = max(4, int(plies)), fen.encode()
-    for engine in (program, library):
-        if not engine:
-            continue
+    for engine in engines.all:
         [found, _] = [json.loads(line) for line in engine.run(["mates", side, f"--depth={depth}", "--json"], data).output.splitlines()]
         told = (found["plies"], len(found.get("lines", [])), found.get("more"))
         if told != (int(plies), min(200, int(count)), int(count) > 200):
@@ -144,13 +140,13 @@ def named(message: bytes) -> str:
     return "command" if names[0] == "adjudicate" else " ".join(names)
 
 
-def words_are_refused(row: Row, program: Program, library: Optional[Library]) -> Iterator[str]:
+def words_are_refused(row: Row, engines: Engines) -> Iterator[str]:
     """Words that are not in the language; where it is known, the first that may not stand there and what may."""
     words = words_of(row.columns[0])
-    found = program.run(words, b"4k3/8/8/8/8/8/8/4K3 w - -\n")
+    found = engines.program.run(words, b"4k3/8/8/8/8/8/8/4K3 w - -\n")
     yield from compared("the program", found, 1, b"", None)
-    if library and "\0".join(words):
-        yield from compared("the library", library.run(words, b"4k3/8/8/8/8/8/8/4K3 w - -\n"), 1, b"")
+    if engines.library and "\0".join(words):
+        yield from compared("the library", engines.library.run(words, b"4k3/8/8/8/8/8/8/4K3 w - -\n"), 1, b"")
     if len(row.columns) > 1:
         before, expected = int(row.columns[1]), " ".join(row.columns[2:])
         place = f"'{' '.join(['cha', *words[:before]])}'"
@@ -172,15 +168,13 @@ EMPTY = {
 }
 
 
-def words_order(row: Row, program: Program, library: Optional[Library]) -> Iterator[str]:
+def words_order(row: Row, engines: Engines) -> Iterator[str]:
     """Words that are in the language: the program does what they order. What a search may spend is not seen; `hall_tests` tests that."""
     words, ordered = words_of(row.columns[0]), row.columns[1].split()
-    for engine in (program, library):
-        if not engine:
-            continue
+    for engine in engines.all:
         if ordered[0] == "gen":
             text, json_text = f"games: {ordered[6]}, unreadable: 0, ".encode(), None
-            if engine is library:
+            if engine is engines.library:
                 continue
         else:
             text, json_text = EMPTY[ordered[0]]
@@ -196,35 +190,31 @@ def replayed(words: str, start: Optional[str], engine: Callable[..., Answer]) ->
     return engine(["replay"], f"{head}{words} *\n".encode()).output.decode().splitlines()
 
 
-def move_fits(row: Row, program: Program, library: Optional[Library]) -> Iterator[str]:
+def move_fits(row: Row, engines: Engines) -> Iterator[str]:
     """A word in a position, and the move that it names or what is wrong with it."""
     fen, word, wanted = row.columns
-    for engine in (program, library):
-        if engine:
-            found = replayed(word, fen, engine.run)
-            told = f"unreadable: move 1 {word}: {wanted}" if wanted in FAULTS else f"ply 1: {wanted} "
-            if not any(line.startswith(told) for line in found):
-                yield f"found {found[1:-1]}"
+    for engine in engines.all:
+        found = replayed(word, fen, engine.run)
+        told = f"unreadable: move 1 {word}: {wanted}" if wanted in FAULTS else f"ply 1: {wanted} "
+        if not any(line.startswith(told) for line in found):
+            yield f"found {found[1:-1]}"
 
 
-def written_fits(row: Row, program: Program, library: Optional[Library]) -> Iterator[str]:
+def written_fits(row: Row, engines: Engines) -> Iterator[str]:
     """A move is written as the standard has it."""
     fen, word = row.columns
-    for engine in (program, library):
-        if engine:
-            found = replayed(word, fen, engine.run)
-            if not any(line.startswith("ply 1: ") and line.split()[3] == word for line in found):
-                yield f"found {found[1:-1]}"
+    for engine in engines.all:
+        found = replayed(word, fen, engine.run)
+        if not any(line.startswith("ply 1: ") and line.split()[3] == word for line in found):
+            yield f"found {found[1:-1]}"
 
 
-def game_fits(row: Row, program: Program, library: Optional[Library]) -> Iterator[str]:
+def game_fits(row: Row, engines: Engines) -> Iterator[str]:
     """A game is played to its last position, or stops at a word."""
     _, words, end = row.columns
     number, _, fault = end.partition(" ")
     count = len(words.split())
-    for engine in (program, library):
-        if not engine:
-            continue
+    for engine in engines.all:
         last = replayed(words, None, engine.run)[-2]
         if number.isdigit():
             right = last == f"unreadable: move {number} {words.split()[int(number) - 1]}: {fault}"
@@ -234,11 +224,11 @@ def game_fits(row: Row, program: Program, library: Optional[Library]) -> Iterato
             yield f"found {last!r}"
 
 
-def place_fits(row: Row, program: Program, library: Optional[Library]) -> Iterator[str]:
+def place_fits(row: Row, engines: Engines) -> Iterator[str]:
     """Where the games of a text stand, and whether it is closed, in whatever pieces the text comes."""
     data, wanted = meant(row.columns[0]), row.columns[1]
-    answers = [program.run(["replay", "--json"], data, size=size) for size in (None, *PIECES)]
-    for found in [*answers, *([library.run(["replay", "--json"], data)] if library else [])]:
+    answers = [engines.program.run(["replay", "--json"], data, size=size) for size in (None, *PIECES)]
+    for found in [*answers, *([engines.library.run(["replay", "--json"], data)] if engines.library else [])]:
         *games, last = [json.loads(line) for line in found.output.splitlines()]
         places = [f"{game['bytes'][0]}-{game['bytes'][1]}:{game['line']}" for game in games]
         told = " ".join([*places, "closed" if last["closed"] else "open"])

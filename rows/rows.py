@@ -12,14 +12,14 @@ import os
 import sys
 from concurrent.futures import ThreadPoolExecutor
 from pathlib import Path
-from typing import Callable, Iterator, List, NamedTuple, Optional
+from typing import Callable, Iterator, List, NamedTuple
 
 sys.path[:0] = [str(Path(__file__).resolve().parent), str(Path(__file__).resolve().parent.parent / "python")]
 
 import checks  # noqa: E402
 import reading  # noqa: E402
 import together  # noqa: E402
-from asking import Library, Program  # noqa: E402
+from asking import Engines, Library, Program  # noqa: E402
 
 
 class Check(NamedTuple):
@@ -43,18 +43,18 @@ TABLES = {
 }
 
 
-def all_checks(program: Program, library: Optional[Library]) -> Iterator[Check]:
+def all_checks(engines: Engines) -> Iterator[Check]:
     for path in sorted((reading.FOLDER / "runs").glob("*.txt")):
         for run in reading.runs(path.stem):
             is_filled = path.stem == "every-room"
-            yield Check(f"runs/{path.stem}", run.place, lambda run=run, is_filled=is_filled: checks.run_fits(run, is_filled, program, library))
+            yield Check(f"runs/{path.stem}", run.place, lambda run=run, is_filled=is_filled: checks.run_fits(run, is_filled, engines))
     for name, check in TABLES.items():
         for row in reading.table(name):
-            yield Check(name, row.place, lambda check=check, row=row: check(row, program, library))
+            yield Check(name, row.place, lambda check=check, row=row: check(row, engines))
     for kind in together.kinds(reading.table("verdicts"), reading.runs("corrections")):
-        yield Check("together", f"side by side: {kind.name}", lambda kind=kind: together.alike(kind, program))
-    for line, end, wanted in together.cuts():
-        yield Check("cuts", f"the first {end} bytes of a certificate", lambda a=line, b=wanted: together.is_refused(a, b, program, library))
+        yield Check("together", f"side by side: {kind.name}", lambda kind=kind: together.alike(kind, engines.program))
+    for front, wanted in together.cuts():
+        yield Check("cuts", f"the first {len(front)} bytes of a certificate", lambda a=front, b=wanted: together.is_refused(a, b, engines))
 
 
 def judged(check: Check) -> List[str]:
@@ -68,7 +68,7 @@ def judged(check: Check) -> List[str]:
 def main() -> int:
     path, *files = sys.argv[1:]
     library = Library(os.environ["CHA_LIBRARY"]) if "CHA_LIBRARY" in os.environ else None
-    chosen = [check for check in all_checks(Program(path), library) if not files or check.file in files]
+    chosen = [check for check in all_checks(Engines(Program(path), library)) if not files or check.file in files]
     failed = 0
     with ThreadPoolExecutor(max_workers=os.cpu_count()) as pool:
         for wrong in pool.map(judged, chosen):

@@ -4,7 +4,7 @@ import itertools
 from typing import Iterator, List, NamedTuple, Optional, Tuple
 
 import checks
-from asking import Library, Program
+from asking import Engines, Program
 from reading import Row, Run
 
 #: words of runs over games, and over positions, without the number of workers
@@ -97,15 +97,14 @@ def wanted(line: int, there: int) -> str:
     return {1: "header", 2: "winner", 3: "count", 4: "node", 5: "node", 6: "loose"}.get(line, "end")
 
 
-def cuts() -> Iterator[Tuple[bytes, int, bytes]]:
-    """Each front of the certificate, with its length and what is answered."""
+def cuts() -> Iterator[Tuple[bytes, bytes]]:
+    """Each front of the certificate, and what is answered."""
     for end in range(len(LOST)):
         front = LOST[:end]
         line, there = front.count(b"\n") + 1, end - (front.rfind(b"\n") + 1)
-        yield front, end, f"refused: line {line} {wanted(line, there)}\n".encode()
+        yield front, f"refused: line {line} {wanted(line, there)}\n".encode()
 
 
-def is_refused(front: bytes, answer: bytes, program: Program, library: Optional[Library]) -> Iterator[str]:
-    yield from checks.compared("the program", program.run(["check"], front), 6, answer)
-    if library:
-        yield from checks.compared("the library", library.run(["check"], front), 6, answer)
+def is_refused(front: bytes, answer: bytes, engines: Engines) -> Iterator[str]:
+    for engine in engines.all:
+        yield from checks.compared(type(engine).__name__, engine.run(["check"], front), 6, answer)

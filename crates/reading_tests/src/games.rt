@@ -165,12 +165,17 @@ fn has_first(rt: &impl Abort, reader: &mut Reader, source: &mut Pieces, fails: b
     assert!(rt; reader.failed() == fails);
 }
 
+/// Asserts whether the first game is read where a read fails.
+fn fails_at(rt: &impl Abort, alloc: Global, failing: u32) {
+    let mut source = pieces_of(rt, alloc, b"e4 * d4 ", 3, failing);
+    let mut reader = Reader::new(alloc).expect(rt, "memory");
+    has_first(rt, &mut reader, &mut source, failing <= 2);
+}
+
 /// The first game needs two reads: the byte behind its last token is in the second piece.
 #[test]
 fn a_reader_fails_where_its_source_fails(rt: HostRuntime) {
     for failing in 1..7 {
-        let mut source = pieces_of(&rt, rt.alloc(), b"e4 * d4 ", 3, failing);
-        let mut reader = Reader::new(rt.alloc()).expect(&rt, "memory");
-        has_first(&rt, &mut reader, &mut source, failing <= 2);
+        fails_at(&rt, rt.alloc(), failing);
     }
 }

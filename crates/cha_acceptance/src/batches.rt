@@ -64,70 +64,29 @@ fn begins_with(rt: &impl Abort, whole: &[u8], report: &[u8], count: usize) {
     assert!(rt; report.is_empty() || report.ends_with(b"\n"));
 }
 
-/// Asserts what a failing run leaves of the report of one worker.
-fn leaves<R: Threads + Wait + Abort + Sync>(
-    rt: &R,
-    alloc: Global,
-    failing: &Asked,
-    status: Status,
-    whole: &[u8],
-    count: usize,
-) {
-    let front = written(rt, alloc, failing, status);
-    begins_with(rt, whole, front.bytes(), count);
-}
-
-/// The report of one worker, where nothing fails.
-fn whole_report<R: Threads + Wait + Abort + Sync>(rt: &R, alloc: Global, input: &str) -> Kept {
-    let whole = asked(ONE, input, 0, 0);
-    written(rt, alloc, &whole, Status::Done)
-}
-
-/// The number of the read that fails, and how many games had come whole.
-const READS: &[(u32, usize)] = &[(2, 9), (3, 18), (4, 27), (5, 36)];
-
-/// Asserts what is left where a read fails.
-fn reads_leave<R: Threads + Wait + Abort + Sync>(
-    rt: &R,
-    alloc: Global,
-    line: &str,
-    input: &str,
-    whole: &[u8],
-) {
-    for (read, count) in READS {
-        let failing = asked(line, input, *read, 0);
-        leaves(rt, alloc, &failing, Status::ReadFault, whole, *count);
-    }
-}
-
 #[test]
 fn a_failing_read_leaves_the_blocks_of_whole_games(rt: HostRuntime) {
     let input = games(&rt, rt.alloc());
-    let whole = whole_report(&rt, rt.alloc(), input.as_str());
+    let whole = asked(ONE, input.as_str(), 0, 0);
+    let whole = written(&rt, rt.alloc(), &whole, Status::Done);
     assert_eq!(rt; blocks(&rt, whole.bytes()), 120);
-    reads_leave(&rt, rt.alloc(), ONE, input.as_str(), whole.bytes());
-    reads_leave(&rt, rt.alloc(), FOUR, input.as_str(), whole.bytes());
-}
-
-/// The number of the write that fails, and how many blocks were written before it.
-const WRITES: &[(u32, usize)] = &[(1, 0), (2, 1), (20, 19), (21, 20), (80, 79)];
-
-/// Asserts what is left where a write fails.
-fn writes_leave<R: Threads + Wait + Abort + Sync>(
-    rt: &R,
-    alloc: Global,
-    input: &str,
-    whole: &[u8],
-) {
-    for (write, count) in WRITES {
-        let failing = asked(FOUR, input, 0, *write);
-        leaves(rt, alloc, &failing, Status::WriteFault, whole, *count);
+    for (read, count) in [(2u32, 9usize), (3, 18), (4, 27), (5, 36)] {
+        for line in [ONE, FOUR] {
+            let failing = asked(line, input.as_str(), read, 0);
+            let front = written(&rt, rt.alloc(), &failing, Status::ReadFault);
+            begins_with(&rt, whole.bytes(), front.bytes(), count);
+        }
     }
 }
 
 #[test]
 fn a_failing_write_leaves_the_blocks_before_it(rt: HostRuntime) {
     let input = games(&rt, rt.alloc());
-    let whole = whole_report(&rt, rt.alloc(), input.as_str());
-    writes_leave(&rt, rt.alloc(), input.as_str(), whole.bytes());
+    let whole = asked(ONE, input.as_str(), 0, 0);
+    let whole = written(&rt, rt.alloc(), &whole, Status::Done);
+    for (write, count) in [(1u32, 0usize), (2, 1), (20, 19), (21, 20), (80, 79)] {
+        let failing = asked(FOUR, input.as_str(), 0, write);
+        let front = written(&rt, rt.alloc(), &failing, Status::WriteFault);
+        begins_with(&rt, whole.bytes(), front.bytes(), count);
+    }
 }

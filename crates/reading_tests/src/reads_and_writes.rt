@@ -91,31 +91,18 @@ const LIMITS: &[(u64, usize, Option<ReadEnd>)] = &[
     (u64::MAX, 9000, Some(ReadEnd::TooLong)),
 ];
 
-/// Asserts that reading in pieces ends early where one of its calls fails, and else not.
-fn fails_in_pieces(rt: &impl Abort, alloc: Global, count: usize, size: u32, calls: u32) {
-    for failing in 1..calls.saturating_add(3) {
-        let end = end_in_pieces(rt, alloc, count, size, failing);
-        let want = if failing <= calls {
-            Some(ReadEnd::ReadFault)
-        } else {
-            None
-        };
-        assert!(rt; end == want);
-    }
-}
-
 #[test]
 fn a_whole_input_is_read_or_fails(rt: HostRuntime) {
     for (count, size, calls) in IN_PIECES {
-        fails_in_pieces(&rt, rt.alloc(), *count, *size, *calls);
+        for failing in 1..calls.saturating_add(3) {
+            let end = end_in_pieces(&rt, rt.alloc(), *count, *size, failing);
+            assert_eq!(rt; end.is_some(), failing <= *calls);
+            assert!(rt; end.is_none() || end == Some(ReadEnd::ReadFault));
+        }
     }
-}
-
-#[test]
-fn an_input_has_a_limit(rt: HostRuntime) {
     for (count, limit, want) in LIMITS {
         let found = read_all(rt.alloc(), &mut Repeat::new(b' ', *count), *limit);
-        assert!(rt; found.err() == *want);
+        assert_eq!(rt; found.err(), *want);
     }
 }
 
@@ -196,18 +183,12 @@ const SINKS: &[(u32, u32, Answers, &[u8])] = &[
     (100, 2, [Wrote::All, Wrote::Failed(0), Wrote::All], b"abf"),
 ];
 
-/// Asserts what a sink answers, and what it keeps.
-fn takes(rt: &impl Abort, sink: &mut Kept, want: &Answers, bytes: &[u8]) {
-    assert!(rt; sink.write(b"ab") == want[0]);
-    assert!(rt; sink.write(b"cde") == want[1]);
-    assert!(rt; sink.write(b"f") == want[2]);
-    assert!(rt; sink.bytes() == bytes);
-}
-
 fn keeps(rt: &impl Abort, alloc: Global, room: u32, failing: u32, want: &Answers, bytes: &[u8]) {
     let fails = [failing].to_vec(alloc).expect(rt, "memory");
     let mut sink = Kept::new(alloc, room, fails).expect(rt, "memory");
-    takes(rt, &mut sink, want, bytes);
+    let answers = [sink.write(b"ab"), sink.write(b"cde"), sink.write(b"f")];
+    assert_eq!(rt; answers, *want, "room {room}");
+    assert_eq!(rt; sink.bytes(), bytes, "room {room}");
 }
 
 #[test]
@@ -260,24 +241,18 @@ const WRITERS: &[(usize, u32, bool, Wrote, &[u8])] = &[
     (0, 0, true, Wrote::Failed(0), b""),
 ];
 
-/// Asserts what a writer answers to `abcde` that takes so many bytes at each call.
-fn answers(rt: &impl Abort, writer: Slow, want: Wrote) {
-    let mut sink = WriteTo::new(writer);
-    assert!(rt; sink.write(b"abcde") == want);
-}
-
 #[test]
 fn a_writer_of_std_takes_all_or_fails(rt: HostRuntime) {
     for (most, failing, flushes, want, bytes) in WRITERS {
         let mut out = Vec::new(rt.alloc());
-        let writer = Slow {
+        let mut sink = WriteTo::new(Slow {
             out: &mut out,
             most: *most,
             calls: 0,
             failing: *failing,
             flushes: *flushes,
-        };
-        answers(&rt, writer, *want);
-        assert!(rt; out.as_slice() == *bytes);
+        });
+        assert_eq!(rt; sink.write(b"abcde"), *want);
+        assert_eq!(rt; out.as_slice(), *bytes);
     }
 }

@@ -9,6 +9,7 @@ use std::process::Abort;
 
 /// Asserts the text of a seed.
 fn is_made(rt: &impl Abort, alloc: Global, seed: u64, count: u32, want: &str) {
+    assert!(rt; 1 <= count && count <= 1000);
     let text = games_text(alloc, seed, count).expect(rt, "memory");
     assert!(rt; text.items() == want.as_bytes(), "for seed {seed}");
 }

@@ -4,6 +4,7 @@
 # make install    copies the program to PREFIX/bin (PREFIX=/usr/local)
 # make lib        builds libcha.a and libcha.so; make install-lib copies them, the header and cha.pc
 # make lib-test   runs both from C, under sanitizers, and from Python
+# make rows-test  puts rows with known answers (rows/) to the program and to the library
 # make join-test  cuts files of games apart, judges the pieces and joins their reports (tools/packages games)
 # make wheel      builds Python's wheel, python/dist/cha-*.whl, with the library in it
 # make data-test  tests the Python package: databases, tables, clusters, the wheel in a fresh environment (tools/packages data)
@@ -14,7 +15,7 @@ PREFIX ?= /usr/local
 PROGRAM = crates/cha_main/out/cha_main
 SOURCES = HANDLES crates.txt $(shell find crates/*/src crates/*/specs crates/*/proofs -type f)
 
-.PHONY: all run test install clean kit lib lib-test join-test install-lib wheel data-test text-test page page-test dist dist-test
+.PHONY: all run test install clean kit lib lib-test rows-test join-test install-lib wheel data-test text-test page page-test dist dist-test
 
 all: cha
 
@@ -61,6 +62,9 @@ lib-test: lib cha
 	./library/test
 	CHA_LIBRARY=./libcha.so python3 library/test.py ./cha $(FILES)
 	CHA_LIBRARY=./libcha.so python3 library/mates.py
+
+rows-test: lib cha
+	CHA_LIBRARY=./libcha.so python3 rows/rows.py ./cha
 
 join-test: lib
 	CHA_LIBRARY=./libcha.so python3 library/closed.py

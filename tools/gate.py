@@ -20,6 +20,7 @@ TOP = os.path.dirname(os.path.dirname(os.path.abspath(__file__)))
 SUITES = [
     (["rt", "ci"], None),
     (["make", "lib-test"], []),
+    (["make", "rows-test"], []),
     (["make", "join-test"], ["games"]),
     (["make", "data-test"], ["data"]),
     (["make", "page-test"], ["page"]),

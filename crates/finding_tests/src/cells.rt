@@ -1,4 +1,4 @@
-//! Passes that take turns at a sum: in threads, beside busy threads, with one still out, and split off and taken back many times.
+//! Passes that take turns at a sum: in threads beside busy ones, with one still out, and split off and taken back many times.
 
 ghost use Rattle.std.specs.Prelude.{◌≡◌, ◌+◌, ◌^◌, ◌%◌};
 ghost use Rattle.turn_cell.specs.Passes.{number, splits, IsOf, IsFirst};
@@ -32,17 +32,6 @@ impl Drop for Sum {
     fn drop(self) {
         let Sum { total: _ } = self;
     }
-}
-
-// Adds one, a thousand times.
-fn add_a_thousand<R: Wait>(rt: &R, cell: &TurnCell<Sum>, mut pass: Pass<Sum>) -> Pass<Sum>
-    requires { IsOf cell.now pass }
-    ensures { IsOf cell.now result × (number result ≡ number pass) }
-{
-    for _ in 0..1000 {
-        cell.turn(rt, &mut pass, 1);
-    }
-    pass
 }
 
 // Adds one, fifty thousand times and until another pass has added something too; then adds the sum of the replies to `replies`.
@@ -80,24 +69,6 @@ fn split_and_join<R: Wait>(rt: &R, cell: &TurnCell<Sum>, mut first: Pass<Sum>) -
         cell.join(&mut first, other);
     }
     first
-}
-
-#[test]
-fn two_threads_add_up_to_2000(rt: HostRuntime) {
-    let Ok((cell, mut first)) = TurnCell::new(rt.alloc(), Sum { total: 0 }) else {
-        panic!(rt; "no memory");
-    };
-    let second = cell.split(&mut first);
-    let (mut first, second) = thread::join(
-        &rt,
-        || add_a_thousand(&rt, &cell, first),
-        || add_a_thousand(&rt, &cell, second),
-    );
-    cell.join(&mut first, second);
-    match cell.close(first) {
-        Ok(sum) => assert_eq!(rt; sum.total, 2000),
-        Err(_) => panic!(rt; "a pass is still out"),
-    }
 }
 
 // While a thread for each processor is busy, passes are stopped in the middle of turns and while they wait. Neither ends before

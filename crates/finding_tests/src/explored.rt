@@ -1,4 +1,4 @@
-//! Positions whose end is known.
+//! Explorations of positions whose end is known. The certificates of closed ones are rows of data (`rows/runs/certificates.txt`).
 
 ghost use Rattle.std.specs.Prelude.{◌<◌};
 ghost use Rattle.cha_board.specs.Men.{other_color};
@@ -6,12 +6,10 @@ ghost use Rattle.cha_moves.specs.Ends.{IsMated};
 ghost use Rattle.mob_law.specs.Static.{IsStaticallyUnwinnable};
 
 use crate::from_fen::place;
-use cha_board::{Color, Position, Square, same_position};
-use cha_cert::{Checked, Part, check};
+use cha_board::{Color, Position, Square};
 use cha_fact::{Facts, Line, Proved};
 use cha_moves::{Move, is_mate, replays};
 use forced_graph::{Explored, explore, explore_in};
-use mob_small::{Reason, small_verdict};
 use mob_solve::static_verdict;
 use shard_table::{Shard, Table};
 use std::alloc::Global;
@@ -19,18 +17,6 @@ use std::process::Abort;
 
 /// A queen is taken by the only move, and a bare king is left to play against a pawn.
 const QUEEN_TAKEN: &str = "k7/1Q6/8/8/8/p7/8/4K3 b - -";
-
-const BARE_KING: &str = "8/1k6/8/8/8/p7/8/4K3 w - -";
-
-/// A queen is taken by the only move, and a knight is left to play against a queen.
-const KNIGHT_LEFT: &str = "k7/1Q6/8/8/3q4/8/8/4KN2 b - -";
-
-const KNIGHT_AND_QUEEN: &str = "8/1k6/8/8/3q4/8/8/4KN2 w - -";
-
-/// The same with two queens against the knight.
-const LONE_KNIGHT_LEFT: &str = "k7/1Q6/8/8/3q4/7q/8/4KN2 b - -";
-
-const KNIGHT_AND_QUEENS: &str = "8/1k6/8/8/3q4/7q/8/4KN2 w - -";
 
 /// A rook mates on the last rank.
 const LAST_RANK: &str = "6k1/5ppp/8/8/8/8/5PPP/3R2K1 b - -";
@@ -48,45 +34,6 @@ fn begins(rt: &impl Abort, alloc: Global, position: &Position)
     assert!(rt; shown.expect(rt, "memory").is_none());
 }
 
-/// Asserts that an exploration closed with a certificate of two nodes that is accepted for White: the position, an inner node,
-/// and a leaf at the position that is left, which this shows.
-fn has_second(
-    rt: &impl Abort,
-    alloc: Global,
-    position: &Position,
-    explored: &Explored,
-    left: &Position,
-    want: Left,
-) {
-    let Explored::Closed(cert) = explored else {
-        panic!(rt; "not closed");
-    };
-    let nodes = cert.nodes();
-    assert!(rt; nodes.len() == 2);
-    let checked = check(alloc, position, Color::White, cert);
-    assert!(rt; checked.expect(rt, "memory") == Checked::Accepted);
-    assert!(rt; matches!(&nodes[0].part, Part::Inner));
-    assert!(rt; same_position(&nodes[0].position, position));
-    assert!(rt; same_position(&nodes[1].position, left));
-    assert!(rt; shown_by(&nodes[1].part) == Some(want));
-}
-
-/// What shows the end of a leaf.
-#[derive(Clone, Copy, PartialEq, Eq)]
-enum Left {
-    Sets,
-    Men(Reason),
-}
-
-/// What shows the end of a node, if it is a leaf.
-fn shown_by(part: &Part) -> Option<Left> {
-    match part {
-        Part::Inner => None,
-        Part::Leaf(_) => Some(Left::Sets),
-        Part::Men(reason) => Some(Left::Men(*reason)),
-    }
-}
-
 /// Explores for White with a place of one's own.
 fn explored(
     rt: &impl Abort,
@@ -100,48 +47,6 @@ fn explored(
     begins(rt, alloc, position);
     let found = explore_in(alloc, position, Color::White, budget, shard);
     found.expect(rt, "memory")
-}
-
-#[test]
-fn a_graph_that_a_capture_ends_is_closed(rt: HostRuntime) {
-    let alloc = rt.alloc();
-    let position = place(&rt, QUEEN_TAKEN);
-    let left = place(&rt, BARE_KING);
-    let mut shard = Shard::new(alloc, 16).expect(&rt, "memory");
-    let closed = explored(&rt, alloc, &position, 1, &mut shard);
-    has_second(&rt, alloc, &position, &closed, &left, Left::Sets);
-}
-
-/// Asserts that a graph is closed by the men that are left, which no sets show.
-fn is_closed_by(rt: &impl Abort, alloc: Global, root: &str, left: &str, want: Left) {
-    let position = place(rt, root);
-    let left = place(rt, left);
-    let shown = static_verdict(alloc, &left, Color::White);
-    assert!(rt; shown.expect(rt, "memory").is_none());
-    assert!(rt; small_verdict(&left, Color::White) == (want == Left::Men(Reason::Small)));
-    let mut shard = Shard::new(alloc, 16).expect(rt, "memory");
-    let closed = explored(rt, alloc, &position, 1, &mut shard);
-    has_second(rt, alloc, &position, &closed, &left, want);
-}
-
-// A queen beside her king takes a knight that gives check, so the knight never mates, and sets do not see that. Two queens
-// are not small material.
-#[test]
-fn a_graph_that_the_men_left_end_is_closed(rt: HostRuntime) {
-    is_closed_by(
-        &rt,
-        rt.alloc(),
-        KNIGHT_LEFT,
-        KNIGHT_AND_QUEEN,
-        Left::Men(Reason::Small),
-    );
-    is_closed_by(
-        &rt,
-        rt.alloc(),
-        LONE_KNIGHT_LEFT,
-        KNIGHT_AND_QUEENS,
-        Left::Men(Reason::Lone),
-    );
 }
 
 #[test]
@@ -192,12 +97,17 @@ fn a_mate_that_a_place_knows_ends_it(rt: HostRuntime) {
 
 #[test]
 fn a_table_is_asked_too(rt: HostRuntime) {
-    let alloc = rt.alloc();
     let position = place(&rt, QUEEN_TAKEN);
-    let left = place(&rt, BARE_KING);
-    let (table, mut pass) = Table::new(alloc, 1024).expect(&rt, "memory");
-    begins(&rt, alloc, &position);
-    let closed = explore(&rt, alloc, &position, Color::White, 1, &table, &mut pass);
-    let closed = closed.expect(&rt, "memory");
-    has_second(&rt, alloc, &position, &closed, &left, Left::Sets);
+    let (table, mut pass) = Table::new(rt.alloc(), 1024).expect(&rt, "memory");
+    begins(&rt, rt.alloc(), &position);
+    let closed = explore(
+        &rt,
+        rt.alloc(),
+        &position,
+        Color::White,
+        1,
+        &table,
+        &mut pass,
+    );
+    assert!(rt; matches!(&closed, Ok(Explored::Closed(_))));
 }

@@ -1,9 +1,9 @@
-//! Tests of what looks for mates, sets and certificates, on positions that FEN says.
+//! Tests of what looks for mates, sets and certificates, on positions that FEN says. Known helpmates, in how few plies they are and how many
+//! there are, are rows of data (`rows/helpmates.txt`).
 //!
-//! `from_fen` reads positions. `least_sets` and `static_verdicts` have answers of the solver. `facts` has what is known
-//! of positions; `cells`, `shards` and `tables` have where it is kept, the first also beside the threads of `busy`. `rounds`,
-//! `crews` and `shortest` find the helpmates of `known_plies` and `known_counts`. `guides` and `hunts` have searches that
-//! are led, `stores` the positions of an exploration, and `explored` explorations.
+//! `from_fen` reads positions. `least_sets` and `static_verdicts` have answers of the solver. `facts` has what is known of positions;
+//! `cells`, `shards` and `tables` have where it is kept, the first also beside the threads of `busy`. `rounds` and `crews` look for mates by
+//! rounds. `guides` and `hunts` have searches that are led, `stores` the positions of an exploration, and `explored` explorations.
 #![tactic(auto)]
 
 #[cfg(test)]
@@ -23,17 +23,11 @@ mod guides;
 #[cfg(test)]
 mod hunts;
 #[cfg(test)]
-mod known_counts;
-#[cfg(test)]
-mod known_plies;
-#[cfg(test)]
 mod least_sets;
 #[cfg(test)]
 mod rounds;
 #[cfg(test)]
 mod shards;
-#[cfg(test)]
-mod shortest;
 #[cfg(test)]
 mod static_verdicts;
 #[cfg(test)]

@@ -1,10 +1,9 @@
-//! Known helpmates, each found at its own depth and not before, and how many positions a round expands.
+//! How many positions a round expands, and what a place keeps of it.
 
 ghost use Rattle.std.specs.Prelude.{◌≤◌};
 ghost use Rattle.shard_table.specs.Tables.{IsOfTable};
 
 use crate::from_fen::place;
-use crate::known_plies::KNOWN;
 use cha_board::{Color, Position};
 use cha_fact::Proved;
 use cha_moves::replays;
@@ -31,37 +30,6 @@ fn moves_of(position: &Position, winner: Color, done: &RoundDone) -> Option<usiz
         }
         RoundAnswer::NoneWithin => None,
         RoundAnswer::Spent => None,
-    }
-}
-
-/// Whether a known mate is found in its number of plies by a round of just that depth, and by none before it.
-fn is_found(
-    rt: &impl Abort,
-    alloc: Global,
-    position: &Position,
-    winner: Color,
-    plies: u8,
-    shard: &mut Shard,
-) -> bool {
-    assert!(rt; plies <= 8);
-    for depth in 0..plies {
-        let done = round_in(alloc, position, winner, depth, Some(100_000), shard);
-        let done = done.expect(rt, "memory");
-        if !matches!(&done.round, RoundAnswer::NoneWithin) {
-            return false;
-        }
-    }
-    let done = round_in(alloc, position, winner, plies, Some(100_000), shard);
-    moves_of(position, winner, &done.expect(rt, "memory")) == Some(usize::from(plies))
-}
-
-#[test]
-fn known_mates_are_found_at_their_depth(rt: HostRuntime) {
-    for (fen, winner, plies) in KNOWN {
-        let position = place(&rt, fen);
-        let mut shard = Shard::new(rt.alloc(), 1024).expect(&rt, "memory");
-        let found = is_found(&rt, rt.alloc(), &position, *winner, *plies, &mut shard);
-        assert!(rt; found, "{fen}");
     }
 }
 

@@ -33,14 +33,6 @@ fn moves_of(rt: &impl Abort, alloc: Global, store: &Store, name: u32) -> Vec<Mov
     legal(alloc, &store.position(name)).expect(rt, "memory")
 }
 
-/// Adds all positions after one of those in the store.
-fn expand(rt: &impl Abort, alloc: Global, store: &mut Store, name: u32, bucket: u8) {
-    let moves = moves_of(rt, alloc, store, name);
-    for by in &moves {
-        add(rt, store, name, *by, Some(bucket));
-    }
-}
-
 /// A move without a promotion.
 fn from_to(rt: &impl Abort, from: u8, to: u8) -> Move {
     Move {
@@ -76,40 +68,6 @@ fn come_back(rt: &impl Abort, store: &mut Store) {
 fn names_come_back_from_the_first_list_and_the_last_added_first(rt: HostRuntime) {
     let mut store = opened(&rt, rt.alloc());
     come_back(&rt, &mut store);
-}
-
-/// Expands the opening, and the positions after its moves.
-fn expand_two_plies(rt: &impl Abort, alloc: Global, store: &mut Store) {
-    for turn in 0..21u8 {
-        let name = store.pop().expect(rt, "one that waits");
-        let bucket = if turn == 0 { 7 } else { 63 };
-        expand(rt, alloc, store, name, bucket);
-    }
-}
-
-/// Asserts that each position of two plies is found by its line of as many moves as it takes.
-fn have_lines(rt: &impl Abort, alloc: Global, store: &Store) {
-    for name in 0..store.len() {
-        let line = store.path(alloc, name).expect(rt, "memory");
-        let plies = if name == 0 {
-            0
-        } else if name <= 20 {
-            1
-        } else {
-            2
-        };
-        assert!(rt; line.items().len() == plies);
-        is_found_by_its_line(rt, alloc, store, name);
-    }
-}
-
-/// After two plies there are 400 positions, each reached by one pair of moves.
-#[test]
-fn the_positions_of_two_plies_are_found_again_by_their_lines(rt: HostRuntime) {
-    let mut store = opened(&rt, rt.alloc());
-    expand_two_plies(&rt, rt.alloc(), &mut store);
-    assert_eq!(rt; store.len(), 421);
-    have_lines(&rt, rt.alloc(), &store);
 }
 
 /// The position after these moves from the opening.

@@ -1,9 +1,5 @@
-//! Tests of the command words: lines of words, and what each orders or which fault it has.
-//!
-//! `orders` has lines written by hand, and `random_rows` lines put together at random.
+//! Tests of the command words: what lines of words allow a search to spend.
 #![tactic(auto)]
 
 #[cfg(test)]
 mod orders;
-#[cfg(test)]
-mod random_rows;

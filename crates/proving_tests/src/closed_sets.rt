@@ -6,7 +6,7 @@ use cha_fen::read;
 use mob_check::{closed, proves_unwinnable};
 use mob_sets::Sets;
 use std::alloc::Global;
-use std::test::Fail;
+use std::process::Abort;
 
 /// Positions and their least closed sets, which have no mate for either side.
 const LEAST: &[(&str, &str)] = &[
@@ -133,71 +133,76 @@ const OPEN: &[(&str, &str)] = &[
     ),
 ];
 
-/// The first position for which sets are closed, or are not, other than wanted.
-fn first_other<'a>(
-    alloc: Global,
-    rows: &[(&'a str, &str)],
-    want: bool,
-) -> Result<Option<&'a str>, Fail> {
+/// Asserts whether the sets of each row are closed.
+fn are_closed(rt: &impl Abort, alloc: Global, rows: &[(&str, &str)], want: bool) {
     for (fen, text) in rows {
-        let position = read(fen.as_bytes())?;
-        if closed(&position, &sets_of(alloc, text)?) != want {
-            return Ok(Some(*fen));
-        }
+        let position = read(fen.as_bytes()).expect(rt, "a position");
+        let sets = sets_of(rt, alloc, text);
+        assert!(rt; closed(&position, &sets) == want, "{fen}");
     }
-    Ok(None)
 }
 
-/// The same sets with these loose origins, and without a square of one row.
-fn fewer(alloc: Global, sets: &Sets, loose: u64, without: usize, at: u8) -> Result<Sets, Fail> {
-    let mut fewer = Sets::new(alloc);
-    loosen(&mut fewer, loose);
+#[test]
+fn sets_are_closed_where_each_rule_holds(rt: HostRuntime) {
+    are_closed(&rt, rt.alloc(), LEAST, true);
+    are_closed(&rt, rt.alloc(), CLOSED, true);
+    are_closed(&rt, rt.alloc(), OPEN, false);
+}
+
+/// Puts the rows of sets into others that are empty, but for one square of the numbered row.
+fn put_fewer(rt: &impl Abort, sets: &Sets, without: usize, at: u8, fewer: &mut Sets) {
     for (number, row) in sets.rows().iter().enumerate() {
         let bits = row.squares.bits();
-        let kept = if number == without {
-            bits & !(1 << (at % 64))
-        } else {
-            bits
-        };
-        enter(&mut fewer, row.origin, row.kind, kept)?;
+        let left_out = if number == without { 1 << (at % 64) } else { 0 };
+        enter(rt, fewer, row.origin, row.kind, bits & !left_out);
     }
-    Ok(fewer)
 }
 
-/// Whether sets are open without any one of their loose origins and squares.
-fn needs_each(alloc: Global, position: &Position, sets: &Sets) -> Result<bool, Fail> {
+/// Asserts that sets are not closed with these loose origins, and without a square of the numbered row.
+fn is_open(
+    rt: &impl Abort,
+    alloc: Global,
+    position: &Position,
+    sets: &Sets,
+    loose: u64,
+    without: usize,
+    at: u8,
+) {
+    let mut fewer = Sets::new(alloc);
+    loosen(&mut fewer, loose);
+    put_fewer(rt, sets, without, at, &mut fewer);
+    assert!(rt; !closed(position, &fewer), "{without} {at}");
+}
+
+/// Asserts that sets are open without any one of their loose origins and squares. There are at most 384 rows.
+fn need_each(rt: &impl Abort, alloc: Global, position: &Position, sets: &Sets) {
     let loose = sets.loose().bits();
     for index in 0..64 {
         let at = Square::at(index);
-        let tied = loose & !(1 << (index % 64));
-        if sets.is_loose(at) && closed(position, &fewer(alloc, sets, tied, 384, 0)?) {
-            return Ok(false);
+        if sets.is_loose(at) {
+            let tied = loose & !(1 << (index % 64));
+            is_open(rt, alloc, position, sets, tied, 384, 0);
         }
         for (number, row) in sets.rows().iter().enumerate() {
-            if row.has(at) && closed(position, &fewer(alloc, sets, loose, number, index)?) {
-                return Ok(false);
+            if row.has(at) {
+                is_open(rt, alloc, position, sets, loose, number, index);
             }
         }
     }
-    Ok(true)
+}
+
+/// Asserts that sets have no mate for either side, and that none can be left out of them.
+fn are_least(rt: &impl Abort, alloc: Global, fen: &str, text: &str) {
+    let position = read(fen.as_bytes()).expect(rt, "a position");
+    let sets = sets_of(rt, alloc, text);
+    assert!(rt; proves_unwinnable(&position, Color::White, &sets), "{fen}");
+    assert!(rt; proves_unwinnable(&position, Color::Black, &sets), "{fen}");
+    need_each(rt, alloc, &position, &sets);
 }
 
 #[test]
-fn sets_are_closed_where_each_rule_holds(rt: HostRuntime) -> Result<(), Fail> {
-    assert_eq!(rt; first_other(rt.alloc(), LEAST, true)?, None);
-    assert_eq!(rt; first_other(rt.alloc(), CLOSED, true)?, None);
-    assert_eq!(rt; first_other(rt.alloc(), OPEN, false)?, None);
-    Ok(())
-}
-
-#[test]
-fn least_sets_have_no_mate_and_are_open_with_less(rt: HostRuntime) -> Result<(), Fail> {
+fn least_sets_have_no_mate_and_are_open_with_less(rt: HostRuntime) {
     for (fen, text) in LEAST {
-        let position = read(fen.as_bytes())?;
-        let sets = sets_of(rt.alloc(), text)?;
-        assert!(rt; proves_unwinnable(&position, Color::White, &sets), "{fen}");
-        assert!(rt; proves_unwinnable(&position, Color::Black, &sets), "{fen}");
-        assert!(rt; needs_each(rt.alloc(), &position, &sets)?, "{fen}");
+        are_least(&rt, rt.alloc(), fen, text);
     }
-    Ok(())
 }

@@ -4,7 +4,8 @@ use crate::written_sets::sets_of;
 use cha_board::Color;
 use cha_fen::read;
 use mob_check::no_mate;
-use std::test::Fail;
+use std::alloc::Global;
+use std::process::Abort;
 
 /// Positions, sets, and whether they have no mate for White.
 const SETS: &[(&str, &str, bool)] = &[
@@ -181,12 +182,16 @@ const SETS: &[(&str, &str, bool)] = &[
     ),
 ];
 
+/// Asserts whether sets have no mate for White.
+fn have_no_mate(rt: &impl Abort, alloc: Global, fen: &str, text: &str, none: bool) {
+    let position = read(fen.as_bytes()).expect(rt, "a position");
+    let sets = sets_of(rt, alloc, text);
+    assert!(rt; no_mate(&position, Color::White, &sets) == none, "{fen}");
+}
+
 #[test]
-fn mates_are_in_reach_where_each_part_of_a_threat_is(rt: HostRuntime) -> Result<(), Fail> {
+fn mates_are_in_reach_where_each_part_of_a_threat_is(rt: HostRuntime) {
     for (fen, text, none) in SETS {
-        let position = read(fen.as_bytes())?;
-        let sets = sets_of(rt.alloc(), text)?;
-        assert!(rt; no_mate(&position, Color::White, &sets) == *none, "{fen}");
+        have_no_mate(&rt, rt.alloc(), fen, text, *none);
     }
-    Ok(())
 }

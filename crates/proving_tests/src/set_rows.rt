@@ -2,8 +2,7 @@
 
 use cha_board::{Kind, Square, SquareSet};
 use mob_sets::{SetRow, Sets};
-use std::alloc::Global;
-use std::test::Fail;
+use std::process::Abort;
 
 /// An origin, a kind, a square that is entered, and whether it is new.
 const ENTERED: &[(u8, Kind, u8, bool)] = &[
@@ -14,32 +13,22 @@ const ENTERED: &[(u8, Kind, u8, bool)] = &[
     (4, Kind::Pawn, 12, true),
 ];
 
-/// Enters these squares, and answers whether each is new as it says.
-fn enter(sets: &mut Sets, squares: &[(u8, Kind, u8, bool)]) -> Result<bool, Fail> {
-    let mut all = true;
-    for (origin, kind, at, new) in squares {
-        let grew = sets.add(Square::at(*origin % 64), *kind, Square::at(*at % 64))?;
-        all = all && grew == *new;
+/// Enters these squares, each of which is new where it says so.
+fn enter_all(rt: &impl Abort, sets: &mut Sets) {
+    for (origin, kind, at, new) in ENTERED {
+        let grew = sets.add(Square::at(*origin % 64), *kind, Square::at(*at % 64));
+        assert!(rt; grew.expect(rt, "memory") == *new);
     }
-    Ok(all)
 }
 
 /// Joins no squares and two more sets of squares to those of e1.
-fn join(sets: &mut Sets) -> Result<(), Fail> {
-    sets.join(Square::at(4), Kind::Knight, SquareSet::empty())?;
-    sets.join(Square::at(4), Kind::King, SquareSet::from_bits(0x30))?;
-    sets.join(Square::at(4), Kind::Rook, SquareSet::from_bits(0x81))?;
-    Ok(())
-}
+const JOINED: &[(Kind, u64)] = &[(Kind::Knight, 0), (Kind::King, 0x30), (Kind::Rook, 0x81)];
 
-/// The sets.
-fn joined(alloc: Global) -> Result<Sets, Fail> {
-    let mut sets = Sets::new(alloc);
-    if !enter(&mut sets, ENTERED)? {
-        Err("a square is new, or is not")?;
+fn join_all(rt: &impl Abort, sets: &mut Sets) {
+    for (kind, bits) in JOINED {
+        let joined = sets.join(Square::at(4), *kind, SquareSet::from_bits(*bits));
+        joined.expect(rt, "memory");
     }
-    join(&mut sets)?;
-    Ok(sets)
 }
 
 /// The rows, by the number of the origin, the kind and the squares.
@@ -62,13 +51,25 @@ fn are_rows(rows: &[SetRow], wanted: &[(u8, Kind, u64)]) -> bool {
     same
 }
 
-#[test]
-fn squares_go_into_the_rows_of_their_origins(rt: HostRuntime) -> Result<(), Fail> {
-    let mut sets = joined(rt.alloc())?;
+/// Asserts that e1 is made loose once.
+fn loosen_e1(rt: &impl Abort, sets: &mut Sets) {
     assert!(rt; sets.loosen(Square::at(4)));
     assert!(rt; !sets.loosen(Square::at(4)));
-    let copy = sets.copy(rt.alloc())?;
-    assert!(rt; copy.is_loose(Square::at(4)) && !copy.is_loose(Square::at(60)));
+}
+
+/// Asserts that a copy has the loose origin and the rows.
+fn has_all(rt: &impl Abort, copy: &Sets) {
+    assert!(rt; copy.is_loose(Square::at(4)));
+    assert!(rt; !copy.is_loose(Square::at(60)));
     assert!(rt; are_rows(copy.rows(), ROWS));
-    Ok(())
+}
+
+#[test]
+fn squares_go_into_the_rows_of_their_origins(rt: HostRuntime) {
+    let mut sets = Sets::new(rt.alloc());
+    enter_all(&rt, &mut sets);
+    join_all(&rt, &mut sets);
+    loosen_e1(&rt, &mut sets);
+    let copy = sets.copy(rt.alloc()).expect(&rt, "memory");
+    has_all(&rt, &copy);
 }

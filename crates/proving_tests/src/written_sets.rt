@@ -4,35 +4,36 @@
 use cha_board::{Kind, Square};
 use mob_sets::Sets;
 use std::alloc::Global;
-use std::test::Fail;
+use std::process::Abort;
 
-/// The sets of a text.
-pub fn sets_of(alloc: Global, text: &str) -> Result<Sets, Fail> {
-    let mut sets = Sets::new(alloc);
+/// Puts what a text says into sets that are empty.
+fn put_sets(rt: &impl Abort, text: &str, sets: &mut Sets) {
     for word in text.split_whitespace() {
         match word.as_bytes() {
             [file, rank, kind, digits @ ..] if digits.len() == 16 => {
-                enter(
-                    &mut sets,
-                    square(*file, *rank),
-                    kind_of(*kind),
-                    number(digits),
-                )?;
+                let origin = square(*file, *rank);
+                enter(rt, sets, origin, kind_of(*kind), number(digits));
             }
-            digits => loosen(&mut sets, number(digits)),
+            digits => loosen(sets, number(digits)),
         }
     }
-    Ok(sets)
+}
+
+/// The sets of a text.
+pub fn sets_of(rt: &impl Abort, alloc: Global, text: &str) -> Sets {
+    let mut sets = Sets::new(alloc);
+    put_sets(rt, text, &mut sets);
+    sets
 }
 
 /// Enters squares into the row of an origin and a kind.
-pub fn enter(sets: &mut Sets, origin: Square, kind: Kind, squares: u64) -> Result<(), Fail> {
+pub fn enter(rt: &impl Abort, sets: &mut Sets, origin: Square, kind: Kind, squares: u64) {
     for index in 0..64 {
         if (squares >> index) & 1 == 1 {
-            sets.add(origin, kind, Square::at(index))?;
+            sets.add(origin, kind, Square::at(index))
+                .expect(rt, "memory");
         }
     }
-    Ok(())
 }
 
 /// Makes origins loose.

@@ -2,18 +2,13 @@
 
 ghost use Rattle.std.specs.Prelude.{◌≡◌, false};
 
-mod in_pieces;
-mod long_texts;
-mod places;
 mod real_files;
 mod small_texts;
 
 use cha_board::Position;
 use cha_fen::{FenFault, write};
 use cha_outside::Pieces;
-use long_texts::{LONG, Long};
-use pgn_games::{Game, GameFault, ReadEnd, Reader, ResultMark, Span};
-use places::PLACES;
+use pgn_games::{Game, GameFault, ReadEnd, Reader, ResultMark};
 use real_files::FILES;
 use small_texts::{BAD_TOKENS, ENDS, STARTS, TAGS, TWO_FAULTS, VARIATIONS};
 use std::alloc::Global;
@@ -121,12 +116,18 @@ fn named(fault: GameFault) -> &'static str {
     }
 }
 
+/// Asserts the games of a text that comes in pieces of a size.
+fn gives_games(rt: &impl Abort, alloc: Global, text: &[u8], size: u32, want: &[u8]) {
+    let found = shown(rt, alloc, text, size);
+    assert!(rt; found.as_slice() == want, "{text:?}");
+}
+
 /// Asserts the games of a text, whatever pieces it comes in.
 fn has_games(rt: &impl Abort, alloc: Global, text: &[u8], want: &[u8]) {
-    for size in &[1, 2, 7, 4096] {
-        let found = shown(rt, alloc, text, *size);
-        assert_eq!(rt; found.as_slice(), want, "{text:?}");
-    }
+    gives_games(rt, alloc, text, 1, want);
+    gives_games(rt, alloc, text, 2, want);
+    gives_games(rt, alloc, text, 7, want);
+    gives_games(rt, alloc, text, 4096, want);
 }
 
 /// Asserts the games of each text of a table.
@@ -149,113 +150,32 @@ fn texts_have_their_games(rt: HostRuntime) {
     }
 }
 
-/// Where the games of a text stand that comes in pieces of a size, and whether it is closed, as `0-7:1 closed`.
-fn stands(rt: &impl Abort, alloc: Global, bytes: &[u8], size: u32) -> Vec<u8> {
-    let mut source = pieces_of(rt, alloc, bytes, size, 0);
-    let mut reader = Reader::new(alloc).expect(rt, "memory");
-    let mut text = Vec::new(alloc);
-    put_all_places(rt, alloc, &mut reader, &mut source, &mut text);
-    text
-}
-
-/// Appends the places of the games that a reader gives, and whether the text is closed.
-fn put_all_places(
-    rt: &impl Abort,
-    alloc: Global,
-    reader: &mut Reader,
-    source: &mut Pieces,
-    text: &mut Vec<u8>,
-) {
-    for _call in 0..100 {
-        if reader.failed() {
-            return;
-        }
-        let Some(span) = next_span(rt, reader, source) else {
-            put(
-                rt,
-                text,
-                if reader.is_closed() {
-                    b"closed"
-                } else {
-                    b"open"
-                },
-            );
-            return;
-        };
-        put_span(rt, alloc, span, text);
-    }
-}
-
-/// Where the next game of a source stands.
-fn next_span(rt: &impl Abort, reader: &mut Reader, source: &mut Pieces) -> Option<Span>
+/// Asserts that the first game cannot be read where this says so, and is read else.
+fn has_first(rt: &impl Abort, reader: &mut Reader, source: &mut Pieces, fails: bool)
     requires { reader.old.failed ≡ false }
 {
-    match reader.next(source).expect(rt, "no fault") {
-        Some(found) => Some(found.span),
-        None => None,
-    }
-}
-
-/// Appends a place, as `0-7:1 `.
-fn put_span(rt: &impl Abort, alloc: Global, span: Span, text: &mut Vec<u8>) {
-    let place = format!(in alloc; "{}-{}:{} ", span.start, span.end, span.line);
-    put(rt, text, place.expect(rt, "memory").as_bytes());
-}
-
-#[test]
-fn games_stand_in_their_places(rt: HostRuntime) {
-    for (text, want) in PLACES {
-        for size in &[1, 2, 7, 4096] {
-            let found = stands(&rt, rt.alloc(), text, *size);
-            assert_eq!(rt; found.as_slice(), want.as_bytes(), "{text:?}");
+    let end = reader.next(source).err();
+    assert!(rt;
+        end == if fails {
+            Some(ReadEnd::ReadFault)
+        } else {
+            None
         }
-    }
+    );
+    assert!(rt; reader.failed() == fails);
 }
 
-fn long_text(rt: &impl Abort, alloc: Global, long: Long) -> Vec<u8> {
-    let mut text = Vec::new(alloc);
-    for (part, count) in long {
-        for _part in 0..*count {
-            put(rt, &mut text, part.as_bytes());
-        }
-    }
-    text
-}
-
-#[test]
-fn long_texts_have_their_games(rt: HostRuntime) {
-    for (long, want) in LONG {
-        let text = long_text(&rt, rt.alloc(), long);
-        let want = long_text(&rt, rt.alloc(), want);
-        has_games(&rt, rt.alloc(), text.as_slice(), want.as_slice());
-    }
-}
-
-/// Whether the reader of eight bytes in pieces of three failed, and how reading the first game ended, where a read fails.
-fn first_game(rt: &impl Abort, alloc: Global, failing: u32) -> (bool, Option<ReadEnd>) {
+/// Asserts whether the first game is read where a read fails.
+fn fails_at(rt: &impl Abort, alloc: Global, failing: u32) {
     let mut source = pieces_of(rt, alloc, b"e4 * d4 ", 3, failing);
     let mut reader = Reader::new(alloc).expect(rt, "memory");
-    let end = first_end(rt, &mut reader, &mut source);
-    (reader.failed(), end)
-}
-
-/// How reading a game ended.
-fn first_end(rt: &impl Abort, reader: &mut Reader, source: &mut Pieces) -> Option<ReadEnd>
-    requires { reader.old.failed ≡ false }
-{
-    match reader.next(source) {
-        Ok(Some(_game)) => None,
-        Ok(None) => panic!(rt; "no game"),
-        Err(end) => Some(end),
-    }
+    has_first(rt, &mut reader, &mut source, failing <= 2);
 }
 
 /// The first game needs two reads: the byte behind its last token is in the second piece.
 #[test]
 fn a_reader_fails_where_its_source_fails(rt: HostRuntime) {
     for failing in 1..7 {
-        let (failed, end) = first_game(&rt, rt.alloc(), failing);
-        assert_eq!(rt; failed, failing <= 2, "call {failing}");
-        assert!(rt; end.is_none() || end == Some(ReadEnd::ReadFault));
+        fails_at(&rt, rt.alloc(), failing);
     }
 }

@@ -1,10 +1,10 @@
 //! Games that get another result.
 
-mod kept;
-
 use cha_list::Text;
 use pgn_games::ResultMark;
 use pgn_results::put_with_mark;
+use std::alloc::Global;
+use std::process::Abort;
 
 /// The bytes of a game, the result that it gets, the bytes behind it, and what is written.
 type Row = (&'static str, ResultMark, &'static str, &'static str);
@@ -75,18 +75,18 @@ const ROWS: &[Row] = &[
     ("1. e4 1-0", ResultMark::BlackWins, "*", "1. e4 0-1"),
 ];
 
+/// Asserts what is written.
+fn gets(rt: &impl Abort, alloc: Global, row: &Row) {
+    let (game, mark, behind, want) = *row;
+    let mut text = Text::new(alloc);
+    let put = put_with_mark(alloc, mark, game.as_bytes(), behind.as_bytes(), &mut text);
+    put.expect(rt, "memory");
+    assert_eq!(rt; text.items(), want.as_bytes(), "{game:?}");
+}
+
 #[test]
 fn games_get_other_results(rt: HostRuntime) {
-    for (game, mark, behind, want) in ROWS {
-        let mut text = Text::new(rt.alloc());
-        let put = put_with_mark(
-            rt.alloc(),
-            *mark,
-            game.as_bytes(),
-            behind.as_bytes(),
-            &mut text,
-        );
-        put.expect(&rt, "memory");
-        assert_eq!(rt; text.items(), want.as_bytes(), "{game:?}");
+    for row in ROWS {
+        gets(&rt, rt.alloc(), row);
     }
 }

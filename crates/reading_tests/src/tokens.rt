@@ -1,28 +1,8 @@
 //! Texts and their tokens, by the PGN standard and by the habits of real files.
 
-ghost use Rattle.std.specs.Prelude.{◌≡◌, [], false};
-
-use pgn_lex::{Lexer, Placed, Token, tokens_of};
+use pgn_lex::{Placed, Token, tokens_of};
 use std::alloc::Global;
 use std::process::Abort;
-
-/// The tokens of a text that is fed byte by byte.
-fn lexed(rt: &impl Abort, alloc: Global, bytes: &[u8]) -> Vec<Placed> {
-    let mut found = Vec::new(alloc);
-    let mut lexer = Lexer::new(alloc).expect(rt, "memory");
-    feed(rt, &mut lexer, bytes, &mut found);
-    found
-}
-
-/// Feeds a whole text.
-fn feed(rt: &impl Abort, lexer: &mut Lexer, bytes: &[u8], found: &mut Vec<Placed>)
-    requires { (lexer.old.fed ≡ []) × (lexer.old.ended ≡ false) }
-{
-    for byte in bytes {
-        lexer.feed(*byte, found).expect(rt, "memory");
-    }
-    lexer.end(found).expect(rt, "memory");
-}
 
 /// Appends a text.
 fn put(rt: &impl Abort, text: &mut Vec<u8>, more: &[u8]) {
@@ -30,12 +10,10 @@ fn put(rt: &impl Abort, text: &mut Vec<u8>, more: &[u8]) {
 }
 
 /// Tokens, each with its offset, as `[White=Carlsen]@0 e4@20 (@23 BadTag@30`. A value that was cut has `+` behind it.
-fn shown(rt: &impl Abort, alloc: Global, found: &[Placed]) -> Vec<u8> {
-    let mut text = Vec::new(alloc);
+fn show_all(rt: &impl Abort, alloc: Global, found: &[Placed], text: &mut Vec<u8>) {
     for placed in found {
-        show(rt, alloc, placed, &mut text);
+        show(rt, alloc, placed, text);
     }
-    text
 }
 
 fn show(rt: &impl Abort, alloc: Global, placed: &Placed, text: &mut Vec<u8>) {
@@ -71,14 +49,12 @@ fn named(token: &Token) -> &'static [u8] {
     }
 }
 
-/// Asserts the tokens of a text, taken whole and byte by byte.
+/// Asserts the tokens of a text.
 fn has_tokens(rt: &impl Abort, alloc: Global, text: &[u8], want: &[u8]) {
-    let whole = tokens_of(alloc, text).expect(rt, "memory");
-    let whole = shown(rt, alloc, whole.as_slice());
-    assert_eq!(rt; whole.as_slice(), want, "{text:?}");
-    let fed = lexed(rt, alloc, text);
-    let fed = shown(rt, alloc, fed.as_slice());
-    assert_eq!(rt; fed.as_slice(), want, "{text:?}");
+    let found = tokens_of(alloc, text).expect(rt, "memory");
+    let mut told = Vec::new(alloc);
+    show_all(rt, alloc, found.as_slice(), &mut told);
+    assert!(rt; told.as_slice() == want, "{text:?}");
 }
 
 /// Comments and skipped lines.

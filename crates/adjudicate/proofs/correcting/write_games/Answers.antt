@@ -5,8 +5,9 @@ use Rattle.pgn_games.specs.Games.{placed_games}
 use Rattle.cha_outcome.specs.Items.{kept_item}
 use Rattle.side_by_side.specs.Progresses.{IsOf}
 use Rattle.item_batches.specs.Readers.{KeptItems}
+use Rattle.item_batches.proofs.Items.{not_more}
 use Rattle.adjudicate.proofs.RunEndings.{rose_in}
-use Rattle.adjudicate.proofs.ReportLoop.{not_more, all_taken, given_whole, next_whole, same_before, same_settled, same_took, same_count}
+use Rattle.adjudicate.proofs.ReportLoop.{all_taken, given_whole, next_whole, same_before, same_settled, same_took, same_count}
 use Rattle.adjudicate.proofs.CorrectingLoop.{still_whole, at_first, retook, gave, stands, room_at, game_of_item, answers_game, placed_by, not_read, no_memory, cut_game, all_judged}
 use Rattle.adjudicate.proofs.correcting.write_games.Goals as goal
 

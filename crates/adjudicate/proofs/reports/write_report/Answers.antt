@@ -1,8 +1,9 @@
 use Rattle.std.proofs.Common.{subst, refl, Err, Ok, ap, sym, ◌∙◌, arith}
 use Rattle.cha_outside.proofs.Gathered.{gathers_nothing}
+use Rattle.item_batches.proofs.Items.{not_more}
 use Rattle.adjudicate.proofs.RunEndings.{rose_in}
 use Rattle.adjudicate.proofs.LegalLines.{sound_is_legal}
-use Rattle.adjudicate.proofs.ReportLoop.{at_first, retook, gave, room_at, same_first, same_item, same_settled, same_took, same_before, still_whole, given_whole, next_whole, same_closed, same_count, same_answers, not_more, all_taken, gathered, not_read, no_memory, cut_item, all_judged}
+use Rattle.adjudicate.proofs.ReportLoop.{at_first, retook, gave, room_at, same_first, same_item, same_settled, same_took, same_before, still_whole, given_whole, next_whole, same_closed, same_count, same_answers, all_taken, gathered, not_read, no_memory, cut_item, all_judged}
 use Rattle.side_by_side.specs.Progresses.{IsOf}
 use Rattle.adjudicate.proofs.reports.write_report.Goals as goal
 

@@ -3,8 +3,8 @@
  * Both functions keep nothing between two calls, start no thread, and may be called from several threads at once. They take memory
  * by malloc and realloc and give it back by free before they return. They read no file and no environment.
  *
- * Each pointer must be valid for its length, also where that is 0, and never null; the output must not overlap the inputs. A call
- * wants a stack of 256 kB.
+ * No pointer may be null, and each must be valid for its length, also where that is 0; the output must not overlap the inputs. A call
+ * needs a stack of 256 kB.
  */
 #ifndef CHA_H
 #define CHA_H

@@ -6,7 +6,7 @@ export const Answer = Object.freeze({ done: 0, usage: 1, tooLong: 4, noMemory: 5
 const NO_ROOM = 7;
 const WORD = 8;
 
-/** Opens the module: its bytes, or what they were compiled to. */
+/** Opens the module from its bytes, or from a module that was compiled from them. */
 export async function open(source) {
     const module = source instanceof WebAssembly.Module ? source : await WebAssembly.compile(source);
     return new Cha(module);
@@ -18,7 +18,7 @@ class Cha {
         this.module = module;
     }
 
-    /** Does what command words order with an input: the answer, and the bytes that the program prints. */
+    /** Runs the command that the words name over an input: the answer, and the bytes that the program prints. */
     run(words, input = "") {
         const call = new Call(this.module);
         const [order, text] = [call.lend(words.join("\0")), call.lend(input)];
@@ -33,7 +33,7 @@ class Cha {
         }
     }
 
-    /** Whether a certificate's text is accepted: then no series of legal moves from its first position mates for its side. */
+    /** 0 where the text is an accepted certificate: then no series of legal moves from its first position mates for its side. */
     check(text) {
         const call = new Call(this.module);
         return call.number(call.exports.cha_check(...call.lend(text)));
@@ -79,7 +79,7 @@ function bytesOf(text) {
     return typeof text === "string" ? new TextEncoder().encode(text) : text;
 }
 
-/** The lines of a report that was asked for with --json, each as an object. */
+/** The lines of a report with --json, each as an object. */
 export function linesOf(output) {
     return new TextDecoder().decode(output).split("\n").filter(Boolean).map((line) => JSON.parse(line));
 }

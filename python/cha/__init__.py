@@ -1,13 +1,13 @@
 """Chess adjudication by proved code: can a side still checkmate by any series of legal moves?
 
-The work is done by the library that `make lib` builds; this module hands it text and gives plain values back.
+The library that `make lib` builds does the work. This module hands it text, and turns its reports into values.
 
 >>> import cha
 >>> for found in cha.positions("8/8/8/4k3/8/8/8/4KB2 w - -"):
 ...     print(found.status, found.white.kind, found.black.kind)
 dead unwinnable unwinnable
 
-A mating line is a list of moves, a certificate is a text that `check` accepts:
+A mating line is a list of moves. A certificate is a text that `check` accepts:
 
 >>> [found] = cha.positions("6k1/5ppp/8/8/8/8/5PPP/3R2K1 w - -")
 >>> found.white.kind, found.white.line, found.white.san
@@ -16,7 +16,7 @@ A mating line is a list of moves, a certificate is a text that `check` accepts:
 >>> cha.check(found.white.certificate)
 True
 
-Whole databases are judged by `cha.db` (the command `cha-db`), by `cha.frame`, which gives a table of pandas, and by `cha.dask`.
+`cha.db` (the command `cha-db`) judges whole databases, `cha.frame` gives them as a table of pandas, and `cha.dask` uses a cluster.
 """
 
 from cha._calls import ChaError, OutOfMemory, TooLong, UsageError, check, corrected, report

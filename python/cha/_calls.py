@@ -16,13 +16,13 @@ MOST_BYTES = 268_435_456
 
 
 class ChaError(Exception):
-    """What the library answers where it gives no report; `status` is the program's exit status."""
+    """The library gives no report; `status` is the exit status that the program would have."""
 
     status = 0
 
 
 class UsageError(ChaError):
-    """The words are not in the language of the command words."""
+    """The words are no command of `cha`, or an option or a number is wrong."""
 
     status = _USAGE
 
@@ -50,8 +50,8 @@ def _error(status: int, order: str) -> ChaError:
 
 @functools.lru_cache(maxsize=None)
 def _engine() -> Engine:
-    """Returns the library: the one that CHA_LIBRARY names, the one beside this module, at the top of the repository, or of the system.
-    Where CHA_PROGRAM names the program, it does the work."""
+    """Returns the library that CHA_LIBRARY names; else the program that CHA_PROGRAM names; else the library beside this module, at the top
+    of the repository, or of the system."""
     if "CHA_LIBRARY" in os.environ:
         return Library(os.environ["CHA_LIBRARY"])
     if "CHA_PROGRAM" in os.environ:
@@ -68,7 +68,7 @@ def _bytes(text: Text) -> Union[bytes, bytearray]:
 
 
 def report(words: Sequence[str], data: Text) -> bytes:
-    """Returns what the program prints for these words and this input.
+    """Returns what the program prints for these words and this input: `docs/MANUAL.md` has the words.
 
     >>> report(["position"], "").decode()
     'positions: 0, refused: 0, dead: 0, undecided: 0\\n'
@@ -77,7 +77,7 @@ def report(words: Sequence[str], data: Text) -> bytes:
     ...
     cha._calls.UsageError: solve
 
-    A certificate that is not accepted is a report too. `ChaError` where there is none.
+    That a certificate is not accepted is a report too. Raises `ChaError` where there is no report.
     """
     status, printed = _engine().run(words, _bytes(data))
     if status not in (_DONE, _NOT_ACCEPTED):
@@ -99,13 +99,13 @@ def corrected(
     data: Text, *, flagged_draws: bool = False, changed: bool = False, budget: Optional[int] = None, depth: Optional[int] = None
 ) -> bytes:
     """Returns a text of games in PGN with the results by the Laws of Chess: in each game whose result changes, the value of its first tag
-    `Result` and the result behind its moves are other ones, and every other byte is as it was.
+    `Result` and the result after its moves are replaced, and every other byte is as it was.
 
     >>> corrected('[Result "1-0"]\\n\\n1. f3 e5 2. g4 Qh4# {ben wins} 1-0\\n').decode()
     '[Result "0-1"]\\n\\n1. f3 e5 2. g4 Qh4# {ben wins} 0-1\\n'
 
-    With `flagged_draws` drawn games whose flag fell are examined too. With `changed` there are only the games whose result changes, each
-    from its first token to its last and with a blank line behind it. `ChaError` as for `report`.
+    With `flagged_draws`, games that were drawn though a flag fell are examined too. With `changed`, only the games whose result changes are
+    returned, each from its first token to its last, with a blank line after it. Raises `ChaError` as `report` does.
 
     >>> corrected("1. e4 * f3 e5 2. g4 Qh4# 1-0", changed=True)
     b'f3 e5 2. g4 Qh4# 0-1\\n\\n'
@@ -115,7 +115,8 @@ def corrected(
 
 
 def check(certificate: Text) -> bool:
-    """Returns whether a certificate is accepted: then no series of legal moves from the position of its first node mates for its side.
+    """Returns whether a certificate is accepted: then no series of legal moves from the position of its first node mates for the side that
+    its line `winner` names. Raises `ChaError` where the text is too long or memory is refused.
 
     >>> check("cha-cert 1")
     False

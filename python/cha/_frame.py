@@ -9,9 +9,10 @@ if TYPE_CHECKING:
 
 
 def frame(files: "Files", only: Optional[str] = None, budget: Optional[int] = None, depth: Optional[int] = None) -> "pandas.DataFrame":
-    """Returns a table with a row for each game of the files, or for those of one kind (`changed`, `dead`, `undecided`, `unreadable`).
+    """Returns a table of pandas with a row for each game of the files, or for those of one kind (`changed`, `dead`, `undecided`,
+    `unreadable`).
 
-    Its columns are those of `cha.db.rows.COLUMNS`. It needs pandas; the rows have to fit into memory.
+    `cha.db.rows.COLUMNS` names its columns. All rows have to fit into memory. Raises the errors of `cha.db.judge`.
     """
     try:
         import pandas

@@ -24,7 +24,10 @@ def _items(printed: bytes) -> Iterator[Fields]:
 def positions(
     text: Text, certs: bool = False, budget: Optional[int] = None, depth: Optional[int] = None
 ) -> Iterator[Union[Position, Refusal]]:
-    """Yields what is found about each line that is not blank, in FEN. `ChaError` where there is no report.
+    """Yields a `Position` or a `Refusal` for each line in FEN; blank lines are skipped.
+
+    With `certs` an unwinnable side has its certificate. `budget` and `depth` say how hard to look, as for the program. Raises `ChaError`
+    where there is no report.
 
     >>> [found] = positions("k7/8/1K6/8/8/8/8/7R w - -")
     >>> found.white.kind, found.black.kind
@@ -39,7 +42,7 @@ def positions(
 def games(
     data: Text, certs: bool = False, budget: Optional[int] = None, depth: Optional[int] = None
 ) -> Iterator[Union[Game, Unreadable]]:
-    """Yields what is found about each game of a text in PGN. `ChaError` where there is no report.
+    """Yields a `Game` or an `Unreadable` for each game of a text in PGN. The options are those of `positions`, and so are the errors.
 
     >>> [found] = games('[FEN "7k/8/6K1/8/8/8/8/R7 w - -"] [Termination "ben won on time"] 0-1')
     >>> found.recorded, found.result, found.article

@@ -8,10 +8,10 @@ from cha._board import svg
 
 @dataclass(frozen=True)
 class Verdict:
-    """What is found about a side: `winnable`, `unwinnable`, `undecided` or `skipped`."""
+    """The verdict on a side: `kind` is `winnable`, `unwinnable`, `undecided` or `skipped`."""
 
     kind: str
-    #: of `winnable`, legal moves that end in a mate by the side, as `e2e4`, and the same as players write them
+    #: of `winnable`, legal moves of both sides that end in a mate by this one, as `e2e4`, and the same as players write them
     line: List[str] = field(default_factory=list)
     san: List[str] = field(default_factory=list)
     #: of `unwinnable`, what shows it: `sets`, `material`, `lone pieces` or `graph`, and how many nodes a graph has
@@ -19,14 +19,14 @@ class Verdict:
     nodes: Optional[int] = None
     #: of `unwinnable`, a text that `check` accepts, where certificates were asked for
     certificate: Optional[str] = None
-    #: of `undecided`, how many distinct positions were expanded, and within how many plies there is no mate
+    #: of `undecided`, how many distinct positions were expanded, and within how many plies no mate exists
     positions: Optional[int] = None
     depth: Optional[int] = None
 
 
 @dataclass(frozen=True)
 class Span:
-    """Where a game stands: the byte at which its first token begins, and the one behind its last token, from 0."""
+    """Where a game stands in its text: the byte at which its first token begins, and the one after its last token, from 0."""
 
     start: int
     end: int
@@ -34,7 +34,7 @@ class Span:
 
 @dataclass(frozen=True)
 class DeadFrom:
-    """From which ply on a game was dead; `undecided` is the ply before it, where nothing was shown of that one."""
+    """From which ply on a game was dead; `undecided` is the ply before it, if nothing was shown about that one."""
 
     ply: int
     undecided: Optional[int] = None
@@ -59,8 +59,8 @@ class Position:
 class Game:
     """A game that could be read, with its recorded result and the one by the Laws of Chess.
 
-    `line` is the line in which it begins, from 1; `fen` is its final position; `article` is the Article that decides, where one does;
-    `flagged` says that it was lost on time, and `flag` is the side whose flag fell, where that is known.
+    `line` is the line in which it begins, from 1; `fen` is its final position; `article` is the Article that decides, if one does.
+    `flagged` is true where its tag `Termination` says that it was lost on time; `flag` is the side whose flag fell, if that is known.
     """
 
     number: int

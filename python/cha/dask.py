@@ -1,4 +1,4 @@
-"""Databases on a cluster: pieces are the tasks of Dask.distributed."""
+"""Databases on a cluster: each piece of a file is a task of Dask."""
 
 from typing import Any, Iterator, List, Optional
 
@@ -7,7 +7,7 @@ from cha.db.joining import Promise, Said
 from cha.db.rows import Row
 from cha.db.running import parts, room_for, said, words
 
-#: the bytes of a piece: less than what Dask holds to be too large for a task
+#: the bytes of a piece, so few that Dask does not warn of a large task
 PIECE = 1 << 19
 
 
@@ -25,8 +25,8 @@ def judge(
 ) -> Iterator[Row]:
     """Yields the rows that `cha.db.judge` yields; the workers of `client`, a `distributed.Client`, judge the pieces.
 
-    This process reads the files and sends the pieces. A piece whose worker dies is judged by another one, since nobody keeps anything
-    between two pieces. Each worker needs this package.
+    This process reads the files and sends the pieces. Workers keep nothing between two pieces, so where one dies, another one judges its
+    piece. Each worker needs this package.
     """
     order = words(budget, depth)
 

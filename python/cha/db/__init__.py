@@ -31,7 +31,8 @@ def judge(
 ) -> Iterator[Row]:
     """Yields a row for each game of the files, in their order: those of one kind (`changed`, `dead`, `undecided`, `unreadable`), or all.
 
-    `InputError` where a file cannot be read, `ChaError` where a text cannot be judged; both behind what could be judged.
+    `piece` is how many bytes are judged at a time. Raises `InputError` where a file cannot be read, and `ChaError` where a text cannot be
+    judged, both after the rows of all that could be judged.
     """
     with threads(processors(), words(budget, depth)) as judges:
         for file in names_of(files):

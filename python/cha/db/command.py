@@ -18,7 +18,7 @@ from cha.db.sources import InputError, is_same_file, size_of
 from cha.db.state import OrderError, State
 from cha.db.tables import OutputError
 
-_DESCRIPTION = "Judges every game of a database: whose result is not the one by the Laws of Chess?"
+_DESCRIPTION = "Judges every game of a database, and tells which recorded results are not those by the Laws of Chess."
 _STATUSES = """exit status: 0 all was judged; 1 wrong words; 2 a file cannot be read, or no game of it can; 3 an output cannot be written;
 4 a text of over 268,435,456 bytes in which no game ends; 5 memory was refused; 130 interrupted"""
 
@@ -38,16 +38,16 @@ def _count(text: str) -> int:
 def parser() -> argparse.ArgumentParser:
     """Returns what reads the words of the command."""
     read = _Parser("cha-db", description=_DESCRIPTION, epilog=_STATUSES)
-    read.add_argument("files", nargs="+", metavar="FILE", help="PGN, plain or made smaller by zstd, gzip or bzip2; - is standard input")
-    read.add_argument("--to", metavar="FILE", help="write the games to FILE.jsonl, FILE.csv or FILE.sqlite; else JSON lines are printed")
+    read.add_argument("files", nargs="+", metavar="FILE", help="PGN, plain or compressed with zstd, gzip or bzip2; - is standard input")
+    read.add_argument("--to", metavar="FILE", help="write the games to FILE.jsonl, .csv or .sqlite; with no output file JSON lines are printed")
     read.add_argument("--only", choices=list(KINDS), help="write only games of this kind")
-    read.add_argument("--report", metavar="FILE.html", help="write a page with the numbers and the changed games")
+    read.add_argument("--report", metavar="FILE.html", help="write a page with the numbers and the first 1,000 changed games")
     read.add_argument("--corrected", metavar="FILE.pgn", help="write all games in PGN, with the results by the Laws")
-    read.add_argument("--resume", action="store_true", help="go on where a run with the same words was broken off")
-    read.add_argument("--quiet", action="store_true", help="say nothing but errors")
+    read.add_argument("--resume", action="store_true", help="go on where a run with the same files and options was broken off")
+    read.add_argument("--quiet", action="store_true", help="print only errors on standard error")
     read.add_argument("--threads", type=_count, default=processors(), metavar="N", help="judge N pieces at once (%(default)s)")
-    read.add_argument("--budget", type=_count, metavar="N", help="as for cha adjudicate")
-    read.add_argument("--depth", type=_count, metavar="N", help="as for cha adjudicate")
+    read.add_argument("--budget", type=_count, metavar="N", help="as for cha adjudicate, 1 to 100000")
+    read.add_argument("--depth", type=_count, metavar="N", help="as for cha adjudicate, 2 to 8")
     read.add_argument("--piece", type=_count, default=PIECE, metavar="BYTES", help="cut the text into pieces of this size (%(default)s)")
     return read
 

@@ -1,4 +1,4 @@
-"""Files of games: plain, or as zstd, gzip or bzip2 has made them smaller, whatever their names are."""
+"""Files of games: plain, or compressed with zstd, gzip or bzip2, whatever their names are."""
 
 import bz2
 import gzip

@@ -1,4 +1,4 @@
-"""Texts that zstd has made smaller."""
+"""Texts that are compressed with zstd."""
 
 from typing import Any, Callable
 

@@ -5,7 +5,8 @@
 The rows are data. `runs/` has whole runs, in a form that stands at the head of each file; each of the other files is a table with a row on
 each line, whose columns its first lines name. A new row is written into its file, with what it should answer and why: from the Laws of
 Chess, from the formats, from another program, and never from what `cha` answers. Names of files behind the program's (as `verdicts` or
-`runs/games`) run these alone. It ends with 'N passed, M failed', where N counts rows.
+`runs/games`) run these alone; `together` and `cuts` name the rows that are made of others (`together.py`). It ends with 'N passed, M failed',
+which count rows.
 """
 
 import os
@@ -66,9 +67,18 @@ def judged(check: Check) -> List[str]:
 
 
 def main() -> int:
+    if len(sys.argv) < 2 or sys.argv[1] in ("-h", "--help"):
+        print(__doc__, end="")
+        return len(sys.argv) < 2
     path, *files = sys.argv[1:]
     library = Library(os.environ["CHA_LIBRARY"]) if "CHA_LIBRARY" in os.environ else None
-    chosen = [check for check in all_checks(Engines(Program(path), library)) if not files or check.file in files]
+    every_check = list(all_checks(Engines(Program(path), library)))
+    names = sorted({check.file for check in every_check})
+    unknown = [name for name in files if name not in names]
+    if unknown:
+        print(f"no file of rows is named {', '.join(unknown)}; there are {', '.join(names)}", file=sys.stderr)
+        return 2
+    chosen = [check for check in every_check if not files or check.file in files]
     failed = 0
     with ThreadPoolExecutor(max_workers=os.cpu_count()) as pool:
         for wrong in pool.map(judged, chosen):

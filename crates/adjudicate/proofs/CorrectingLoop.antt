@@ -48,7 +48,6 @@ use Rattle.item_batches.specs.Readers.{ItemKind, GameItems, KeptItems, items_by,
 use Rattle.item_batches.specs.Pieces.{game_piece, end_piece}
 use Rattle.adjudicate.specs.Steps.{place_of, IsEnded}
 use Rattle.item_batches.specs.Items.{TookAsNeeded}
-use Rattle.item_batches.proofs.Batching.{took_later}
 use Rattle.adjudicate.proofs.Fronts.{front_of_none, front_settled, front_more}
 use Rattle.adjudicate.proofs.CorrectedGames.{corrected_whole}
 use Rattle.item_batches.proofs.GivenGames.{item_at, items_first}
@@ -331,12 +330,12 @@ module _ (q : Question) (changed : Bool) (asked : IsAskedOf GameItems q) (old no
         j.sound,
         subst MayHave (sym j.number) may,
       ) in
-      let out : Grew old next (λ x. IsFront x (corrected_front changed taken (at.os ++ o ∷ []))) = (
+      let out : Grew old next (λ x. IsFront front x × IsFront x (corrected_front changed taken (at.os ++ o ∷ []))) = (
         front ++ take n text,
         Appends-trans old now next front (take n text) at.text added,
-        (drop n text, front_next q changed taken given written s at.os o game text at.judged found text_is ∙ ap (λ x. front ++ x) (sym (take-append-drop n text)) ∙ sym (append_assoc front (take n text) (drop n text))),
+        ((take n text, refl), (drop n text, front_next q changed taken given written s at.os o game text at.judged found text_is ∙ ap (λ x. front ++ x) (sym (take-append-drop n text)) ∙ sym (append_assoc front (take n text) (drop n text)))),
       ) in
-      short WriteFault next g' notes (taken, consumed, (at.os ++ o ∷ [], inl (more, took_later settled_games taken given (length (at.os ++ o ∷ []) - 1) (omega (arith, j.number)) took, out, refl))) (λ h. cc) (λ _. inl rose) (λ h. cc) few later (omega arith)
+      short WriteFault next g' notes (taken, consumed, (at.os, inl (o, more, took_now, out, refl))) (λ h. cc) (λ _. inl rose) (λ h. cc) few later (omega arith)
 
   -- all games were judged, and the rest and the summary were written or not
   pub all_judged : (status : Status) (next : Option (List ℕ)) (g0 g' : ℕ) (notes' : Noted) → g ≤ g0 → length taken ≤ 268435456 → length (placed_games taken) ≤ given → IsAtEnd left'

@@ -1,5 +1,5 @@
 -- What is written where the results of games are corrected (this project).
-use Rattle.std.specs.Prelude.{◌≡◌, ℕ, ◌-◌, ◌≤◌, Bool, true, false, List, [], ◌∷◌, ◌++◌, length, map, Option, Some, None, ◌⊎◌}
+use Rattle.std.specs.Prelude.{◌≡◌, ℕ, ◌≤◌, Bool, true, false, List, [], ◌∷◌, ◌++◌, length, map, Option, Some, None, ◌⊎◌}
 use Rattle.std.specs.Io.KnownBytes.{Appends, Consumes, IsAtEnd}
 use Rattle.pgn_games.specs.declared.marks.ResultMark.{ResultMark}
 use Rattle.pgn_games.specs.declared.played.PlacedGame.{PlacedGame}
@@ -85,12 +85,13 @@ Corrects c before now notes notes' =
     × ((os : List Outcome) × HasAll c.judging bytes os × Grew before.written now.written (λ out. out ≡ corrected_text c.changed bytes os)
     × Appends notes.taken notes'.taken (last c.judging bytes os))
 
--- The output was cut: in what is written of a game, and then nothing was noted, nor read that was not needed for it; or in all of it or the
--- summary, once all was read.
+-- The output was cut: in what is written of a game, behind all that is written of those before it, and then nothing was noted, nor read that
+-- was not needed for this game; or in all of it or the summary, once all was read.
 abbrev pub IsCutOff : Correction → Outside → Outside → Noted → Noted → Type 0
 IsCutOff c before now notes notes' =
     (bytes : List ℕ) × Consumes before.left now.left bytes × ((os : List Outcome) × (
-    (HasFirst c.judging now bytes os × TookAsNeeded c.judging.settled bytes (length os - 1) × Grew before.written now.written (λ out. IsFront out (corrected_front c.changed bytes os)) × (notes'.taken ≡ notes.taken))
+    ((o : Outcome) × HasFirst c.judging now bytes (os ++ o ∷ []) × TookAsNeeded c.judging.settled bytes (length os)
+    × Grew before.written now.written (λ out. IsFront (corrected_front c.changed bytes os) out × IsFront out (corrected_front c.changed bytes (os ++ o ∷ []))) × (notes'.taken ≡ notes.taken))
     ⊎ (IsAtEnd now.left × HasAll c.judging bytes os × Grew before.written now.written (λ out. IsFront out (corrected_text c.changed bytes os)) × Grew notes.taken notes'.taken (λ out. IsFront out (last c.judging bytes os)))
     ))
 

@@ -67,7 +67,8 @@ BeginsWhole d least before now =
 
 -- What was read and written for an order, by the status of the run: its whole report on Done and NotAccepted, a front of it where
 -- the sink failed, and whole blocks of it where anything else failed. No game that was cut off has a block, and where the source failed,
--- no game that is settled is left out. Wherever a run ends, each item that is settled in what was taken before the last piece has its block.
+-- no game that is settled is left out. Where a run fails before all was read, each item that is settled in what was taken before the last
+-- piece has its block.
 -- Words that order something never end in Usage.
 abbrev pub Ended : Demand → Status → Outside → Outside → Type 0
 Ended d Done before now = Reports d before now

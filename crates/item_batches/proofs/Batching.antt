@@ -137,14 +137,6 @@ popped reader question p queue failed h =
       waits = λ some. took_later (settled_by (kind_of reader)) (taken_by reader) (given_by reader - suc (length queue)) (given_by reader - length queue) (omega (arith, next)) (h.waits (omega arith));
     }
 
--- its work
-pub first_work : (reader : ItemReader) (question : Question) (p : Progress) (queue all behind : List Progress) (failed : Bool) → all ≡ p ∷ queue → IsQueued reader question (all ++ behind) failed
-    → IsWorkAt question (items_by (kind_of reader) (taken_by reader)) (given_by reader - length (all ++ behind)) p
-first_work reader question p queue all behind failed e h =
-    let items = items_by (kind_of reader) (taken_by reader) in
-    let n = given_by reader - length (all ++ behind) in
-    first_of question items n p (queue ++ behind) (subst (λ q. AreWorkFrom question items n (q ++ behind)) e h.work)
-
 -- whatever is taken from the front
 pub popped_any : (reader : ItemReader) (question : Question) (found : Option Progress) (all queue behind : List Progress) (failed : Bool) → all ≡ option_to_list found ++ queue → IsQueued reader question (all ++ behind) failed → IsQueued reader question (queue ++ behind) failed
 popped_any reader question None all queue behind failed e h = subst (λ q. IsQueued reader question (q ++ behind) failed) e h
@@ -359,35 +351,17 @@ pub some_part : (worked cut : List Progress) (begun : List Part) → worked ≡ 
 some_part worked cut [] no_work no_cut some = absurd (omega (arith, some, queued_count worked [] cut, ap length no_work, ap length no_cut))
 some_part worked cut (part ∷ parts) no_work no_cut some = omega arith
 
--- some item is queued where some part is begun or some item is cut
-pub some_item : (worked cut : List Progress) (begun : List Part) → ((k : ℕ) (d : Part) → k < length begun → 1 ≤ length (items_of (slice_index_or begun k d))) → (1 ≤ length begun) ⊎ (1 ≤ length cut) → 1 ≤ length (worked ++ (items_of_all begun ++ cut))
-some_item worked cut begun each (inr some) = omega (arith, queued_count worked begun cut, some)
-some_item worked cut [] each (inl some) = absurd (omega (arith, some))
-some_item worked cut (part ∷ parts) each (inl some) = omega (arith, queued_count worked (part ∷ parts) cut, length-append (items_of part) (items_of_all parts), each 0 part (omega arith))
+-- some item is queued where the work on one has ended, some part is begun or some item is cut
+pub some_item : (worked cut : List Progress) (begun : List Part) → All (λ part. 1 ≤ length (items_of part)) begun → 1 ≤ length worked + (length begun + length cut) → 1 ≤ length (worked ++ (items_of_all begun ++ cut))
+some_item worked cut [] each some = omega (arith, queued_count worked [] cut, some)
+some_item worked cut (part ∷ parts) each some = omega (arith, queued_count worked (part ∷ parts) cut, length-append (items_of part) (items_of_all parts), each 0 part (omega arith))
 
 -- no item
 pub no_item : (worked cut : List Progress) (begun : List Part) → worked ≡ [] → begun ≡ [] → cut ≡ [] → worked ++ (items_of_all begun ++ cut) ≡ []
 no_item worked cut begun no_work no_part_begun no_cut = ap (λ w. w ++ (items_of_all begun ++ cut)) no_work ∙ ap (λ b. items_of_all b ++ cut) no_part_begun ∙ no_cut
 
--- one item alone
-pub one_item : (worked cut : List Progress) (begun : List Part) (p : Progress) → worked ≡ [] → begun ≡ [] → cut ≡ p ∷ [] → worked ++ (items_of_all begun ++ cut) ≡ p ∷ []
-one_item worked cut begun p no_work no_part_begun one = ap (λ w. w ++ (items_of_all begun ++ cut)) no_work ∙ ap (λ b. items_of_all b ++ cut) no_part_begun ∙ one
-
--- some item is queued where the work on one has ended
-pub some_worked : (p : Progress) (all queue behind : List Progress) → all ≡ option_to_list (Some p) ++ queue → 1 ≤ length (all ++ behind)
-some_worked p all queue behind e = let size : length all ≡ suc (length queue) = ap length e in omega (arith, size, length-append all behind)
-
--- where something is queued, the last piece was taken when its first item was needed
-pub queue_waits : (reader : ItemReader) (question : Question) (queue : List Progress) (failed : Bool) (taken : List ℕ) → IsQueued reader question queue failed → 1 ≤ length queue → taken ≡ taken_by reader → TookAsNeeded (settled_by (kind_of reader)) taken (given_by reader - length queue)
-queue_waits reader question queue failed taken h some same = subst (λ x. TookAsNeeded (settled_by (kind_of reader)) x (given_by reader - length queue)) (sym same) (h.waits some)
-
--- where nothing is queued, all that the reader gave was given
-pub given_all : (reader : ItemReader) (queue : List Progress) → queue ≡ [] → given_by reader - length queue ≡ given_by reader
-given_all reader queue none = let all : given_by reader - 0 ≡ given_by reader = omega arith in ap (λ q. given_by reader - length q) none ∙ all
-
-pub next_waits : (k : ItemKind) (taken taken' : List ℕ) (given given' : ℕ) → taken' ≡ taken → given' ≡ given → TookAsNeeded (settled_by k) taken given → TookAsNeeded (settled_by k) taken' given'
-next_waits k taken taken' given given' same all took = subst (λ x. TookAsNeeded (settled_by k) x given') (sym same) (subst (λ n. TookAsNeeded (settled_by k) taken n) (sym all) took)
-
--- the same of what comes only where an item is at hand
-pub at_hand_too : (settled given given' : ℕ) (P : Type 0) → given' ≡ given → (given < settled → P) → given' < settled → P
-at_hand_too settled given given' P all h few = h (subst (λ n. n < settled) all few)
+-- one item alone, where none was queued
+pub one_item : (worked cut cut' : List Progress) (begun : List Part) (p : Progress) → worked ++ (items_of_all begun ++ cut) ≡ [] → cut' ≡ cut ++ p ∷ [] → worked ++ (items_of_all begun ++ cut') ≡ p ∷ []
+one_item worked cut cut' begun p none one =
+    let A = items_of_all begun in
+    ap (λ x. worked ++ (A ++ x)) one ∙ ap (λ x. worked ++ x) (sym (append_assoc A cut (p ∷ []))) ∙ sym (append_assoc worked (A ++ cut) (p ∷ [])) ∙ ap (λ x. x ++ p ∷ []) none

@@ -1,5 +1,5 @@
 -- The items of games and of lines.
-use Rattle.std.proofs.Common.{◌≡◌, ℕ, zero, suc, ◌+◌, ◌<◌, ◌≤◌, ◌==◌, Bool, true, false, ◌&&◌, if◌then◌else◌, List, [], ◌∷◌, ◌++◌, length, map, take, Some, slice_get, sym, ap, ◌∙◌, arith, length-append}
+use Rattle.std.proofs.Common.{◌≡◌, ℕ, zero, suc, ◌+◌, ◌<◌, ◌≤◌, ◌==◌, Bool, true, false, ◌&&◌, if◌then◌else◌, List, [], ◌∷◌, length, map, take, Some, slice_get, sym, ap, ◌∙◌, arith, length-append}
 use Rattle.std.proofs.lemmas.List.{take-map}
 use Rattle.text_lines.specs.declared.lines.TextLine.{TextLine}
 use Rattle.text_lines.specs.Lines.{lines, onto_first, begins_with_line_feed, counts, line_if, numbered, text_lines, settled_lines}

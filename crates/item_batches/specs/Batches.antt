@@ -29,6 +29,10 @@ AreWorkFrom question items first queue = (i : ℕ) (progress : Progress) → sli
 abbrev pub items_queued : Queue → List Progress
 items_queued queue = queue.worked.items ++ (items_of_all queue.begun.items ++ queue.cut.items)
 
+-- how many items were given, of those that a reader gave, where these are queued
+abbrev pub given_from : ItemReader → Queue → ℕ
+given_from reader queue = given_by reader - length (items_queued queue)
+
 -- What contracts see of a queue: the kind of its items and what is asked about them, the bytes taken, how many of them were written, how
 -- many items were given, whether the source has ended, and whether a call failed.
 pub record BatchesState : Type 0 where

@@ -11,7 +11,8 @@ ghost use Rattle.item_batches.specs.Batches.{IsWorkAt};
 ghost use Rattle.item_batches.specs.Items.{TookAsNeeded, most_bytes};
 ghost use Rattle.item_batches.specs.Pieces.{game_piece, end_piece};
 
-use crate::queue::{FIRST_ITEMS, Queue, end_all, is_empty, nothing_queued, put_first, take_first};
+use crate::coming::await_item;
+use crate::queue::{Queue, end_all, nothing_queued, take_first};
 use crate::readers::ItemReader;
 use cha_list::{NoMemory, Text};
 use cha_outcome::Question;
@@ -35,14 +36,13 @@ pub struct Batches<'a, H: Hands> {
 /// Contracts see the kind of the items and what is asked about them, the bytes taken, how many of them were written, how many items were
 /// given, whether the source has ended, and whether a call failed.
 impl<'a, H: Hands> Model for Batches<'a, H> {
-    ghost use Rattle.std.specs.Prelude.{◌-◌, length};
-    ghost use Rattle.item_batches.specs.Readers.{kind_of, taken_by, written_by, given_by, has_ended};
-    ghost use Rattle.item_batches.specs.Batches.{BatchesState, items_queued, IsQueued};
+    ghost use Rattle.item_batches.specs.Readers.{kind_of, taken_by, written_by, has_ended};
+    ghost use Rattle.item_batches.specs.Batches.{BatchesState, items_queued, given_from, IsQueued};
     ghost use Rattle.side_by_side.specs.Parts.{AreMine, AreAbout};
 
     ghost Value = { BatchesState };
 
-    ghost view = { λ s. record { kind = kind_of s.reader; question = s.question; taken = taken_by s.reader; written = written_by s.reader; given = given_by s.reader - length (items_queued s.queue); ended = has_ended s.reader; failed = s.failed } };
+    ghost view = { λ s. record { kind = kind_of s.reader; question = s.question; taken = taken_by s.reader; written = written_by s.reader; given = given_from s.reader s.queue; ended = has_ended s.reader; failed = s.failed } };
 
     ghost invariant = { λ s. H.ready s.hands.now × AreMine H.mine s.queue.begun.items × AreAbout s.question s.queue.begun.items × IsQueued s.reader s.question (items_queued s.queue) s.failed };
 }
@@ -106,37 +106,14 @@ impl<'a, H: Hands> Batches<'a, H> {
         ensures failed { self.new.failed ≡ is_err result }
         ensures later { S.faults source.old ≤ S.faults source.new }
     {
-        if let Some(progress) = self.queue.worked.pop_front() {
-            return Ok(Some(progress));
-        }
-        if !is_empty(&self.queue) {
-            return match take_first(
-                alloc,
-                self.hands,
-                &self.question,
-                &mut self.queue,
-                &mut self.reader,
-            ) {
-                Ok(progress) => Ok(Some(progress)),
-                Err(_) => {
-                    self.failed = true;
-                    Err(ReadEnd::NoMemory)
-                }
-            };
-        }
-        self.queue.most = FIRST_ITEMS;
-        let first = match self.reader.next(source) {
-            Ok(Some(first)) => first,
-            Ok(None) => return Ok(None),
+        match await_item(&mut self.queue, &mut self.reader, source) {
+            Ok(true) => {}
+            Ok(false) => return Ok(None),
             Err(end) => {
                 self.failed = true;
                 return Err(end);
             }
-        };
-        let Ok(()) = put_first(first, &mut self.queue.cut) else {
-            self.failed = true;
-            return Err(ReadEnd::NoMemory);
-        };
+        }
         match take_first(
             alloc,
             self.hands,

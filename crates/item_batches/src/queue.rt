@@ -4,15 +4,14 @@ ghost use Rattle.std.specs.Prelude.{◌≡◌, ◌≤◌, ◌<◌, ◌+◌, ◌-
 ghost use Rattle.item_batches.specs.Readers.{kind_of, taken_by, written_by, given_by, has_ended, items_by, CanGoOn};
 ghost use Rattle.cha_outcome.specs.declared.questions.Question.{Question as Asked};
 ghost use Rattle.side_by_side.specs.declared.progress.Progress.{Progress};
-ghost use Rattle.side_by_side.specs.declared.progress.Progress.TheVariants.{Cut as OnlyCut};
 ghost use Rattle.side_by_side.specs.Progresses.{AreAsked};
 ghost use Rattle.side_by_side.specs.Parts.{AreMine, AreAbout};
-ghost use Rattle.item_batches.specs.Batches.{IsWorkAt, items_queued, IsQueued};
+ghost use Rattle.item_batches.specs.Batches.{IsWorkAt, items_queued, given_from, IsQueued};
 
 use crate::readers::ItemReader;
 use cha_list::NoMemory;
 use cha_outcome::Question;
-use side_by_side::{Cut, Hands, Part, Progress};
+use side_by_side::{Hands, Part, Progress};
 use std::alloc::Global;
 use std::collections::VecDeque;
 use std::mem;
@@ -206,8 +205,8 @@ fn end_first<H: Hands>(hands: &H, queue: &mut Queue)
     }
 }
 
-/// Works on what is queued and on what is whole behind it, until the work on the first part has ended. Some item is queued, and on none
-/// the work has ended.
+/// Works on what is queued and on what is whole behind it, until the work on the first part has ended, where the work on no item has. Some
+/// item is queued.
 fn work_on<H: Hands>(
     alloc: Global,
     hands: &H,
@@ -220,7 +219,6 @@ fn work_on<H: Hands>(
     requires about { AreAbout question.now queue.old.begun.items }
     requires queued { IsQueued reader.old question.now (items_queued queue.old) false }
     requires some { 1 ≤ length (items_queued queue.old) }
-    requires none { queue.old.worked.items ≡ [] }
     ensures kind { kind_of reader.new ≡ kind_of reader.old }
     ensures same { (taken_by reader.new ≡ taken_by reader.old) × (has_ended reader.new ≡ has_ended reader.old) }
     ensures written { written_by reader.new ≡ written_by reader.old }
@@ -230,6 +228,9 @@ fn work_on<H: Hands>(
     ensures count { OnOk result (given_by reader.new + length (items_queued queue.old) ≡ given_by reader.old + length (items_queued queue.new)) }
     ensures queued { OnOk result (IsQueued reader.new question.now (items_queued queue.new) false) }
 {
+    if !queue.worked.is_empty() {
+        return Ok(());
+    }
     fill(alloc, hands, question, queue, reader)?;
     end_first(hands, queue);
     if queue.cut.is_empty() {
@@ -238,27 +239,7 @@ fn work_on<H: Hands>(
     begin_cut(alloc, hands, question, queue)
 }
 
-/// Puts an item that has come behind those that are cut.
-pub fn put_first(first: Cut, cut: &mut Vec<Progress>) -> Result<(), NoMemory>
-    ensures ok { OnOk result (cut.new.items ≡ cut.old.items ++ OnlyCut first ∷ []) }
-    ensures err { OnErr result (cut.new.items ≡ cut.old.items) }
-{
-    match cut.push(Progress::Cut(first)) {
-        Ok(()) => Ok(()),
-        Err(_) => Err(NoMemory),
-    }
-}
-
-/// Whether no part is begun and nothing is cut.
-pub fn is_empty(queue: &Queue) -> bool
-    ensures none { result ≡ true → (queue.now.begun.items ≡ []) × (queue.now.cut.items ≡ []) }
-    ensures some { result ≡ false → (1 ≤ length queue.now.begun.items) ⊎ (1 ≤ length queue.now.cut.items) }
-{
-    queue.begun.is_empty() && queue.cut.is_empty()
-}
-
-/// The work on the first item, where some item is queued and on none the work has ended. Where memory is refused, nothing is queued any
-/// more.
+/// The work on the first item, where some item is queued. Where memory is refused, nothing is queued any more.
 pub fn take_first<H: Hands>(
     alloc: Global,
     hands: &H,
@@ -271,13 +252,12 @@ pub fn take_first<H: Hands>(
     requires about { AreAbout question.now queue.old.begun.items }
     requires queued { IsQueued reader.old question.now (items_queued queue.old) false }
     requires some { 1 ≤ length (items_queued queue.old) }
-    requires none { queue.old.worked.items ≡ [] }
     ensures kind { kind_of reader.new ≡ kind_of reader.old }
     ensures same { (taken_by reader.new ≡ taken_by reader.old) × (has_ended reader.new ≡ has_ended reader.old) }
     ensures written { written_by reader.new ≡ written_by reader.old }
     ensures mine { AreMine H.mine queue.new.begun.items }
     ensures about { AreAbout question.now queue.new.begun.items }
-    ensures work { IfOk result (IsWorkAt question.now (items_by (kind_of reader.old) (taken_by reader.old)) (given_by reader.old - length (items_queued queue.old))) }
+    ensures work { IfOk result (IsWorkAt question.now (items_by (kind_of reader.old) (taken_by reader.old)) (given_from reader.old queue.old)) }
     ensures count { OnOk result (given_by reader.new + length (items_queued queue.old) ≡ given_by reader.old + length (items_queued queue.new) + 1) }
     ensures queued { OnOk result (IsQueued reader.new question.now (items_queued queue.new) false) }
     ensures refused { OnErr result (items_queued queue.new ≡ []) }

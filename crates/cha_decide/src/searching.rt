@@ -10,7 +10,6 @@ ghost use Rattle.cha_fact.specs.Entries.{MadeSome};
 ghost use Rattle.forced_graph.specs.Outcomes.{HasExpanded};
 ghost use Rattle.cha_decide.specs.Shown.{IsFound};
 
-use crate::nowhere::Nowhere;
 use crate::showing::checked;
 use cha_board::{Color, Position};
 use cha_fact::{Facts, Line, Proved};
@@ -21,7 +20,7 @@ use cha_verdict::Verdict;
 use forced_graph::{Explored, explore_in};
 use helpmate::{RoundAnswer, round_in};
 use mate_hunt::{Width, hunt};
-use root_workers::{Crew, RoundsEnd, rounds_by};
+use root_workers::{Crew, Nowhere, RoundsEnd, rounds_by};
 use search_guide::Guide;
 use std::alloc::Global;
 

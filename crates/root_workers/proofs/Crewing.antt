@@ -20,7 +20,7 @@ use Rattle.root_workers.specs.declared.work.Work.{Work}
 use Rattle.root_workers.specs.declared.work.Worker.{Worker}
 use Rattle.root_workers.specs.declared.answers.RoundsEnd.{RoundsEnd}
 use Rattle.root_workers.specs.RoundAnswers.{RoundsCalls}
-use Rattle.root_workers.specs.Shares.{IsShare, ShareCalls, AllGrow}
+use Rattle.root_workers.specs.Shares.{IsShare, ShareCalls, AllGrow, AllGrowTo}
 use Rattle.root_workers.specs.Crews.{IsCrew, CrewMakes, LeavesWork, WorkerDone}
 use Rattle.root_workers.specs.Splits.{OnlySplits, IsFresh, AreFresh}
 
@@ -34,7 +34,7 @@ calls_keep made f a b task moves number count work keeps calls = keeps calls.0 c
 pub calls_seen : {S T : Type 0} (made : S → List Entry → S → Type 0) (lifted : T → List Entry → T → Type 0) (a b : S) (x y : T) (task : Task) (moves : List Move) (number count : ℕ) (work : Work)
     → ((xs : List Entry) → made a xs b → lifted x xs y) → ShareCalls made a b task moves number count work → ShareCalls lifted x y task moves number count work
 unfolding ShareCalls
-calls_seen made lifted a b x y task moves number count work lift calls = (calls.0, lift calls.0 calls.1, calls.2)
+calls_seen made lifted a b x y task moves number count work lift calls = (calls.0, lift calls.0 calls.1, calls.2, calls.3)
 
 -- one worker was changed, and all others stay
 module _ (old : List Worker) (w e : Worker) (entries : List Entry) (some : 0 < length old) (entered : Makes (slice_index_or old 0 e).pass entries w.pass) where
@@ -151,14 +151,14 @@ module _ (table : Table) (task : Task) (moves : List Move) where
         let calls = (done i w less).calls in
         let P : ℕ → Type 0 = λ n. ShareCalls (made_by i) a b task moves n (length (w ∷ ws)) work in
         let Q : Work → Type 0 = λ x. ShareCalls (made_by i) a b task moves (slice_index_or (w ∷ ws) i w).number (length (w ∷ ws)) x in
-        subst P (crew.number i w less) (subst Q (sym (left w (omega (arith, less, same)))) (calls.0, lift i calls.0 (done_makes (w ∷ ws) new w same done i calls.0 less calls.1), calls.2))
+        subst P (crew.number i w less) (subst Q (sym (left w (omega (arith, less, same)))) (calls.0, lift i calls.0 (done_makes (w ∷ ws) new w same done i calls.0 less calls.1), calls.2, calls.3))
 
-    pub grow_done : (old new : List Worker) → length new ≡ length old → AreDone old new → ((i : ℕ) (xs : List Entry) → CrewMakes i old xs new → made_by i a xs b) → AllGrow made_by a b (length old)
-    unfolding AllGrow ShareCalls
+    pub grow_done : (old new : List Worker) → length new ≡ length old → AreDone old new → ((i : ℕ) (xs : List Entry) → CrewMakes i old xs new → made_by i a xs b) → AllGrowTo task.depth made_by a b (length old)
+    unfolding AllGrowTo ShareCalls
     grow_done [] new same done lift i less = absurd (omega (arith, less))
     grow_done (w ∷ ws) new same done lift i less =
         let calls = (done i w less).calls in
-        (calls.0, lift i calls.0 (done_makes (w ∷ ws) new w same done i calls.0 less calls.1))
+        (calls.0, lift i calls.0 (done_makes (w ∷ ws) new w same done i calls.0 less calls.1), calls.2)
 
 -- what a slice of a whole list comes to is the list
 pub written_back : {X : Type 0} (xs ys : List X) (len : ℕ) → len ≡ length ys → take len (ys ++ drop (length ys) xs) ≡ ys
@@ -184,6 +184,7 @@ rounds_seen made made_by seen seen_by count a b x y q w limits result lift lift_
   entered = lift _ calls.entered;
   follows = calls.follows;
   stores = calls.stores;
-  searched = λ d is none i m at. (let s = calls.searched d is none i m at in (s.0, lift_by (i % count) s.0 s.1, s.2));
+  few = calls.few;
+  searched = λ d is deep none i m at. (let s = calls.searched d is deep none i m at in (s.0, lift_by (i % count) s.0 s.1, s.2));
   grows = λ i less. (let g = calls.grows i less in (g.0, lift_by i g.0 g.1));
 }

@@ -30,8 +30,8 @@ use Rattle.root_workers.specs.declared.task.Task.{Task}
 use Rattle.root_workers.specs.declared.work.Work.{Work}
 use Rattle.root_workers.specs.declared.answers.RoundsEnd.{RoundsEnd}
 use Rattle.root_workers.specs.declared.answers.RoundsEnd.TheVariants.{Mate, NoneWithin}
-use Rattle.root_workers.specs.Shares.{IsShare, AreSharesSearched, ShareCalls, AllGrow}
-use Rattle.root_workers.specs.RoundAnswers.{IsMateEnd, IsEnd, IsAmple, IsDecidedEnd, FollowsFirst, IsUndecided, HasEndStore, RoundsCalls, claim_of}
+use Rattle.root_workers.specs.Shares.{IsShare, AreSharesSearched, ShareCalls, AllGrow, AllGrowTo}
+use Rattle.root_workers.specs.RoundAnswers.{IsMateEnd, IsEnd, IsAmple, IsDecidedEnd, FollowsFirst, IsUndecided, HasEndStore, IsEndStore, RoundsCalls, claim_of}
 use Rattle.root_workers.specs.Deepens.{plies_of, IsFrom, DeepenCalls, KeepCalls, KeptCalls}
 use Rattle.root_workers.proofs.Going.{the_end, none_depth}
 
@@ -89,7 +89,8 @@ decided_none made made_by count old new q w limits reply row depth entered grow 
             refl,
           )));
       stores = λ end ends und. absurd (some_none NoneAnswer (decided_by limits.depth row.fact) dec (subst (λ (p : Probe). IsUndecided limits.depth p) is und));
-      searched = λ d ends none i m at. (
+      few = λ end ends few und. absurd (some_none NoneAnswer (decided_by limits.depth row.fact) dec (subst (λ (p : Probe). IsUndecided limits.depth p) is und));
+      searched = λ d ends deep none i m at. (
           let s = says_none depth row.fact decided in
           let f : depth ≡ d = none_depth depth d (the_end one (NoneWithin d) (Ok one) refl ends) in
           let few = s.1 in
@@ -117,7 +118,7 @@ pub rounds_calls : {S : Type 0} (made : S → List Entry → S → Type 0) (made
     → ((i : ℕ) (a b c : S) (xs ys : List Entry) → made_by i a xs b → made_by i b ys c → made_by i a (xs ++ ys) c)
     → 0 < count → other ≡ count → made old (probe_entry (key_of q w) reply ∷ []) mid → AllGrow made_by old mid count → IsUndecided limits.depth reply
     → ((d : ℕ) → d ≤ from → 2 ≤ d → (rest : List Entry) → HasFound (probe_entry (key_of q w) reply ∷ rest) q w d)
-    → DeepenCalls made_by mid new q w from other result → KeptCalls made mid new q w result
+    → DeepenCalls made_by mid new q w from other result → KeptCalls made mid new q w limits.depth result
     → IfOk result (λ (end : RoundsEnd). IsEnd q w limits end) → IfOk result (λ (end : RoundsEnd). IsFrom from end)
     → RoundsCalls made made_by count old new q w limits result
 unfolding DeepenCalls KeptCalls AllGrow
@@ -128,8 +129,9 @@ rounds_calls made made_by count other from old mid new q w limits reply result b
       rest = kept.0;
       entered = both old mid new (first ∷ []) kept.0 entered kept.1;
       follows = λ end is. follows_none limits.depth reply kept.0 end und;
-      stores = λ end is u. kept.2 end is;
-      searched = λ d is none i m at. (
+      stores = λ end is u. (kept.2 end is).0;
+      few = λ end is few u. (kept.2 end is).1 few;
+      searched = λ d is deep none i m at. (
           let small : i % count < count = mod-lt i some in
           let g = grow (i % count) small in
           let c = deepened (i % count) (omega (arith, small, same)) in
@@ -137,7 +139,7 @@ rounds_calls made made_by count other from old mid new q w limits reply result b
             | inl less ↦ (
               g.0 ++ c.0,
               both_by (i % count) old mid new g.0 c.0 g.1 c.1,
-              searched_more c.0 (g.0 ++ c.0) (back_within g.0 c.0) (after q m) w (d - 1) (one_searched c.0 q w (d - 1) (legal q) (i % count) other i m (c.2 d is less) at (ap (λ (n : ℕ). i % n) same)),
+              searched_more c.0 (g.0 ++ c.0) (back_within g.0 c.0) (after q m) w (d - 1) (one_searched c.0 q w (d - 1) (legal q) (i % count) other i m (c.2 d is less deep) at (ap (λ (n : ℕ). i % n) same)),
             )
             | inr few ↦ absurd (none (known d few (two_least q w limits d (ok_holds (λ (x : RoundsEnd). IsEnd q w limits x) result (NoneWithin d) ends is)) kept.0))
           ]);
@@ -165,25 +167,28 @@ pub undecided_missed : (depth : ℕ) (reply : Probe) → reply ≡ Miss → IsUn
 undecided_missed depth reply is = subst (λ (p : Probe). IsUndecided depth p) (sym is) tt
 
 -- the calls of the first worker where nothing is kept
-pub kept_nothing : {S : Type 0} (made : S → List Entry → S → Type 0) (made_by : ℕ → S → List Entry → S → Type 0) (old new : S) (q : Board) (w : Color) (from count : ℕ) (inner result : Result RoundsEnd NoMemory)
-    → ((a b : S) (xs : List Entry) → made_by 0 a xs b → made a xs b) → DeepenCalls made_by old new q w from count inner → 0 < count → ((end : RoundsEnd) → result ≡ Ok end → ⊥) → KeptCalls made old new q w result
+pub kept_nothing : {S : Type 0} (made : S → List Entry → S → Type 0) (made_by : ℕ → S → List Entry → S → Type 0) (old new : S) (q : Board) (w : Color) (from most count : ℕ) (inner result : Result RoundsEnd NoMemory)
+    → ((a b : S) (xs : List Entry) → made_by 0 a xs b → made a xs b) → DeepenCalls made_by old new q w from count inner → 0 < count → ((end : RoundsEnd) → result ≡ Ok end → ⊥) → KeptCalls made old new q w most result
 unfolding DeepenCalls KeptCalls
-kept_nothing made made_by old new q w from count inner result lower deepened some refused =
+kept_nothing made made_by old new q w from most count inner result lower deepened some refused =
     let d = deepened 0 some in
     (d.0, lower old new d.0 d.1, (λ done is. absurd (refused done is)))
 
-pub kept_end : {S : Type 0} (made : S → List Entry → S → Type 0) (made_by : ℕ → S → List Entry → S → Type 0) (old mid new : S) (q : Board) (w : Color) (from count : ℕ) (inner result : Result RoundsEnd NoMemory) (end : RoundsEnd)
+pub kept_end : {S : Type 0} (made : S → List Entry → S → Type 0) (made_by : ℕ → S → List Entry → S → Type 0) (old mid new : S) (q : Board) (w : Color) (most count : ℕ) (result : Result RoundsEnd NoMemory) (end : RoundsEnd)
     → ((a b c : S) (xs ys : List Entry) → made a xs b → made b ys c → made a (xs ++ ys) c) → ((a b : S) (xs : List Entry) → made_by 0 a xs b → made a xs b)
-    → DeepenCalls made_by old mid q w from count inner → 0 < count → KeepCalls made mid new (claim_of q w end) → ((e : RoundsEnd) → result ≡ Ok e → end ≡ e) → KeptCalls made old new q w result
-unfolding DeepenCalls KeepCalls KeptCalls HasEndStore
-kept_end made made_by old mid new q w from count inner result end both lower deepened some keep ends =
-    let d = deepened 0 some in
+    → AllGrowTo most made_by old mid count → 0 < count → KeepCalls made mid new (claim_of q w end) → ((e : RoundsEnd) → result ≡ Ok e → end ≡ e) → KeptCalls made old new q w most result
+unfolding AllGrowTo KeepCalls KeptCalls HasEndStore IsEndStore
+kept_end made made_by old mid new q w most count result end both lower grown some keep ends =
+    let d = grown 0 some in
     let last = store_entry (claim_of q w end) keep.0 in (
       d.0 ++ last ∷ [],
       both old mid new d.0 (last ∷ []) (lower old mid d.0 d.1) keep.1,
       (λ done is.
           let P : RoundsEnd → Type 0 = λ e. Contains (d.0 ++ last ∷ []) (store_entry (claim_of q w e) keep.0) in
-          (keep.0, subst P (ends done is) (Contains-push d.0 last))),
+          let Q : RoundsEnd → Type 0 = λ e. d.0 ++ last ∷ [] ≡ store_entry (claim_of q w e) keep.0 ∷ [] in (
+            (keep.0, subst P (ends done is) (Contains-push d.0 last)),
+            (λ few. (keep.0, subst Q (ends done is) (ap (λ (xs : List Entry). xs ++ last ∷ []) (d.2 few)))),
+          )),
     )
 
 pub keep_count : {S : Type 0} (made : S → List Entry → S → Type 0) (made_by : ℕ → S → List Entry → S → Type 0) (count : S → ℕ) (mid new : S) (claim : Claim)
@@ -204,7 +209,7 @@ unfolding DeepenCalls KeepCalls AllGrow
 deepened_kept made made_by count old mid new q w from all inner result claim both lift grow deepened keep same ends i less =
     let d = deepened i less in
     let g = grow 0 mid new (store_entry claim keep.0 ∷ []) (lift mid new (store_entry claim keep.0 ∷ []) keep.1) i (omega (arith, less, same)) in
-    (d.0 ++ g.0, both i old mid new d.0 g.0 d.1 g.1, (λ n is more. shares_front d.0 g.0 q w (n - 1) (legal q) i all (d.2 n (ends (NoneWithin n) is) more)))
+    (d.0 ++ g.0, both i old mid new d.0 g.0 d.1 g.1, (λ n is more deep. shares_front d.0 g.0 q w (n - 1) (legal q) i all (d.2 n (ends (NoneWithin n) is) more deep)))
 
 -- one worker has all root moves
 pub one_share : (task : Task) (moves : List Move) (i : ℕ) (a b : Work) → IsShare task moves 0 1 a → i < 1 → b ≡ a → IsShare task moves i 1 b
@@ -217,9 +222,9 @@ pub one_calls : {S T : Type 0} (made : S → List Entry → S → Type 0) (lifte
 unfolding ShareCalls
 one_calls made lifted a b x y task moves i u v lift calls less is =
     let e : 0 ≡ i = omega (arith, less) in
-    subst (λ (k : ℕ). ShareCalls lifted x y task moves k 1 v) e (subst (λ (z : Work). ShareCalls lifted x y task moves 0 1 z) (sym is) (calls.0, lift calls.0 calls.1, calls.2))
+    subst (λ (k : ℕ). ShareCalls lifted x y task moves k 1 v) e (subst (λ (z : Work). ShareCalls lifted x y task moves 0 1 z) (sym is) (calls.0, lift calls.0 calls.1, calls.2, calls.3))
 
 pub one_grows : {S T : Type 0} (made : S → List Entry → S → Type 0) (lifted : ℕ → T → List Entry → T → Type 0) (a b : S) (x y : T) (task : Task) (moves : List Move) (u : Work) (count : ℕ)
-    → ((i : ℕ) (entries : List Entry) → made a entries b → lifted i x entries y) → ShareCalls made a b task moves 0 1 u → AllGrow lifted x y count
-unfolding ShareCalls AllGrow
-one_grows made lifted a b x y task moves u count lift calls i less = (calls.0, lift i calls.0 calls.1)
+    → ((i : ℕ) (entries : List Entry) → made a entries b → lifted i x entries y) → ShareCalls made a b task moves 0 1 u → AllGrowTo task.depth lifted x y count
+unfolding ShareCalls AllGrowTo
+one_grows made lifted a b x y task moves u count lift calls i less = (calls.0, lift i calls.0 calls.1, calls.2)

@@ -1,5 +1,5 @@
 -- The rounds one after the other, and their calls.
-use Rattle.std.proofs.Common.{◌≡◌, ℕ, ◌+◌, ◌-◌, ◌<◌, ◌≤◌, List, [], ◌∷◌, ◌++◌, Some, Result, Ok, refl, sym, subst, arith}
+use Rattle.std.proofs.Common.{◌≡◌, ℕ, ◌+◌, ◌-◌, ◌<◌, ◌≤◌, List, [], ◌∷◌, ◌++◌, Some, Result, Ok, refl, sym, ◌∙◌, ap, subst, arith}
 use Rattle.cha_list.specs.declared.memory.NoMemory.{NoMemory}
 use Rattle.cha_board.specs.declared.men.Color.{Color}
 use Rattle.cha_board.specs.Board.{Board}
@@ -14,7 +14,7 @@ use Rattle.root_workers.specs.declared.task.Task.{Task}
 use Rattle.root_workers.specs.declared.work.Work.{Work}
 use Rattle.root_workers.specs.declared.answers.RoundsEnd.TheVariants.{Mate, NoneWithin}
 use Rattle.root_workers.specs.declared.answers.RoundsEnd.{RoundsEnd}
-use Rattle.root_workers.specs.Shares.{IsShare, IsSpent, AreSharesSearched, ShareCalls, AllGrow}
+use Rattle.root_workers.specs.Shares.{IsShare, IsSpent, AreSharesSearched, ShareCalls, AllGrowTo}
 use Rattle.root_workers.specs.Gathers.{AreShares, AreWhole}
 use Rattle.root_workers.specs.Deepens.{WorkerCalls, CrewCalls, RoundSearches, DeepenCalls, KeepCalls}
 
@@ -35,11 +35,11 @@ unfolding RoundSearches ShareCalls AreWhole
 round_searches made_by leaves old new task moves count more calls whole same listed i less =
     let w = whole i (omega (arith, less, same)) in
     let c = calls i w.0 less w.1 in
-    (c.0, c.1, subst (λ (ms : List Move). AreSharesSearched c.0 task.position task.winner (task.depth - 1) ms i count) listed (c.2 w.2))
+    (c.0, c.1, (λ deep. subst (λ (ms : List Move). AreSharesSearched c.0 task.position task.winner (task.depth - 1) ms i count) listed (c.3 deep w.2)))
 
 pub no_calls : {S : Type 0} (made_by : ℕ → S → List Entry → S → Type 0) (s : S) (q : Board) (w : Color) (from count : ℕ) → ((i : ℕ) (s : S) → made_by i s [] s) → CrewCalls made_by s s q w from from count
 unfolding CrewCalls WorkerCalls
-no_calls made_by s q w from count none i less = ([], none i s, (λ more. absurd (omega (arith, more))))
+no_calls made_by s q w from count none i less = ([], none i s, (λ more deep. absurd (omega (arith, more))))
 
 -- one more round
 pub round_more : {S : Type 0} (made_by : ℕ → S → List Entry → S → Type 0) (old mid new : S) (q : Board) (w : Color) (from depth count other : ℕ) (task : Task)
@@ -50,26 +50,46 @@ round_more made_by old mid new q w from depth count other task both before here 
     let b = before i less in
     let h = here i (omega (arith, less, same)) in
     let e : task.depth - 1 ≡ depth + 1 - 1 = omega arith in
-    let one = subst (λ (n : ℕ). AreSharesSearched h.0 task.position task.winner n (legal task.position) i other) e h.2 in
+    let searched = λ (deep : 4 < depth + 1). (
+    let one = subst (λ (n : ℕ). AreSharesSearched h.0 task.position task.winner n (legal task.position) i other) e (h.2 (omega (arith, deep, plies))) in
     let two = subst (λ (n : ℕ). AreSharesSearched h.0 task.position task.winner (depth + 1 - 1) (legal task.position) i n) same one in
     let three = subst (λ (x : Color). AreSharesSearched h.0 task.position x (depth + 1 - 1) (legal task.position) i count) side two in
     let four = subst (λ (x : Board). AreSharesSearched h.0 x w (depth + 1 - 1) (legal x) i count) board three in
-    (b.0 ++ h.0, both i old mid new b.0 h.0 b.1 h.1, (λ more. shares_within h.0 (b.0 ++ h.0) q w (depth + 1 - 1) (legal q) i count (back_within b.0 h.0) four))
+    shares_within h.0 (b.0 ++ h.0) q w (depth + 1 - 1) (legal q) i count (back_within b.0 h.0) four) in
+    (b.0 ++ h.0, both i old mid new b.0 h.0 b.1 h.1, (λ more deep. searched deep))
+
+-- the calls of rounds, and of no round
+pub grown_none : {S : Type 0} (made_by : ℕ → S → List Entry → S → Type 0) (s : S) (depth count : ℕ) → ((i : ℕ) (s : S) → made_by i s [] s) → AllGrowTo depth made_by s s count
+unfolding AllGrowTo
+grown_none made_by s depth count none i less = ([], none i s, (λ few. refl))
+
+pub grown_up : {S : Type 0} (made_by : ℕ → S → List Entry → S → Type 0) (old new : S) (depth most count : ℕ) → AllGrowTo depth made_by old new count → depth ≤ most → AllGrowTo most made_by old new count
+unfolding AllGrowTo
+grown_up made_by old new depth most count grown up i less = (let g = grown i less in (g.0, g.1, (λ few. g.2 (omega (arith, few, up)))))
+
+pub grown_more : {S : Type 0} (made_by : ℕ → S → List Entry → S → Type 0) (old mid new : S) (depth plies most count other : ℕ)
+    → ((i : ℕ) (a b c : S) (xs ys : List Entry) → made_by i a xs b → made_by i b ys c → made_by i a (xs ++ ys) c)
+    → AllGrowTo depth made_by old mid count → AllGrowTo plies made_by mid new other → other ≡ count → depth ≤ most → plies ≤ most → AllGrowTo most made_by old new count
+unfolding AllGrowTo
+grown_more made_by old mid new depth plies most count other both before here same up next i less =
+    let b = before i less in
+    let h = here i (omega (arith, less, same)) in
+    (b.0 ++ h.0, both i old mid new b.0 h.0 b.1 h.1, (λ few. ap (λ (xs : List Entry). xs ++ h.0) (b.2 (omega (arith, few, up))) ∙ h.2 (omega (arith, few, next))))
 
 -- a round ends the rounds
-pub ends_rounds : {S : Type 0} (made_by : ℕ → S → List Entry → S → Type 0) (old mid new : S) (q : Board) (w : Color) (from depth count other : ℕ) (result : Result RoundsEnd NoMemory)
+pub ends_rounds : {S : Type 0} (made_by : ℕ → S → List Entry → S → Type 0) (old mid new : S) (q : Board) (w : Color) (from depth count other plies : ℕ) (result : Result RoundsEnd NoMemory)
     → ((i : ℕ) (a b c : S) (xs ys : List Entry) → made_by i a xs b → made_by i b ys c → made_by i a (xs ++ ys) c)
-    → CrewCalls made_by old mid q w from depth count → AllGrow made_by mid new other → other ≡ count → ((d : ℕ) → result ≡ Ok (NoneWithin d) → d ≡ depth) → DeepenCalls made_by old new q w from count result
-unfolding CrewCalls WorkerCalls AllGrow DeepenCalls
-ends_rounds made_by old mid new q w from depth count other result both before grow same depths i less =
+    → CrewCalls made_by old mid q w from depth count → AllGrowTo plies made_by mid new other → other ≡ count → ((d : ℕ) → result ≡ Ok (NoneWithin d) → d ≡ depth) → DeepenCalls made_by old new q w from count result
+unfolding CrewCalls WorkerCalls AllGrowTo DeepenCalls
+ends_rounds made_by old mid new q w from depth count other plies result both before grow same depths i less =
     let b = before i less in
     let h = grow i (omega (arith, less, same)) in (
       b.0 ++ h.0,
       both i old mid new b.0 h.0 b.1 h.1,
-      (λ d is more.
+      (λ d is more deep.
           let e = depths d is in
           let P : ℕ → Type 0 = λ n. AreSharesSearched (b.0 ++ h.0) q w (n - 1) (legal q) i count in
-          subst P (sym e) (shares_within b.0 (b.0 ++ h.0) q w (depth - 1) (legal q) i count (front_within b.0 h.0) (b.2 (omega (arith, more, e))))),
+          subst P (sym e) (shares_within b.0 (b.0 ++ h.0) q w (depth - 1) (legal q) i count (front_within b.0 h.0) (b.2 (omega (arith, more, e)) (omega (arith, deep, e))))),
     )
 
 -- the last round is done
@@ -80,10 +100,10 @@ last_round made_by old new q w from depth count result before depths i less =
     let b = before i less in (
       b.0,
       b.1,
-      (λ d is more.
+      (λ d is more deep.
           let e = depths d is in
           let P : ℕ → Type 0 = λ n. AreSharesSearched b.0 q w (n - 1) (legal q) i count in
-          subst P (sym e) (b.2 (omega (arith, more, e)))),
+          subst P (sym e) (b.2 (omega (arith, more, e)) (omega (arith, deep, e)))),
     )
 
 pub the_end : (a b : RoundsEnd) (o : Result RoundsEnd NoMemory) → o ≡ Ok a → o ≡ Ok b → a ≡ b

@@ -1,5 +1,5 @@
 -- A part of a round that was refused memory before its first root move.
-use Rattle.std.proofs.Common.{◌≡◌, ◌∙◌, ℕ, true, List, [], sym, subst, arith}
+use Rattle.std.proofs.Common.{◌≡◌, ◌∙◌, ℕ, true, List, [], refl, sym, subst, arith}
 use Rattle.std.specs.List.{Contains}
 use Rattle.cha_list.specs.Distinct.{AreDistinct}
 use Rattle.cha_list.proofs.Distinct.{none_apart}
@@ -8,7 +8,7 @@ use Rattle.cha_moves.proofs.Contained.{not_in_nothing}
 use Rattle.cha_fact.specs.Entries.{Entry}
 use Rattle.root_workers.specs.declared.task.Task.{Task}
 use Rattle.root_workers.specs.declared.work.Work.{Work}
-use Rattle.root_workers.specs.Shares.{IsRefused, IsShare, ShareCalls}
+use Rattle.root_workers.specs.Shares.{IsRefused, IsShare, ShareCalls, AllGrowTo}
 
 share_itself : (w : Work) → IsRefused w → (task : Task) (moves : List Move) (i count : ℕ) → IsShare task moves i count w
 share_itself w is task moves i count = record {
@@ -30,4 +30,9 @@ unfolding ShareCalls
 refused_calls made a b makes left work is same task moves i count =
     let P : Work → Type 0 = λ x. x.refused ≡ true in
     let refused : work.refused ≡ true = subst P (sym same) is in
-    ([], makes, (λ whole. (let e = sym refused ∙ whole.2 in cc)))
+    ([], makes, (λ few. refl), (λ deep whole. (let e = sym refused ∙ whole.2 in cc)))
+
+-- where nobody made a call
+pub none_grow : {S : Type 0} (made_by : ℕ → S → List Entry → S → Type 0) (a b : S) (depth count : ℕ) → ((i : ℕ) → made_by i a [] b) → AllGrowTo depth made_by a b count
+unfolding AllGrowTo
+none_grow made_by a b depth count made i less = ([], made i, (λ few. refl))

@@ -26,6 +26,7 @@ use Rattle.root_workers.specs.declared.task.Task.{Task}
 use Rattle.root_workers.specs.declared.work.RootMate.{RootMate}
 use Rattle.root_workers.specs.declared.work.Work.{Work}
 use Rattle.root_workers.specs.Shares.{IsWhole, IsCleared, IsRootMate, IsSpent, IsShare, AreSharesSearched, ShareCalls}
+use Rattle.root_workers.specs.Deepens.{PartCalls}
 use Rattle.root_workers.specs.Gathers.{left_after}
 use Rattle.root_workers.proofs.Numbering.{before_or_here, next_own, none_below}
 
@@ -221,17 +222,27 @@ shares_more made old mid new task moves number count index m result done both tr
 -- a part that ends otherwise than by clearing all root moves
 pub calls_end : {S : Type 0} (made : S → List Entry → S → Type 0) (old mid new : S) (task : Task) (moves : List Move) (number count index : ℕ) (m : Move) (result : Result RoundDone NoMemory) (work : Work)
     → ((a b c : S) (xs ys : List Entry) → made a xs b → made b ys c → made a (xs ++ ys) c)
-    → SharesTried made old mid task moves number count index → RoundCalls made mid new (after task.position m) task.winner (task.depth - 1) result → (IsWhole work → ⊥) → ShareCalls made old new task moves number count work
-unfolding SharesTried ShareCalls
+    → SharesTried made old mid task moves number count index → RoundCalls made mid new (after task.position m) task.winner (task.depth - 1) result → (IsWhole work → ⊥) → PartCalls made old new task moves number count work
+unfolding SharesTried PartCalls
 calls_end made old mid new task moves number count index m result work both tried calls ended =
     let xs = tried.0 in
     let ys = probe_entry (key_of (after task.position m) task.winner) calls.reply ∷ calls.rest in
     (xs ++ ys, both old mid new xs ys tried.1 calls.entered, (λ whole. absurd (ended whole)))
 
-pub calls_done : {S : Type 0} (made : S → List Entry → S → Type 0) (old new : S) (task : Task) (moves : List Move) (number count index : ℕ) (work : Work) → SharesTried made old new task moves number count index → length moves ≤ index → ShareCalls made old new task moves number count work
-unfolding SharesTried ShareCalls AreSharesSearched
+pub calls_done : {S : Type 0} (made : S → List Entry → S → Type 0) (old new : S) (task : Task) (moves : List Move) (number count index : ℕ) (work : Work) → SharesTried made old new task moves number count index → length moves ≤ index → PartCalls made old new task moves number count work
+unfolding SharesTried PartCalls AreSharesSearched
 calls_done made old new task moves number count index work tried end =
     (tried.0, tried.1, (λ whole i m read own. tried.2 i m read (let inside = slice_get_within moves i m read in omega (arith, inside, end)) own))
+
+-- a round of at most 4 plies makes no call
+pub no_calls_made : {S : Type 0} (made : S → List Entry → S → Type 0) (s : S) (task : Task) (moves : List Move) (number count : ℕ) (work : Work) → made s [] s → task.depth ≤ 4 → ShareCalls made s s task moves number count work
+unfolding ShareCalls
+no_calls_made made s task moves number count work none few = ([], none, (λ e. refl), (λ deep. absurd (omega (arith, deep, few))))
+
+-- a deeper round makes those of its search
+pub deep_calls : {S : Type 0} (made : S → List Entry → S → Type 0) (old new : S) (task : Task) (moves : List Move) (number count : ℕ) (work : Work) → PartCalls made old new task moves number count work → 4 < task.depth → ShareCalls made old new task moves number count work
+unfolding PartCalls ShareCalls
+deep_calls made old new task moves number count work calls more = (calls.0, calls.1, (λ few. absurd (omega (arith, more, few))), (λ deep. calls.2))
 
 same_mate : (task : Task) (moves : List Move) (o : Option RootMate) (x : RootMate) → o ≡ Some x → IsRootMate task moves x → (mate : RootMate) → o ≡ Some mate → IsRootMate task moves mate
 same_mate task moves o x is mates mate e = subst (λ (y : RootMate). IsRootMate task moves y) (same_Some x mate (sym is ∙ e)) mates

@@ -9,7 +9,7 @@ use Rattle.root_workers.specs.declared.task.Task.{Task}
 use Rattle.root_workers.specs.declared.work.Work.{Work}
 use Rattle.root_workers.specs.declared.hired.Hired.{Hired}
 use Rattle.root_workers.specs.declared.staff.Staff.{Staff}
-use Rattle.root_workers.specs.Shares.{IsRefused, IsShare, ShareCalls, AllGrow}
+use Rattle.root_workers.specs.Shares.{IsRefused, IsShare, ShareCalls, AllGrowTo}
 use Rattle.root_workers.specs.Crews.{IsCrew, CrewMakes, LeavesWork}
 use Rattle.root_workers.specs.Making.{crew_makes_none}
 use Rattle.root_workers.specs.Hiring.{IsHired, IsFreshlyHired, HiredMakes, HiredLater, hired_count, staff_count, HiredLeave, StaffLeaves, is_refused, IsStaff, StaffMakes, IsUnhired, StaffEnds}
@@ -77,9 +77,9 @@ idle_share s is none refused task moves i count w left = refused_share s.idle w 
 pub idle_calls : (a b : Staff) (i : ℕ) → StaffMakes i a [] b → b.hired ≡ None → is_refused b ≡ true → (task : Task) (moves : List Move) (count : ℕ) (w : Work) → StaffLeaves b i w → ShareCalls (StaffMakes i) a b task moves i count w
 idle_calls a b i makes none refused task moves count w left = refused_calls (StaffMakes i) a b makes b.idle w refused (leaves_idle b i w none left) task moves i count
 
-pub all_idle : (a b : Staff) (count : ℕ) → ((i : ℕ) → StaffMakes i a [] b) → AllGrow StaffMakes a b count
-unfolding AllGrow
-all_idle a b count makes i less = ([], makes i)
+pub all_idle : (a b : Staff) (depth count : ℕ) → ((i : ℕ) → StaffMakes i a [] b) → AllGrowTo depth StaffMakes a b count
+unfolding AllGrowTo
+all_idle a b depth count makes i less = ([], makes i, (λ few. refl))
 
 -- a round of those who are hired
 module _ (task : Task) (moves : List Move) (a b : Staff) (old new : Hired) (begun : (i : ℕ) → StaffMakes i a [] b) (is : b.hired ≡ Some old)
@@ -109,9 +109,9 @@ module _ (task : Task) (moves : List Move) (a b : Staff) (old new : Hired) (begu
       let Q : ℕ → Type 0 = λ n. ShareCalls (StaffMakes i) a later task moves i n work in
       subst Q many (calls_done_by old.table task moves StaffMakes a later old.crew.items new.crew.items crew same done lift i work (subst P (sym many) less) left)
 
-  pub hired_grow : AllGrow StaffMakes a later (staff_count a)
+  pub hired_grow : AllGrowTo task.depth StaffMakes a later (staff_count a)
   hired_grow =
-      let Q : ℕ → Type 0 = λ n. AllGrow StaffMakes a later n in
+      let Q : ℕ → Type 0 = λ n. AllGrowTo task.depth StaffMakes a later n in
       subst Q many (grow_done old.table task moves StaffMakes a later old.crew.items new.crew.items same done lift)
 
 -- what a staff did that began with nobody

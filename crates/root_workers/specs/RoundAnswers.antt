@@ -1,5 +1,5 @@
 -- What the rounds answer, and which calls they make (this project).
-use Rattle.std.specs.Prelude.{◌≡◌, ℕ, ◌-◌, ◌%◌, ◌≤◌, ⊤, ◌⊎◌, List, [], ◌∷◌, length, slice_get, Some, None, Result, Ok, Contains}
+use Rattle.std.specs.Prelude.{◌≡◌, ℕ, ◌-◌, ◌%◌, ◌<◌, ◌≤◌, ⊤, ◌⊎◌, List, [], ◌∷◌, length, slice_get, Some, None, Result, Ok, Contains}
 use Rattle.cha_list.specs.declared.memory.NoMemory.{NoMemory}
 use Rattle.cha_board.specs.declared.men.Color.{Color}
 use Rattle.cha_board.specs.Board.{Board}
@@ -67,15 +67,21 @@ claim_of q w end = record { position = q; winner = w; fact = fact_of end }
 unfoldable pub HasEndStore : List Entry → Board → Color → RoundsEnd → Type 0
 HasEndStore entries q w end = (reply : Stored) × Contains entries (store_entry (claim_of q w end) reply)
 
+-- the entries are a store of the answer, and nothing else
+unfoldable pub IsEndStore : List Entry → Board → Color → RoundsEnd → Type 0
+IsEndStore entries q w end = (reply : Stored) × (entries ≡ store_entry (claim_of q w end) reply ∷ [])
+
 -- The calls of the rounds: the first is a probe of the position by the first worker. Where what it finds decides, that is the
--- answer, and the first worker calls no more. Where it does not, the answer was given to keep. Where there is no mate within d plies, and
--- no probe of the position found that, the position after each root move i was searched to one ply less by worker i mod count.
+-- answer, and the first worker calls no more. Where it does not, the answer was given to keep, and to 4 plies that is the only other call of
+-- the first worker. Where there is no mate within d plies, d more than 4, and no probe of the position found that, the position after each
+-- root move i was searched to one ply less by worker i mod count.
 pub record RoundsCalls {S : Type 0} (made : S → List Entry → S → Type 0) (made_by : ℕ → S → List Entry → S → Type 0) (count : ℕ) (old new : S) (q : Board) (w : Color) (limits : Bounds) (result : Result RoundsEnd NoMemory) : Type 0 where
   pub reply : Probe
   pub rest : List Entry
   pub entered : made old (probe_entry (key_of q w) reply ∷ rest) new
   pub follows : (end : RoundsEnd) → result ≡ Ok end → FollowsFirst limits.depth reply rest end
   pub stores : (end : RoundsEnd) → result ≡ Ok end → IsUndecided limits.depth reply → HasEndStore rest q w end
-  pub searched : (d : ℕ) → result ≡ Ok (NoneWithin d) → (HasFound (probe_entry (key_of q w) reply ∷ rest) q w d → ⊥)
+  pub few : (end : RoundsEnd) → result ≡ Ok end → limits.depth ≤ 4 → IsUndecided limits.depth reply → IsEndStore rest q w end
+  pub searched : (d : ℕ) → result ≡ Ok (NoneWithin d) → 4 < d → (HasFound (probe_entry (key_of q w) reply ∷ rest) q w d → ⊥)
       → (i : ℕ) (m : Move) → slice_get (legal q) i ≡ Some m → (entries : List Entry) × made_by (i % count) old entries new × IsSearched entries (after q m) w (d - 1)
   pub grows : AllGrow made_by old new count

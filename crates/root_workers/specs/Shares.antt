@@ -46,11 +46,16 @@ pub record IsShare (task : Task) (moves : List Move) (number count : ℕ) (work 
 unfoldable pub AreSharesSearched : List Entry → Board → Color → ℕ → List Move → ℕ → ℕ → Type 0
 AreSharesSearched entries q w depth moves number count = (i : ℕ) (m : Move) → slice_get moves i ≡ Some m → i % count ≡ number → IsSearched entries (after q m) w depth
 
--- the calls of a worker's part of a round: where it cleared its root moves, it searched them
+-- the calls of a worker's part of a round: none in a round of at most 4 plies; in a deeper one, where it cleared its root moves,
+-- it searched them
 unfoldable pub ShareCalls : {S : Type 0} → (S → List Entry → S → Type 0) → S → S → Task → List Move → ℕ → ℕ → Work → Type 0
 ShareCalls made old new task moves number count work =
-    (entries : List Entry) × made old entries new
-    × (IsWhole work → AreSharesSearched entries task.position task.winner (task.depth - 1) moves number count)
+    (entries : List Entry) × made old entries new × (task.depth ≤ 4 → entries ≡ [])
+    × (4 < task.depth → IsWhole work → AreSharesSearched entries task.position task.winner (task.depth - 1) moves number count)
+
+-- each worker made some calls, and none in rounds to at most 4 plies
+unfoldable pub AllGrowTo : {S : Type 0} → ℕ → (ℕ → S → List Entry → S → Type 0) → S → S → ℕ → Type 0
+AllGrowTo depth made_by old new count = (i : ℕ) → i < count → (entries : List Entry) × made_by i old entries new × (depth ≤ 4 → entries ≡ [])
 
 -- each worker made some calls
 unfoldable pub AllGrow : {S : Type 0} → (ℕ → S → List Entry → S → Type 0) → S → S → ℕ → Type 0

@@ -9,7 +9,7 @@ ghost use Rattle.cha_fact.specs.Keys.{key_of};
 ghost use Rattle.cha_fact.specs.Entries.{probe_entry, store_entry};
 ghost use Rattle.helpmate.specs.Rounds.{IsAnswer, decided_by};
 ghost use Rattle.root_workers.specs.declared.work.Work.{Work};
-ghost use Rattle.root_workers.specs.Shares.{IsSpent, AllGrow};
+ghost use Rattle.root_workers.specs.Shares.{IsSpent, AllGrowTo};
 ghost use Rattle.root_workers.specs.RoundAnswers.{IsMateEnd, IsEnd, IsAmple, RoundsCalls, claim_of, fact_of};
 ghost use Rattle.root_workers.specs.Deepens.{plies_of, IsFrom, CrewCalls, RoundSearches, DeepenCalls, KeepCalls, KeptCalls};
 
@@ -55,7 +55,7 @@ fn one_round<C: Crew>(
     ensures spent { result ≡ Ok RoundAnswer.Spent → IsSpent task.now }
     ensures searched { result ≡ Ok RoundAnswer.NoneWithin → RoundSearches C.made_by crew.old crew.new task.now (C.count crew.old) }
     ensures refused { OnErr result ((i : ℕ) × (work : Work) × (i < C.count crew.new) × C.leaves crew.new i work × (work.refused ≡ true)) }
-    ensures grow { AllGrow C.made_by crew.old crew.new (C.count crew.old) }
+    ensures grow { AllGrowTo task.now.depth C.made_by crew.old crew.new (C.count crew.old) }
 {
     crew.share_out(alloc, task, moves);
     gathered(task, moves, crew)
@@ -93,6 +93,7 @@ fn deepen<C: Crew>(
     ensures holds { IfOk result (IsEnd position.now winner limits.now) }
     ensures from { IfOk result (IsFrom from) }
     ensures calls { DeepenCalls C.made_by crew.old crew.new position.now winner from (C.count crew.old) result }
+    ensures grow { AllGrowTo limits.now.depth C.made_by crew.old crew.new (C.count crew.old) }
 {
     let moves = legal(alloc, position)?;
     let mut depth = from;
@@ -131,7 +132,7 @@ fn deepen_and_keep<C: Crew>(
     ensures holds { IfOk result (IsEnd position.now winner limits.now) }
     ensures from { IfOk result (IsFrom from) }
     ensures calls { DeepenCalls C.made_by crew.old crew.new position.now winner from (C.count crew.old) result }
-    ensures kept { KeptCalls C.made crew.old crew.new position.now winner result }
+    ensures kept { KeptCalls C.made crew.old crew.new position.now winner limits.now.depth result }
 {
     let end = deepen(alloc, position, winner, limits, from, crew)?;
     keep(position, winner, &end, crew);

@@ -1,7 +1,7 @@
 //! Rounds of the bounded search, one ply deeper each, whose root moves workers share out.
 //!
 //! `answers` has what the rounds answer, `task` what is to do in one round, `work` what a worker leaves of it, `gate` what is
-//! told of each root move, `share` one worker's part of a round, `workers` a crew of them as a whole, `alone` the crew that
+//! told of each root move, `nowhere` a place of facts that keeps none, `share` one worker's part of a round, `workers` a crew of them as a whole, `alone` the crew that
 //! needs no thread, `nobody` the crew that has nobody who searches, `many` the crew of threads at one table, `dismissing` its end and that of the table, `gather` what the works of a round come to,
 //! `deepening` the rounds one after the other, and `table_rounds` the same for threads at a table.
 #![tactic(auto)]
@@ -15,6 +15,7 @@ mod gather;
 mod hired;
 mod many;
 mod nobody;
+mod nowhere;
 mod on_demand;
 mod share;
 mod staff;
@@ -32,6 +33,7 @@ pub use gather::gathered;
 pub use hired::Hired;
 pub use many::{Many, crew};
 pub use nobody::Nobody;
+pub use nowhere::Nowhere;
 pub use on_demand::OnDemand;
 pub use staff::Staff;
 pub use table_rounds::rounds;

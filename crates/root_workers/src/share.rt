@@ -5,9 +5,11 @@ ghost use Rattle.cha_moves.specs.Moves.{after as position_after, legal as legal_
 ghost use Rattle.helpmate.specs.Units.{AreUnits};
 ghost use Rattle.helpmate.specs.Rounds.{IsAnswer, IsAllowed, RoundCalls};
 ghost use Rattle.root_workers.specs.Shares.{IsShare, ShareCalls};
+ghost use Rattle.root_workers.specs.Deepens.{PartCalls};
 ghost use Rattle.root_workers.specs.Gathers.{left_after};
 
 use crate::gate::Gate;
+use crate::nowhere::Nowhere;
 use crate::task::Task;
 use crate::work::{RootMate, Work};
 use cha_fact::Facts;
@@ -51,7 +53,12 @@ fn search_root<F: Facts>(
     round_in(alloc, &next, task.winner, task.depth - 1, left, facts)
 }
 
-/// Searches the root moves of the worker with a number among `count` workers, in order, up to the first mate.
+/// The most plies of a round that asks no place of facts. In so few a position can hardly be reached in two ways, and what was
+/// learned in one round is a ply too little in the next.
+const WITHOUT_FACTS: u8 = 4;
+
+/// Searches the root moves of the worker with a number among `count` workers, in order, up to the first mate. A round of at most
+/// four plies makes no call of the worker's place.
 pub fn share_of<F: Facts>(
     alloc: Global,
     task: &Task,
@@ -71,6 +78,33 @@ pub fn share_of<F: Facts>(
     ensures stays_ready { F.ready facts.new }
     ensures share { IsShare task.now moves.now number count result }
     ensures calls { ShareCalls F.made facts.old facts.new task.now moves.now number count result }
+{
+    if task.depth <= WITHOUT_FACTS {
+        return part_of(alloc, task, moves, number, count, &mut Nowhere, gate);
+    }
+    part_of(alloc, task, moves, number, count, facts, gate)
+}
+
+/// Searches the root moves of a worker with a place that is asked whatever the depth.
+fn part_of<F: Facts>(
+    alloc: Global,
+    task: &Task,
+    moves: &[Move],
+    number: u32,
+    count: u32,
+    facts: &mut F,
+    gate: &(dyn Gate + Sync),
+) -> Work
+    requires ready { F.ready facts.old }
+    requires listed { moves.now ≡ legal_moves task.now.position }
+    requires some { 1 ≤ task.now.depth }
+    requires few { task.now.depth ≤ 8 }
+    requires bounded { IsNone task.now.allowance → task.now.depth ≤ 3 }
+    requires number { number < count }
+    requires count { count ≤ 16 }
+    ensures stays_ready { F.ready facts.new }
+    ensures share { IsShare task.now moves.now number count result }
+    ensures calls { PartCalls F.made facts.old facts.new task.now moves.now number count result }
 {
     let mut work = Work::new(alloc);
     let mut left = task.allowance;

@@ -4,7 +4,7 @@ ghost use Rattle.std.specs.Prelude.{◌≡◌, ◌≤◌, ◌<◌, ℕ, [], ◌�
 ghost use Rattle.cha_moves.specs.Moves.{legal as legal_moves};
 ghost use Rattle.cha_fact.specs.Entries.{probe_entry, store_entry, IsOfKey};
 ghost use Rattle.root_workers.specs.declared.work.Work.{Work as WorkLeft};
-ghost use Rattle.root_workers.specs.Shares.{IsShare, ShareCalls, AllGrow};
+ghost use Rattle.root_workers.specs.Shares.{IsShare, ShareCalls, AllGrowTo};
 ghost use Rattle.root_workers.specs.Hiring.{IsStaff, IsUnhired, StaffMakes, StaffLeaves, StaffEnds, staff_count, is_refused};
 
 use crate::hired::Hired;
@@ -129,7 +129,7 @@ impl Staff {
         ensures count { staff_count self.new ≡ staff_count self.old }
         ensures shares { (i : ℕ) (work : WorkLeft) → i < staff_count self.old → StaffLeaves self.new i work → IsShare task.now moves.now i (staff_count self.old) work }
         ensures calls { (i : ℕ) (work : WorkLeft) → i < staff_count self.old → StaffLeaves self.new i work → ShareCalls (StaffMakes i) self.old self.new task.now moves.now i (staff_count self.old) work }
-        ensures grow { AllGrow StaffMakes self.old self.new (staff_count self.old) }
+        ensures grow { AllGrowTo task.now.depth StaffMakes self.old self.new (staff_count self.old) }
     {
         self.hire(alloc);
         match &mut self.hired {

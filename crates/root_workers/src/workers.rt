@@ -5,7 +5,7 @@ ghost use Rattle.cha_moves.specs.Moves.{legal as legal_moves};
 ghost use Rattle.cha_moves.specs.Ends.{IsMated};
 ghost use Rattle.cha_board.specs.Men.{other_color};
 ghost use Rattle.cha_fact.specs.Entries.{Entry};
-ghost use Rattle.root_workers.specs.Shares.{IsShare, ShareCalls, AllGrow};
+ghost use Rattle.root_workers.specs.Shares.{IsShare, ShareCalls, AllGrow, AllGrowTo};
 
 use crate::task::Task;
 use crate::work::Work;
@@ -48,7 +48,8 @@ pub trait Crew: Facts {
         ensures left { leaves self.now number result.now }
         ensures only { (work : Work) → leaves self.now number work → work ≡ result.now };
 
-    /// Has each worker search its root moves: those whose number is the worker's own, modulo the count of workers.
+    /// Has each worker search its root moves: those whose number is the worker's own, modulo the count of workers. In a round of at
+    /// most four plies no worker makes a call.
     fn share_out(&mut self, alloc: Global, task: &Task, moves: &[Move])
         requires ready { Self.ready self.old }
         requires listed { moves.now ≡ legal_moves task.now.position }
@@ -59,7 +60,7 @@ pub trait Crew: Facts {
         ensures count { count self.new ≡ count self.old }
         ensures shares { (i : ℕ) (work : Work) → i < count self.old → leaves self.new i work → IsShare task.now moves.now i (count self.old) work }
         ensures calls { (i : ℕ) (work : Work) → i < count self.old → leaves self.new i work → ShareCalls (made_by i) self.old self.new task.now moves.now i (count self.old) work }
-        ensures grow { AllGrow made_by self.old self.new (count self.old) };
+        ensures grow { AllGrowTo task.now.depth made_by self.old self.new (count self.old) };
 
     /// As a place of facts it is that of its first worker.
     ghost first_made: { (a b : Self) (xs : List Entry) → Self.made a xs b → made_by 0 a xs b };

@@ -1,6 +1,7 @@
 use Rattle.std.proofs.Common.{◌≡◌, ◌-◌, ◌≤◌}
 use Rattle.cha_moves.specs.Moves.{legal}
 use Rattle.cha_moves.specs.Ends.{HasNoMateWithin}
+use Rattle.root_workers.specs.Shares.{AllGrowTo}
 use Rattle.root_workers.specs.Deepens.{CrewCalls}
 use Rattle.root_workers.proofs.deepening.deepen.Given as goal
 
@@ -13,6 +14,7 @@ invariant-loop-depth g l = record {
   least : l.from ≤ l.depth;
   most : l.depth ≤ l.limits.depth;
   calls : CrewCalls g.C.Crew.made_by l.fn.crew l.crew l.position l.winner l.from l.depth (g.C.Crew.count l.fn.crew);
+  grown : AllGrowTo l.depth g.C.Crew.made_by l.fn.crew l.crew (g.C.Crew.count l.fn.crew);
 }
 
 abbrev pub decreases-loop-depth : goal.decreases-loop-depth

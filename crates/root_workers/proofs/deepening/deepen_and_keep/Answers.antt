@@ -7,7 +7,7 @@ use Rattle.root_workers.proofs.deepening.deepen_and_keep.Goals as goal
 
 pub returns-in_err-end-clause-kept : goal.returns-in_err-end-clause-kept
 returns-in_err-end-clause-kept g c =
-    kept_nothing g.C.Facts.made g.C.Crew.made_by c.args.crew.now c.deepen.new.crew c.args.position.now c.args.winner c.args.from (g.C.Crew.count c.args.crew.now) c.deepen.result c.from_residual.result g.met.C.Crew.made_first c.deepen.ensures.calls (g.met.C.Crew.some_workers c.args.crew.now c.requires.ready) (λ done is. no_answer c.from_residual.result done c.from_residual.ensures.0 is)
+    kept_nothing g.C.Facts.made g.C.Crew.made_by c.args.crew.now c.deepen.new.crew c.args.position.now c.args.winner c.args.from c.args.limits.now.depth (g.C.Crew.count c.args.crew.now) c.deepen.result c.from_residual.result g.met.C.Crew.made_first c.deepen.ensures.calls (g.met.C.Crew.some_workers c.args.crew.now c.requires.ready) (λ done is. no_answer c.from_residual.result done c.from_residual.ensures.0 is)
 
 pub returns-clause-count : goal.returns-clause-count
 returns-clause-count g c = keep_count g.C.Facts.made g.C.Crew.made_by g.C.Crew.count c.deepen.new.crew c.keep.new.crew (claim_of c.args.position.now c.args.winner c.in_ok-end.end) g.met.C.Crew.first_made g.met.C.Crew.same_count c.keep.ensures.kept ∙ c.deepen.ensures.count
@@ -18,4 +18,4 @@ returns-clause-calls g c =
 
 pub returns-clause-kept : goal.returns-clause-kept
 returns-clause-kept g c =
-    kept_end g.C.Facts.made g.C.Crew.made_by c.args.crew.now c.deepen.new.crew c.keep.new.crew c.args.position.now c.args.winner c.args.from (g.C.Crew.count c.args.crew.now) c.deepen.result (Ok c.in_ok-end.end) c.in_ok-end.end g.met.C.Facts.both_made g.met.C.Crew.made_first c.deepen.ensures.calls (g.met.C.Crew.some_workers c.args.crew.now c.requires.ready) c.keep.ensures.kept (λ end is. the_end c.in_ok-end.end end (Ok c.in_ok-end.end) refl is)
+    kept_end g.C.Facts.made g.C.Crew.made_by c.args.crew.now c.deepen.new.crew c.keep.new.crew c.args.position.now c.args.winner c.args.limits.now.depth (g.C.Crew.count c.args.crew.now) (Ok c.in_ok-end.end) c.in_ok-end.end g.met.C.Facts.both_made g.met.C.Crew.made_first c.deepen.ensures.grow (g.met.C.Crew.some_workers c.args.crew.now c.requires.ready) c.keep.ensures.kept (λ end is. the_end c.in_ok-end.end end (Ok c.in_ok-end.end) refl is)

@@ -23,4 +23,4 @@ pub returns-in-None-clause-calls : goal.returns-in-None-clause-calls
 returns-in-None-clause-calls g c = λ i work less left. idle_calls c.args.self.now c.hire.new.self i (c.hire.ensures.nothing i) c.in-None.is (c.hire.ensures.hired c.in-None.is) c.args.task.now c.args.moves.now _ work left
 
 pub returns-in-None-clause-grow : goal.returns-in-None-clause-grow
-returns-in-None-clause-grow g c = all_idle c.args.self.now c.hire.new.self _ c.hire.ensures.nothing
+returns-in-None-clause-grow g c = all_idle c.args.self.now c.hire.new.self c.args.task.now.depth _ c.hire.ensures.nothing

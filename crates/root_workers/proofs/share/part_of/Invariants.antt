@@ -1,6 +1,6 @@
 use Rattle.std.proofs.Common.{length, ◌-◌, ◌≤◌, IsNone}
 use Rattle.root_workers.proofs.Sharing.{IsBegun, SharesTried}
-use Rattle.root_workers.proofs.share.share_of.Given as goal
+use Rattle.root_workers.proofs.share.part_of.Given as goal
 
 abbrev pub invariant-loop-index : goal.invariant-loop-index
 invariant-loop-index g l = record {

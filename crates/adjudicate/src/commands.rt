@@ -128,9 +128,7 @@ pub fn carry_out<H: Hands, C: Crew, S: Source, K: Sink, N: Sink>(
             };
             report_made(alloc, *seed, *count, hands, &mut judge, sink)
         }
-        Order::CheckCert => unreachable!(),
-        Order::ListMates { .. } => unreachable!(),
-        Order::ReplayGames { .. } => unreachable!(),
+        _ => unreachable!(),
     }
 }
 
@@ -180,9 +178,6 @@ pub fn carry_out_plain<H: Hands, P: Spread + Drop, S: Source, K: Sink>(
                 sink,
             )
         }
-        Order::AdjudicateGames { .. } => unreachable!(),
-        Order::CorrectGames { .. } => unreachable!(),
-        Order::JudgePositions { .. } => unreachable!(),
-        Order::GenGames { .. } => unreachable!(),
+        _ => unreachable!(),
     }
 }

@@ -22,10 +22,7 @@ use crate::table::{Command, command_of};
 pub fn parse(words: &[String]) -> Option<Order>
     ensures { result ≡ order words.now }
 {
-    match read(words) {
-        Ok(order) => Some(order),
-        Err(_) => None,
-    }
+    read(words).ok()
 }
 
 /// Where words leave the language, or None where they are in it: at the first word with which no words behind it make an order, or
@@ -34,10 +31,7 @@ pub fn usage_fault(words: &[String]) -> Option<UsageFault>
     ensures refused { IsSome result ↔ IsNone (order words.now) }
     ensures fault { IfSome result (λ f. IsFault (map string_bytes words.now) f) }
 {
-    match read(words) {
-        Ok(_) => None,
-        Err(fault) => Some(fault),
-    }
+    read(words).err()
 }
 
 /// The law: where games are ordered, there are 1 to 1,000 of them.

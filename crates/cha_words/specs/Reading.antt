@@ -3,7 +3,7 @@ use Rattle.std.specs.Prelude.{◌≡◌, ℕ, ◌≤◌, List, [], ◌∷◌, fi
 use Rattle.cha_words.specs.declared.orders.Order.{Order}
 use Rattle.cha_words.specs.declared.chosen.Numbers.{Numbers}
 use Rattle.cha_words.specs.declared.table.Command.{Command}
-use Rattle.cha_words.specs.declared.table.Command.TheVariants.{Adjudicate, Correct, Position, Gen, Mates}
+use Rattle.cha_words.specs.declared.table.Command.TheVariants.{Gen, Mates}
 use Rattle.cha_words.specs.declared.table.Setting.{Setting}
 use Rattle.cha_words.specs.declared.table.Setting.TheVariants.{Budget, Workers, Depth, Entries, Certs, Json, San, Fens, FlaggedDraws, Changed}
 use Rattle.cha_words.specs.declared.table.Range.{Range}
@@ -79,13 +79,9 @@ numbers_from command given parts = all_of (λ setting. chosen_from (range comman
 unfoldable pub order_from : Command → Given → List Part → Option Order
 order_from command given parts = made_of command (numbers_from command given parts) (say_all command (Some given.said) (filter_map plain_word parts))
 
--- a command that searches for verdicts
+-- a command that searches for verdicts: a budget can be given to it
 abbrev pub IsSearch : Command → Type 0
-IsSearch Adjudicate = ⊤
-IsSearch Correct = ⊤
-IsSearch Position = ⊤
-IsSearch Gen = ⊤
-IsSearch _ = ⊥
+IsSearch command = IsSome (range command Budget)
 
 -- a number lies in a range
 abbrev pub IsIn : Option Range → ℕ → Type 0

@@ -81,7 +81,7 @@ pub enum Order {
 }
 
 impl Order {
-    /// What a search for verdicts may spend on a side. The other orders need no such search.
+    /// What a search for verdicts may spend on a side, of an order that needs one.
     pub fn limits(&self) -> Option<Limits>
         ensures { result ≡ limits_in self.now }
     {

@@ -17,8 +17,8 @@ use crate::table::{Command, command_of};
 
 /// What the words order, which leave out the program's name, or None where they are not in the language.
 ///
-/// An option with a number is `--name N` in two words or `--name=N` in one, and a flag takes no value. A number is 1 to 20 ASCII digits, leading zeros
-/// among them. `range_of` has the options of each command and their numbers, and `argument_of` its further words.
+/// An option with a number is `--name N` in two words or `--name=N` in one, and a flag takes no value. A number is 1 to 20 ASCII digits,
+/// leading zeros among them. `range_of` has the options of each command and their numbers, and `argument_of` its further words.
 pub fn parse(words: &[String]) -> Option<Order>
     ensures { result ≡ order words.now }
 {

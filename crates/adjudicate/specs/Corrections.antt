@@ -14,7 +14,7 @@ use Rattle.cha_outcome.specs.declared.items.Item.{Item}
 use Rattle.cha_outcome.specs.declared.outcomes.Outcome.{Outcome}
 use Rattle.cha_outcome.specs.Outcomes.{item_of, new_result, AllSound}
 use Rattle.cha_words.specs.declared.orders.Order.{Order}
-use Rattle.cha_words.specs.declared.orders.Order.TheVariants.{AdjudicateGames, CorrectGames, JudgePositions, CheckCert, GenGames, ListMates, ReplayGames}
+use Rattle.cha_words.specs.declared.orders.Order.TheVariants.{CorrectGames}
 use Rattle.adjudicate.specs.declared.endings.Status.{Status}
 use Rattle.adjudicate.specs.declared.endings.Status.TheVariants.{Done, Usage, ReadFault, WriteFault, TooLong, NoMemory, NotAccepted}
 use Rattle.adjudicate.specs.Jobs.{Job, on_kept_games, draws_by, last}
@@ -31,13 +31,8 @@ pub record Correction : Type 0 where
 
 -- the correction that an order is; the others write reports
 abbrev pub correction : Order → Option Correction
-correction (AdjudicateGames limits flagged printing) = None
 correction (CorrectGames limits flagged changed) = Some (record { judging = on_kept_games (questions.Verdicts limits (draws_by flagged)); changed = changed })
-correction (JudgePositions limits printing) = None
-correction CheckCert = None
-correction (GenGames limits seed count) = None
-correction (ListMates side workers depth printing) = None
-correction (ReplayGames printing) = None
+correction _ = None
 
 -- those of these games that a mark is given to, each from its first token to its last with that result, and a blank line behind it
 unfoldable pub changed_games : List ℕ → List PlacedGame → List (Option ResultMark) → List ℕ

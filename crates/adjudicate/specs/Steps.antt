@@ -8,7 +8,9 @@ use Rattle.cha_outcome.specs.declared.items.Item.TheVariants.{Position, RefusedL
 use Rattle.adjudicate.specs.declared.endings.Status.{Status}
 use Rattle.adjudicate.specs.declared.endings.Status.TheVariants.{Done, Usage, ReadFault, WriteFault, TooLong, NoMemory, NotAccepted}
 use Rattle.cha_outcome.specs.declared.questions.Question.{Question}
-use Rattle.item_batches.specs.Readers.{ItemKind, items_by, settled_by, closed_by}
+use Rattle.item_batches.specs.Readers.{ItemKind, GameItems, LineItems, ReplayItems, items_by, settled_by, closed_by}
+use Rattle.adjudicate.specs.declared.jobs.Kind.{Kind}
+use Rattle.adjudicate.specs.declared.jobs.Kind.TheVariants as kinds
 use Rattle.adjudicate.specs.declared.reports.Form.{Form}
 use Rattle.adjudicate.specs.Jobs.{Job}
 use Rattle.adjudicate.specs.Report.{Demand, IsFront}
@@ -55,6 +57,12 @@ pub record IsEnded (status : Status) (text summary : List ℕ) (old : Option (Li
   pub either : (status ≡ Done) ⊎ ((status ≡ WriteFault) ⊎ (status ≡ NoMemory))
   pub later : faults ≤ faults'
   pub notes_later : notes.faults ≤ notes'.faults
+
+-- the kind of items that these are
+abbrev pub kind_by : Kind → ItemKind
+kind_by kinds.Games = GameItems
+kind_by kinds.Lines = LineItems
+kind_by kinds.Replays = ReplayItems
 
 -- the job on items of a kind
 abbrev pub job_on : ItemKind → Question → Form → Job

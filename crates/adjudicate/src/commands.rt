@@ -16,7 +16,7 @@ ghost use Rattle.adjudicate.specs.Runs.{IsRunOf, outside};
 use crate::checking::check_cert;
 use crate::correcting::correct_games;
 use crate::endings::Status;
-use crate::jobs::{report_games, report_lines, report_made, report_replays};
+use crate::jobs::{Kind, report, report_made};
 use crate::reports::Form;
 use cha_judge::{MatesJudge, PliesJudge, VerdictsJudge};
 use cha_outcome::FlaggedDraws;
@@ -44,9 +44,10 @@ fn draws_of(flagged: bool) -> FlaggedDraws
 fn style_of(printing: Printing) -> Style
     ensures { result ≡ style_by printing }
 {
+    let certs = printing.certs;
     if printing.json {
         return Style::Json(Extras {
-            certs: printing.certs,
+            certs,
             fens: printing.fens,
         });
     }
@@ -55,10 +56,17 @@ fn style_of(printing: Printing) -> Style
     } else {
         Notation::Coordinates
     };
-    Style::Blocks(BlockForm {
-        certs: printing.certs,
-        notation,
-    })
+    Style::Blocks(BlockForm { certs, notation })
+}
+
+/// The form of a report on a subject.
+fn form_of(printing: Printing, subject: Subject) -> Form
+    ensures { result ≡ record { style = style_by printing; subject = subject } }
+{
+    Form {
+        style: style_of(printing),
+        subject,
+    }
 }
 
 /// Reads a source to its end, and writes the report that an order asks for, with a crew of workers that searches.
@@ -90,7 +98,8 @@ pub fn carry_out<H: Hands, C: Crew, S: Source, K: Sink, N: Sink>(
                 draws: draws_of(*flagged_draws),
                 crew,
             };
-            report_games(alloc, style_of(*printing), hands, &mut judge, source, sink)
+            let form = form_of(*printing, Subject::Games);
+            report(alloc, Kind::Games, form, hands, &mut judge, source, sink)
         }
         Order::CorrectGames {
             limits,
@@ -110,11 +119,8 @@ pub fn carry_out<H: Hands, C: Crew, S: Source, K: Sink, N: Sink>(
                 draws: FlaggedDraws::Stand,
                 crew,
             };
-            let form = Form {
-                style: style_of(*printing),
-                subject: Subject::Positions,
-            };
-            report_lines(alloc, form, hands, &mut judge, source, sink)
+            let form = form_of(*printing, Subject::Positions);
+            report(alloc, Kind::Lines, form, hands, &mut judge, source, sink)
         }
         Order::GenGames {
             limits,
@@ -128,9 +134,7 @@ pub fn carry_out<H: Hands, C: Crew, S: Source, K: Sink, N: Sink>(
             };
             report_made(alloc, *seed, *count, hands, &mut judge, sink)
         }
-        Order::CheckCert => unreachable!(),
-        Order::ListMates { .. } => unreachable!(),
-        Order::ReplayGames { .. } => unreachable!(),
+        _ => unreachable!(),
     }
 }
 
@@ -164,25 +168,21 @@ pub fn carry_out_plain<H: Hands, P: Spread + Drop, S: Source, K: Sink>(
                 workers: *workers,
                 spread,
             };
-            let form = Form {
-                style: style_of(*printing),
-                subject: Subject::Mates,
-            };
-            report_lines(alloc, form, hands, &mut judge, source, sink)
+            let form = form_of(*printing, Subject::Mates);
+            report(alloc, Kind::Lines, form, hands, &mut judge, source, sink)
         }
         Order::ReplayGames { printing } => {
-            report_replays(
+            let form = form_of(*printing, Subject::Plies);
+            report(
                 alloc,
-                style_of(*printing),
+                Kind::Replays,
+                form,
                 hands,
                 &mut PliesJudge,
                 source,
                 sink,
             )
         }
-        Order::AdjudicateGames { .. } => unreachable!(),
-        Order::CorrectGames { .. } => unreachable!(),
-        Order::JudgePositions { .. } => unreachable!(),
-        Order::GenGames { .. } => unreachable!(),
+        _ => unreachable!(),
     }
 }

@@ -1,15 +1,16 @@
 //! The jobs that orders are: where their items come from.
 
-ghost use Rattle.std.specs.Prelude.{◌≡◌, ◌≤◌, ℕ, List, Option, Some};
-ghost use Rattle.adjudicate.specs.Jobs.{on_games, on_lines, on_made, on_replays};
-ghost use Rattle.item_batches.specs.Readers.{IsAskedOf, GameItems, LineItems, ReplayItems};
+ghost use Rattle.std.specs.Prelude.{◌≡◌, ◌≤◌, ℕ, List, [], Option, Some, false, IfOk};
+ghost use Rattle.adjudicate.specs.Jobs.{on_made};
+ghost use Rattle.item_batches.specs.Readers.{IsAskedOf, GameItems, CanGoOn, kind_of, taken_by, given_by, has_ended};
 ghost use Rattle.adjudicate.specs.Report.{demand_by};
 ghost use Rattle.adjudicate.specs.Runs.{IsRunOf, outside};
-ghost use Rattle.adjudicate.specs.Steps.{made_status};
+ghost use Rattle.adjudicate.specs.Steps.{job_on, kind_by, made_status};
 
 use crate::endings::Status;
 use crate::reports::{Form, write_report};
 use cha_judge::Judge;
+use cha_list::NoMemory;
 use cha_outside::{Bytes, Sink, Source};
 use flag_report::{Style, Subject};
 use item_batches::{Batches, ItemReader};
@@ -19,38 +20,34 @@ use side_by_side::Hands;
 use std::alloc::Global;
 use text_lines::LineReader;
 
-/// Writes the report on the games of a source, each as soon as it has come.
-pub fn report_games<H: Hands, J: Judge, S: Source, K: Sink>(
-    alloc: Global,
-    style: Style,
-    hands: &H,
-    judge: &mut J,
-    source: &mut S,
-    sink: &mut K,
-) -> Status
-    requires hands { H.ready hands.now }
-    requires ready { J.ready judge.old }
-    requires asked { IsAskedOf GameItems (J.question judge.old) }
-    ensures stays_ready { J.ready judge.new }
-    ensures worked { J.worked judge.old judge.new }
-    ensures run { IsRunOf (demand_by (Some (on_games (J.question judge.old) style))) result (outside (S.left source.old) (S.faults source.old) (K.written sink.old) (K.faults sink.old)) (outside (S.left source.new) (S.faults source.new) (K.written sink.new) (K.faults sink.new)) }
-{
-    let Ok(reader) = Reader::new(alloc) else {
-        return Status::NoMemory;
-    };
-    let form = Form {
-        style,
-        subject: Subject::Games,
-    };
-    let mut items = Batches::new(alloc, hands, ItemReader::Games(reader), judge.question());
-    let status = write_report(alloc, form, &mut items, judge, source, sink);
-    items.end();
-    status
+/// What the items of an input are.
+#[derive(Clone, Copy)]
+pub enum Kind {
+    /// Games that are judged.
+    Games,
+    /// Lines that are not blank.
+    Lines,
+    /// Games whose moves are told.
+    Replays,
 }
 
-/// Writes the report on the lines of a source that are not blank, each as soon as it has come.
-pub fn report_lines<H: Hands, J: Judge, S: Source, K: Sink>(
+/// A reader of such items, which has taken nothing.
+fn reader_of(alloc: Global, kind: Kind) -> Result<ItemReader, NoMemory>
+    ensures kind { IfOk result (λ reader. kind_of reader ≡ kind_by kind) }
+    ensures first { IfOk result (λ reader. (taken_by reader ≡ []) × (given_by reader ≡ 0) × (has_ended reader ≡ false)) }
+    ensures goes_on { IfOk result (λ reader. CanGoOn reader) }
+{
+    match kind {
+        Kind::Games => Ok(ItemReader::Games(Reader::new(alloc)?)),
+        Kind::Lines => Ok(ItemReader::Lines(LineReader::new(alloc))),
+        Kind::Replays => Ok(ItemReader::Replays(Reader::new(alloc)?)),
+    }
+}
+
+/// Writes the report on the items of a source, each as soon as it has come.
+pub fn report<H: Hands, J: Judge, S: Source, K: Sink>(
     alloc: Global,
+    kind: Kind,
     form: Form,
     hands: &H,
     judge: &mut J,
@@ -59,42 +56,15 @@ pub fn report_lines<H: Hands, J: Judge, S: Source, K: Sink>(
 ) -> Status
     requires hands { H.ready hands.now }
     requires ready { J.ready judge.old }
-    requires asked { IsAskedOf LineItems (J.question judge.old) }
+    requires asked { IsAskedOf (kind_by kind) (J.question judge.old) }
     ensures stays_ready { J.ready judge.new }
     ensures worked { J.worked judge.old judge.new }
-    ensures run { IsRunOf (demand_by (Some (on_lines (J.question judge.old) form.style form.subject))) result (outside (S.left source.old) (S.faults source.old) (K.written sink.old) (K.faults sink.old)) (outside (S.left source.new) (S.faults source.new) (K.written sink.new) (K.faults sink.new)) }
+    ensures run { IsRunOf (demand_by (Some (job_on (kind_by kind) (J.question judge.old) form))) result (outside (S.left source.old) (S.faults source.old) (K.written sink.old) (K.faults sink.old)) (outside (S.left source.new) (S.faults source.new) (K.written sink.new) (K.faults sink.new)) }
 {
-    let reader = LineReader::new(alloc);
-    let mut items = Batches::new(alloc, hands, ItemReader::Lines(reader), judge.question());
-    let status = write_report(alloc, form, &mut items, judge, source, sink);
-    items.end();
-    status
-}
-
-/// Writes the moves of the games of a source, of each as soon as it has come.
-pub fn report_replays<H: Hands, J: Judge, S: Source, K: Sink>(
-    alloc: Global,
-    style: Style,
-    hands: &H,
-    judge: &mut J,
-    source: &mut S,
-    sink: &mut K,
-) -> Status
-    requires hands { H.ready hands.now }
-    requires ready { J.ready judge.old }
-    requires asked { IsAskedOf ReplayItems (J.question judge.old) }
-    ensures stays_ready { J.ready judge.new }
-    ensures worked { J.worked judge.old judge.new }
-    ensures run { IsRunOf (demand_by (Some (on_replays (J.question judge.old) style))) result (outside (S.left source.old) (S.faults source.old) (K.written sink.old) (K.faults sink.old)) (outside (S.left source.new) (S.faults source.new) (K.written sink.new) (K.faults sink.new)) }
-{
-    let Ok(reader) = Reader::new(alloc) else {
+    let Ok(reader) = reader_of(alloc, kind) else {
         return Status::NoMemory;
     };
-    let form = Form {
-        style,
-        subject: Subject::Plies,
-    };
-    let mut items = Batches::new(alloc, hands, ItemReader::Replays(reader), judge.question());
+    let mut items = Batches::new(alloc, hands, reader, judge.question());
     let status = write_report(alloc, form, &mut items, judge, source, sink);
     items.end();
     status
@@ -121,7 +91,11 @@ pub fn report_made<H: Hands, J: Judge, K: Sink>(
         return Status::NoMemory;
     };
     let mut made = Bytes::new(text.into_vec());
-    of_made(report_games(alloc, Style::SummaryAlone, hands, judge, &mut made, sink))
+    let form = Form {
+        style: Style::SummaryAlone,
+        subject: Subject::Games,
+    };
+    of_made(report(alloc, Kind::Games, form, hands, judge, &mut made, sink))
 }
 
 /// How a run over games that were made ended, by how the run over their text did. A text in memory never fails, and one that is too

@@ -113,18 +113,13 @@ pub fn run<R: Threads + Wait + Sync, S: Source, K: Sink, N: Sink>(
     }
 }
 
-/// How many threads may work on an order that needs no search for verdicts. Moves are told by one.
+/// How many threads may work on an order that needs no search for verdicts.
 fn threads_for(order: &Order) -> u32
     ensures { 1 ≤ result }
 {
     match order {
         Order::ListMates { workers, .. } => (*workers).max(1),
-        Order::ReplayGames { .. } => 1,
-        Order::CheckCert => 1,
-        Order::AdjudicateGames { .. } => 1,
-        Order::CorrectGames { .. } => 1,
-        Order::JudgePositions { .. } => 1,
-        Order::GenGames { .. } => 1,
+        _ => 1,
     }
 }
 

@@ -1,5 +1,6 @@
 -- What one part makes of what is given.
-use Rattle.std.proofs.Common.{◌≡◌, ℕ, ◌≤◌, false, List, [], ◌∷◌, filter_map, Option, Some, None, option_map, refl, ap, ◌∙◌, subst}
+use Rattle.std.proofs.Common.{◌≡◌, ℕ, ◌≤◌, Bool, true, false, ◌&&◌, List, [], ◌∷◌, filter_map, Option, Some, None, option_map, is_some, refl, ap, ◌∙◌, subst}
+use Rattle.cha_words.specs.declared.chosen.Numbers.{Numbers}
 use Rattle.cha_words.specs.declared.table.Command.{Command}
 use Rattle.cha_words.specs.declared.table.Command.TheVariants.{Gen, Mates}
 use Rattle.cha_words.specs.declared.table.Setting.{Setting}
@@ -9,7 +10,7 @@ use Rattle.cha_words.specs.declared.given.Given.{Given}
 use Rattle.cha_words.specs.declared.given.Said.{Said}
 use Rattle.cha_words.specs.declared.given.Said.TheVariants.{Nothing, Seeded, Games, Sided}
 use Rattle.cha_board.specs.declared.men.Color.{Color}
-use Rattle.cha_words.specs.Language.{Part, Numbers, number, side_named, is_flag, range, next_argument, say, say_all, value_for, plain_word, all_of, made_of}
+use Rattle.cha_words.specs.Language.{Part, number, side_named, is_flag, range, next_argument, say, say_all, value_for, plain_word, has_all, all_of, made_of}
 use Rattle.cha_words.specs.Language.Part.{Value, Plain}
 use Rattle.cha_words.specs.Reading.{value_in, put, open_by, open_in, chosen_from, numbers_from, order_from, IsGivenIn, IsSaid, Fits, TakesName, parts_awaiting}
 use Rattle.cha_words.proofs.Digits.{number_in_range}
@@ -32,90 +33,25 @@ good_chosen r (Some m) range v n vs e h = cc
 good_chosen r None range v n [] e h = rw e h
 good_chosen r None range v n (w ∷ vs) e h = rw e refl
 
-no_workers : (b d e c j s f x y : Option ℕ) → all_of b None d e c j s f x y ≡ None
-no_workers None d e c j s f x y = refl
-no_workers (Some b) d e c j s f x y = refl
-
-no_depth : (b w e c j s f x y : Option ℕ) → all_of b w None e c j s f x y ≡ None
-no_depth None w e c j s f x y = refl
-no_depth (Some b) None e c j s f x y = refl
-no_depth (Some b) (Some w) e c j s f x y = refl
-
-no_entries : (b w d c j s f x y : Option ℕ) → all_of b w d None c j s f x y ≡ None
-no_entries None w d c j s f x y = refl
-no_entries (Some b) None d c j s f x y = refl
-no_entries (Some b) (Some w) None c j s f x y = refl
-no_entries (Some b) (Some w) (Some d) c j s f x y = refl
-
-no_certs : (b w d e j s f x y : Option ℕ) → all_of b w d e None j s f x y ≡ None
-no_certs None w d e j s f x y = refl
-no_certs (Some b) None d e j s f x y = refl
-no_certs (Some b) (Some w) None e j s f x y = refl
-no_certs (Some b) (Some w) (Some d) None j s f x y = refl
-no_certs (Some b) (Some w) (Some d) (Some e) j s f x y = refl
-
-no_json : (b w d e c s f x y : Option ℕ) → all_of b w d e c None s f x y ≡ None
-no_json None w d e c s f x y = refl
-no_json (Some b) None d e c s f x y = refl
-no_json (Some b) (Some w) None e c s f x y = refl
-no_json (Some b) (Some w) (Some d) None c s f x y = refl
-no_json (Some b) (Some w) (Some d) (Some e) None s f x y = refl
-no_json (Some b) (Some w) (Some d) (Some e) (Some c) s f x y = refl
-
-no_san : (b w d e c j f x y : Option ℕ) → all_of b w d e c j None f x y ≡ None
-no_san None w d e c j f x y = refl
-no_san (Some b) None d e c j f x y = refl
-no_san (Some b) (Some w) None e c j f x y = refl
-no_san (Some b) (Some w) (Some d) None c j f x y = refl
-no_san (Some b) (Some w) (Some d) (Some e) None j f x y = refl
-no_san (Some b) (Some w) (Some d) (Some e) (Some c) None f x y = refl
-no_san (Some b) (Some w) (Some d) (Some e) (Some c) (Some j) f x y = refl
-
-no_fens : (b w d e c j s x y : Option ℕ) → all_of b w d e c j s None x y ≡ None
-no_fens None w d e c j s x y = refl
-no_fens (Some b) None d e c j s x y = refl
-no_fens (Some b) (Some w) None e c j s x y = refl
-no_fens (Some b) (Some w) (Some d) None c j s x y = refl
-no_fens (Some b) (Some w) (Some d) (Some e) None j s x y = refl
-no_fens (Some b) (Some w) (Some d) (Some e) (Some c) None s x y = refl
-no_fens (Some b) (Some w) (Some d) (Some e) (Some c) (Some j) None x y = refl
-no_fens (Some b) (Some w) (Some d) (Some e) (Some c) (Some j) (Some s) x y = refl
-
-no_flagged_draws : (b w d e c j s f y : Option ℕ) → all_of b w d e c j s f None y ≡ None
-no_flagged_draws None w d e c j s f y = refl
-no_flagged_draws (Some b) None d e c j s f y = refl
-no_flagged_draws (Some b) (Some w) None e c j s f y = refl
-no_flagged_draws (Some b) (Some w) (Some d) None c j s f y = refl
-no_flagged_draws (Some b) (Some w) (Some d) (Some e) None j s f y = refl
-no_flagged_draws (Some b) (Some w) (Some d) (Some e) (Some c) None s f y = refl
-no_flagged_draws (Some b) (Some w) (Some d) (Some e) (Some c) (Some j) None f y = refl
-no_flagged_draws (Some b) (Some w) (Some d) (Some e) (Some c) (Some j) (Some s) None y = refl
-no_flagged_draws (Some b) (Some w) (Some d) (Some e) (Some c) (Some j) (Some s) (Some f) y = refl
-
-no_changed : (b w d e c j s f x : Option ℕ) → all_of b w d e c j s f x None ≡ None
-no_changed None w d e c j s f x = refl
-no_changed (Some b) None d e c j s f x = refl
-no_changed (Some b) (Some w) None e c j s f x = refl
-no_changed (Some b) (Some w) (Some d) None c j s f x = refl
-no_changed (Some b) (Some w) (Some d) (Some e) None j s f x = refl
-no_changed (Some b) (Some w) (Some d) (Some e) (Some c) None s f x = refl
-no_changed (Some b) (Some w) (Some d) (Some e) (Some c) (Some j) None f x = refl
-no_changed (Some b) (Some w) (Some d) (Some e) (Some c) (Some j) (Some s) None x = refl
-no_changed (Some b) (Some w) (Some d) (Some e) (Some c) (Some j) (Some s) (Some f) None = refl
-no_changed (Some b) (Some w) (Some d) (Some e) (Some c) (Some j) (Some s) (Some f) (Some x) = refl
-
 -- one option without a number
-absent : (s : Setting) (f : Setting → Option ℕ) → f s ≡ None → all_of (f Budget) (f Workers) (f Depth) (f Entries) (f Certs) (f Json) (f San) (f Fens) (f FlaggedDraws) (f Changed) ≡ None
-absent Budget f e = rw e refl
-absent Workers f e = ap (λ x. all_of (f Budget) x (f Depth) (f Entries) (f Certs) (f Json) (f San) (f Fens) (f FlaggedDraws) (f Changed)) e ∙ no_workers _ _ _ _ _ _ _ _ _
-absent Depth f e = ap (λ x. all_of (f Budget) (f Workers) x (f Entries) (f Certs) (f Json) (f San) (f Fens) (f FlaggedDraws) (f Changed)) e ∙ no_depth _ _ _ _ _ _ _ _ _
-absent Entries f e = ap (λ x. all_of (f Budget) (f Workers) (f Depth) x (f Certs) (f Json) (f San) (f Fens) (f FlaggedDraws) (f Changed)) e ∙ no_entries _ _ _ _ _ _ _ _ _
-absent Certs f e = ap (λ x. all_of (f Budget) (f Workers) (f Depth) (f Entries) x (f Json) (f San) (f Fens) (f FlaggedDraws) (f Changed)) e ∙ no_certs _ _ _ _ _ _ _ _ _
-absent Json f e = ap (λ x. all_of (f Budget) (f Workers) (f Depth) (f Entries) (f Certs) x (f San) (f Fens) (f FlaggedDraws) (f Changed)) e ∙ no_json _ _ _ _ _ _ _ _ _
-absent San f e = ap (λ x. all_of (f Budget) (f Workers) (f Depth) (f Entries) (f Certs) (f Json) x (f Fens) (f FlaggedDraws) (f Changed)) e ∙ no_san _ _ _ _ _ _ _ _ _
-absent Fens f e = ap (λ x. all_of (f Budget) (f Workers) (f Depth) (f Entries) (f Certs) (f Json) (f San) x (f FlaggedDraws) (f Changed)) e ∙ no_fens _ _ _ _ _ _ _ _ _
-absent FlaggedDraws f e = ap (λ x. all_of (f Budget) (f Workers) (f Depth) (f Entries) (f Certs) (f Json) (f San) (f Fens) x (f Changed)) e ∙ no_flagged_draws _ _ _ _ _ _ _ _ _
-absent Changed f e = ap (λ x. all_of (f Budget) (f Workers) (f Depth) (f Entries) (f Certs) (f Json) (f San) (f Fens) (f FlaggedDraws) x) e ∙ no_changed _ _ _ _ _ _ _ _ _
+both_false : (a : Bool) → (a && false) ≡ false
+both_false true = refl
+both_false false = refl
+
+lacking : (s : Setting) (f : Setting → Option ℕ) → f s ≡ None → has_all f ≡ false
+lacking Budget f e = rw e refl
+lacking Workers f e = rw (e, both_false (is_some (f Budget))) refl
+lacking Depth f e = rw (e, both_false (is_some (f Budget) && is_some (f Workers))) refl
+lacking Entries f e = rw (e, both_false (is_some (f Budget) && is_some (f Workers) && is_some (f Depth))) refl
+lacking Certs f e = rw (e, both_false (is_some (f Budget) && is_some (f Workers) && is_some (f Depth) && is_some (f Entries))) refl
+lacking Json f e = rw (e, both_false (is_some (f Budget) && is_some (f Workers) && is_some (f Depth) && is_some (f Entries) && is_some (f Certs))) refl
+lacking San f e = rw (e, both_false (is_some (f Budget) && is_some (f Workers) && is_some (f Depth) && is_some (f Entries) && is_some (f Certs) && is_some (f Json))) refl
+lacking Fens f e = rw (e, both_false (is_some (f Budget) && is_some (f Workers) && is_some (f Depth) && is_some (f Entries) && is_some (f Certs) && is_some (f Json) && is_some (f San))) refl
+lacking FlaggedDraws f e = rw (e, both_false (is_some (f Budget) && is_some (f Workers) && is_some (f Depth) && is_some (f Entries) && is_some (f Certs) && is_some (f Json) && is_some (f San) && is_some (f Fens))) refl
+lacking Changed f e = rw (e, both_false (is_some (f Budget) && is_some (f Workers) && is_some (f Depth) && is_some (f Entries) && is_some (f Certs) && is_some (f Json) && is_some (f San) && is_some (f Fens) && is_some (f FlaggedDraws))) refl
+
+pub absent : (s : Setting) (f : Setting → Option ℕ) → f s ≡ None → all_of f ≡ None
+absent s f e = rw (lacking s f e) refl
 
 no_numbers : (c : Command) (said : Option Said) → made_of c None said ≡ None
 no_numbers c None = refl

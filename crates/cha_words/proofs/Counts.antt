@@ -1,20 +1,22 @@
 -- What is ordered lies in its ranges.
-use Rattle.std.proofs.Common.{◌≡◌, ℕ, ◌≤◌, List, [], ◌∷◌, Option, Some, None, filter_map, refl, subst, arith}
+use Rattle.std.proofs.Common.{◌≡◌, ℕ, ◌≤◌, Bool, true, false, if◌then◌else◌, List, [], ◌∷◌, Option, Some, None, unwrap_or, filter_map, refl, ap, ◌∙◌, subst, arith}
 use Rattle.cha_limits.specs.Bounds.{Bounds}
 use Rattle.cha_board.specs.declared.men.Color.{Color}
 use Rattle.cha_words.specs.declared.orders.Printing.{Printing}
 use Rattle.cha_words.specs.declared.orders.Order.TheVariants.{GenGames, ListMates}
 use Rattle.cha_words.specs.declared.table.Command.{Command}
-use Rattle.cha_words.specs.declared.table.Command.TheVariants.{Adjudicate, Correct, Position, Check, Gen, Mates, Replay}
+use Rattle.cha_words.specs.declared.table.Command.TheVariants.{Gen, Mates}
+use Rattle.cha_words.specs.declared.table.Setting.{Setting}
 use Rattle.cha_words.specs.declared.table.Setting.TheVariants.{Workers, Depth}
+use Rattle.cha_words.specs.declared.chosen.Numbers.{Numbers}
 use Rattle.cha_words.specs.declared.table.Range.{Range}
 use Rattle.cha_words.specs.declared.given.Said.{Said}
 use Rattle.cha_words.specs.declared.given.Said.TheVariants.{Nothing, Games, Sided}
-use Rattle.cha_words.specs.Language.{Part, Numbers, next_argument, say, say_all, parts, value_for, plain_word, chosen, numbers, made, made_of, command_named, order_by, order_behind, order_of}
+use Rattle.cha_words.specs.Language.{Part, from_to, range, next_argument, say, say_all, parts, value_for, plain_word, chosen, has_all, numbers_by, all_of, numbers, made, made_of, command_named, order_by, order_behind, order_of}
 use Rattle.cha_words.specs.Reading.{IsSaid}
 use Rattle.cha_words.proofs.Digits.{number_in_range}
-use Rattle.cha_words.proofs.Choosing.{can_be_said}
-use Rattle.cha_words.proofs.Ending.{ten, of_some}
+use Rattle.cha_words.proofs.Choosing.{absent, can_be_said}
+use Rattle.cha_words.proofs.Ending.{of_some}
 
 said_all : (c : Command) (words : List (List ℕ)) (o : Option Said) (t : Said) → ((s : Said) → o ≡ Some s → IsSaid c s) → say_all c o words ≡ Some t → IsSaid c t
 said_all c [] None t h e = cc
@@ -25,19 +27,8 @@ said_all c (word ∷ words) (Some s) t h e = said_all c words (say (next_argumen
 -- games that are made are of the word gen
 games_of : (c : Command) (n : Numbers) (s : Said) (b : Bounds) (seed count : ℕ) → made c n s ≡ Some (GenGames b seed count) → (c ≡ Gen) × (Some s ≡ Some (Games seed count))
 games_of Gen n (Games s k) b seed count e = (refl, let one : s ≡ seed = cc in let two : k ≡ count = cc in rw (one, two) refl)
-games_of Gen n s b seed count e = cc
-games_of Adjudicate n Nothing b seed count e = cc
-games_of Adjudicate n s b seed count e = cc
-games_of Correct n Nothing b seed count e = cc
-games_of Correct n s b seed count e = cc
-games_of Position n Nothing b seed count e = cc
-games_of Position n s b seed count e = cc
-games_of Check n Nothing b seed count e = cc
-games_of Check n s b seed count e = cc
-games_of Mates n (Sided side) b seed count e = cc
-games_of Mates n s b seed count e = cc
-games_of Replay n Nothing b seed count e = cc
-games_of Replay n s b seed count e = cc
+games_of c n Nothing b seed count e = cc
+games_of c n s b seed count e = cc
 
 made_games : (c : Command) (n : Option Numbers) (s : Option Said) (b : Bounds) (seed count : ℕ) → made_of c n s ≡ Some (GenGames b seed count) → (c ≡ Gen) × (s ≡ Some (Games seed count))
 made_games c (Some n) (Some s) b seed count e = games_of c n s b seed count e
@@ -54,19 +45,8 @@ pub record OfMates (c : Command) (n : Option Numbers) (workers depth : ℕ) : Ty
 
 mates_of : (c : Command) (n : Numbers) (s : Said) (side : Color) (w d : ℕ) (p : Printing) → made c n s ≡ Some (ListMates side w d p) → OfMates c (Some n) w d
 mates_of Mates n (Sided t) side w d p e = record { mates = refl; numbers = n; is = refl; workers-is = cc; depth-is = cc }
-mates_of Mates n s side w d p e = cc
-mates_of Adjudicate n Nothing side w d p e = cc
-mates_of Adjudicate n s side w d p e = cc
-mates_of Correct n Nothing side w d p e = cc
-mates_of Correct n s side w d p e = cc
-mates_of Position n Nothing side w d p e = cc
-mates_of Position n s side w d p e = cc
-mates_of Check n Nothing side w d p e = cc
-mates_of Check n s side w d p e = cc
-mates_of Gen n (Games seed count) side w d p e = cc
-mates_of Gen n s side w d p e = cc
-mates_of Replay n Nothing side w d p e = cc
-mates_of Replay n s side w d p e = cc
+mates_of c n Nothing side w d p e = cc
+mates_of c n s side w d p e = cc
 
 made_mates : (c : Command) (n : Option Numbers) (s : Option Said) (side : Color) (w d : ℕ) (p : Printing) → made_of c n s ≡ Some (ListMates side w d p) → OfMates c n w d
 made_mates c (Some n) (Some s) side w d p e = mates_of c n s side w d p e
@@ -96,13 +76,23 @@ chosen_in r [] n low high e = (let same : r.usual ≡ n = cc in (omega (arith, s
 chosen_in r (value ∷ []) n low high e = number_in_range r.least r.most value n e
 chosen_in r (value ∷ more ∷ values) n low high e = cc
 
+-- each option has a number where all are ordered
+some_of : (b : Bool) (m n : Numbers) → (if b then Some m else None) ≡ Some n → m ≡ n
+some_of true m n e = cc
+some_of false m n e = cc
+
+has_one : (f : Setting → Option ℕ) (s : Setting) (n : Numbers) (o : Option ℕ) → f s ≡ o → all_of f ≡ Some n → f s ≡ Some (unwrap_or (f s) 0)
+has_one f s n (Some m) e all = rw e refl
+has_one f s n None e all = let none = absent s f e in cc
+
 mates_in : (n : Numbers) (cut : List Part) (w d : ℕ) → numbers Mates cut ≡ Some n → n.workers ≡ w → n.depth ≡ d → ((1 ≤ w) × (w ≤ 16)) × ((1 ≤ d) × (d ≤ 6))
 mates_in n cut w d e hw hd =
-    let each = ten _ _ _ _ _ _ _ _ _ _ n e in
-    let workers = chosen_in (record { least = 1; most = 16; usual = 2 }) (filter_map (value_for Workers) cut) n.workers (omega arith) (omega arith) each.workers in
-    let depth = chosen_in (record { least = 1; most = 6; usual = 4 }) (filter_map (value_for Depth) cut) n.depth (omega arith) (omega arith) each.depth in
-    let w_in : (1 ≤ w) × (w ≤ 16) = subst (λ k. (1 ≤ k) × (k ≤ 16)) hw workers in
-    let d_in : (1 ≤ d) × (d ≤ 6) = subst (λ k. (1 ≤ k) × (k ≤ 6)) hd depth in
+    let f : Setting → Option ℕ = λ s. chosen (range Mates s) (filter_map (value_for s) cut) in
+    let same = some_of (has_all f) (numbers_by (λ s. unwrap_or (f s) 0)) n e in
+    let workers = chosen_in (from_to 1 16 2) (filter_map (value_for Workers) cut) (unwrap_or (f Workers) 0) (omega arith) (omega arith) (has_one f Workers n (f Workers) refl e) in
+    let depth = chosen_in (from_to 1 6 4) (filter_map (value_for Depth) cut) (unwrap_or (f Depth) 0) (omega arith) (omega arith) (has_one f Depth n (f Depth) refl e) in
+    let w_in : (1 ≤ w) × (w ≤ 16) = subst (λ k. (1 ≤ k) × (k ≤ 16)) (ap (λ (m : Numbers). m.workers) same ∙ hw) workers in
+    let d_in : (1 ≤ d) × (d ≤ 6) = subst (λ k. (1 ≤ k) × (k ≤ 6)) (ap (λ (m : Numbers). m.depth) same ∙ hd) depth in
     (w_in, d_in)
 
 mates_by : (o : Option Command) (words : List (List ℕ)) (side : Color) (w d : ℕ) (p : Printing) → order_behind o words ≡ Some (ListMates side w d p) → ((1 ≤ w) × (w ≤ 16)) × ((1 ≤ d) × (d ≤ 6))

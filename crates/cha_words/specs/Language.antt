@@ -1,5 +1,5 @@
 -- The language of the command words, which leave out the program's name (this project). A word is a list of bytes.
-use Rattle.std.specs.Prelude.{ℕ, ◌==◌, ◌&&◌, Bool, if◌then◌else◌, nat_le, List, [], ◌∷◌, map, length, filter_map, Option, Some, None, option_map, true, false, codes, string_bytes}
+use Rattle.std.specs.Prelude.{ℕ, ◌==◌, ◌&&◌, Bool, if◌then◌else◌, nat_le, List, [], ◌∷◌, map, length, filter_map, Option, Some, None, option_map, is_some, unwrap_or, true, false, codes, string_bytes}
 use Rattle.std.specs.Str.{bytes_eq, all_ascii_digits}
 use Rattle.std.specs.Str.Parse.{digits_value}
 use Rattle.std.specs.List.{before_first, after_first}
@@ -11,6 +11,7 @@ use Rattle.cha_limits.specs.Bounds.{Bounds}
 use Rattle.cha_words.specs.declared.orders.Order.{Order}
 use Rattle.cha_words.specs.declared.orders.Printing.{Printing}
 use Rattle.cha_words.specs.declared.orders.Order.TheVariants.{AdjudicateGames, CorrectGames, JudgePositions, CheckCert, GenGames, ListMates, ReplayGames}
+use Rattle.cha_words.specs.declared.chosen.Numbers.{Numbers}
 use Rattle.cha_words.specs.declared.table.Command.{Command}
 use Rattle.cha_words.specs.declared.table.Command.TheVariants.{Adjudicate, Correct, Position, Check, Gen, Mates, Replay}
 use Rattle.cha_words.specs.declared.table.Setting.{Setting}
@@ -70,46 +71,42 @@ is_flag _ = false
 abbrev pub from_to : ℕ → ℕ → ℕ → Range
 from_to least most usual = record { least = least; most = most; usual = usual }
 
--- the numbers of the options by which a search of verdicts is bounded, by its usual number of workers
-abbrev pub for_search : ℕ → Setting → Range
-for_search workers Budget = from_to 1 100000 20000
-for_search workers Workers = from_to 1 16 workers
-for_search workers Depth = from_to 2 8 4
-for_search workers Entries = from_to 1 65536 4096
-for_search workers Certs = from_to 0 1 0
-for_search workers Json = from_to 0 1 0
-for_search workers San = from_to 0 1 0
-for_search workers Fens = from_to 0 1 0
-for_search workers FlaggedDraws = from_to 0 1 0
-for_search workers Changed = from_to 0 1 0
+-- the table of options: whether one stands behind a command
+abbrev pub takes : Command → Setting → Bool
+takes Adjudicate Changed = false
+takes Adjudicate _ = true
+takes Correct Certs = false
+takes Correct Json = false
+takes Correct San = false
+takes Correct Fens = false
+takes Correct _ = true
+takes Position FlaggedDraws = false
+takes Position Changed = false
+takes Position _ = true
+takes Gen Budget = true
+takes Gen Workers = true
+takes Gen Depth = true
+takes Gen Entries = true
+takes Mates Workers = true
+takes Mates Depth = true
+takes Mates Json = true
+takes Mates San = true
+takes Replay Json = true
+takes _ _ = false
 
--- the table of options: the numbers that an option takes behind a command, or None where it does not stand there
+-- the numbers that an option takes where it stands
+abbrev pub numbers_for : Setting → Command → Range
+numbers_for Budget _ = from_to 1 100000 20000
+numbers_for Workers Gen = from_to 1 16 1
+numbers_for Workers _ = from_to 1 16 2
+numbers_for Depth Mates = from_to 1 6 4
+numbers_for Depth _ = from_to 2 8 4
+numbers_for Entries _ = from_to 1 65536 4096
+numbers_for _ _ = from_to 0 1 0
+
+-- the numbers that an option takes behind a command, or None where it does not stand there
 abbrev pub range : Command → Setting → Option Range
-range Adjudicate Changed = None
-range Adjudicate setting = Some (for_search 2 setting)
-range Correct Certs = None
-range Correct Json = None
-range Correct San = None
-range Correct Fens = None
-range Correct setting = Some (for_search 2 setting)
-range Position FlaggedDraws = None
-range Position Changed = None
-range Position setting = Some (for_search 2 setting)
-range Check setting = None
-range Gen Certs = None
-range Gen Json = None
-range Gen San = None
-range Gen Fens = None
-range Gen FlaggedDraws = None
-range Gen Changed = None
-range Gen setting = Some (for_search 1 setting)
-range Mates Workers = Some (from_to 1 16 2)
-range Mates Depth = Some (from_to 1 6 4)
-range Mates Json = Some (from_to 0 1 0)
-range Mates San = Some (from_to 0 1 0)
-range Mates _ = None
-range Replay Json = Some (from_to 0 1 0)
-range Replay _ = None
+range command setting = if takes command setting then Some (numbers_for setting command) else None
 
 -- the table of the words that are no options: which comes next, by what such words have said
 abbrev pub next_argument : Command → Said → Option Argument
@@ -194,24 +191,19 @@ chosen (Some range) [] = Some range.usual
 chosen (Some range) (word ∷ []) = number range.least range.most word
 chosen (Some range) (word ∷ more ∷ words) = None
 
--- the numbers of all options
-pub record Numbers : Type 0 where
-  pub budget : ℕ
-  pub workers : ℕ
-  pub depth : ℕ
-  pub entries : ℕ
-  pub certs : ℕ
-  pub json : ℕ
-  pub san : ℕ
-  pub fens : ℕ
-  pub flagged_draws : ℕ
-  pub changed : ℕ
+-- each option has a number
+abbrev pub has_all : (Setting → Option ℕ) → Bool
+has_all f =
+    is_some (f Budget) && is_some (f Workers) && is_some (f Depth) && is_some (f Entries) && is_some (f Certs) && is_some (f Json)
+    && is_some (f San) && is_some (f Fens) && is_some (f FlaggedDraws) && is_some (f Changed)
 
--- all of them, where each is one
-abbrev pub all_of : Option ℕ → Option ℕ → Option ℕ → Option ℕ → Option ℕ → Option ℕ → Option ℕ → Option ℕ → Option ℕ → Option ℕ → Option Numbers
-all_of (Some budget) (Some workers) (Some depth) (Some entries) (Some certs) (Some json) (Some san) (Some fens) (Some draws) (Some changed) =
-    Some (record { budget = budget; workers = workers; depth = depth; entries = entries; certs = certs; json = json; san = san; fens = fens; flagged_draws = draws; changed = changed })
-all_of _ _ _ _ _ _ _ _ _ _ = None
+-- their numbers
+abbrev pub numbers_by : (Setting → ℕ) → Numbers
+numbers_by f = record { budget = f Budget; workers = f Workers; depth = f Depth; entries = f Entries; certs = f Certs; json = f Json; san = f San; fens = f Fens; flagged_draws = f FlaggedDraws; changed = f Changed }
+
+-- all of them, where each has one
+abbrev pub all_of : (Setting → Option ℕ) → Option Numbers
+all_of f = if has_all f then Some (numbers_by (λ setting. unwrap_or (f setting) 0)) else None
 
 -- what a word says that is no option, behind those that said the second argument
 abbrev pub say : Option Argument → Said → List ℕ → Option Said
@@ -260,8 +252,7 @@ made_of command _ _ = None
 
 -- the numbers of all options, by the parts of the words
 abbrev pub numbers : Command → List Part → Option Numbers
-numbers command cut = let number_of : Setting → Option ℕ = λ setting. chosen (range command setting) (filter_map (value_for setting) cut) in
-    all_of (number_of Budget) (number_of Workers) (number_of Depth) (number_of Entries) (number_of Certs) (number_of Json) (number_of San) (number_of Fens) (number_of FlaggedDraws) (number_of Changed)
+numbers command cut = all_of (λ setting. chosen (range command setting) (filter_map (value_for setting) cut))
 
 -- what a command orders with the words behind it
 unfoldable pub order_by : Command → List (List ℕ) → Option Order
@@ -281,12 +272,10 @@ order_of (word ∷ words) = order_behind (command_named word) words
 abbrev pub order : List (String Global) → Option Order
 order words = order_of (map string_bytes words)
 
--- what an order lets a search of verdicts spend; a check, the shortest mates and the moves of games have none
+-- what an order lets a search of verdicts spend; those that need no such search have none
 abbrev pub limits_in : Order → Option Bounds
 limits_in (AdjudicateGames spend draws printing) = Some spend
 limits_in (CorrectGames spend draws changed) = Some spend
 limits_in (JudgePositions spend printing) = Some spend
-limits_in CheckCert = None
 limits_in (GenGames spend seed count) = Some spend
-limits_in (ListMates side workers depth printing) = None
-limits_in (ReplayGames printing) = None
+limits_in _ = None

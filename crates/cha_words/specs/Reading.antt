@@ -1,8 +1,9 @@
 -- What the words read so far have given, and what the rest makes of it.
 use Rattle.std.specs.Prelude.{◌≡◌, ℕ, ◌≤◌, List, [], ◌∷◌, filter_map, Option, Some, None, IsSome, MatchOption, ⊤}
 use Rattle.cha_words.specs.declared.orders.Order.{Order}
+use Rattle.cha_words.specs.declared.chosen.Numbers.{Numbers}
 use Rattle.cha_words.specs.declared.table.Command.{Command}
-use Rattle.cha_words.specs.declared.table.Command.TheVariants.{Check, Gen, Mates, Replay}
+use Rattle.cha_words.specs.declared.table.Command.TheVariants.{Gen, Mates}
 use Rattle.cha_words.specs.declared.table.Setting.{Setting}
 use Rattle.cha_words.specs.declared.table.Setting.TheVariants.{Budget, Workers, Depth, Entries, Certs, Json, San, Fens, FlaggedDraws, Changed}
 use Rattle.cha_words.specs.declared.table.Range.{Range}
@@ -10,7 +11,7 @@ use Rattle.cha_words.specs.declared.given.Given.{Given}
 use Rattle.cha_words.specs.declared.given.Said.{Said}
 use Rattle.cha_words.specs.declared.given.Said.TheVariants.{Nothing, Seeded, Games, Sided}
 use Rattle.cha_words.specs.declared.given.Progress.{Progress}
-use Rattle.cha_words.specs.Language.{Part, Piece, piece, piece_by, range, value_for, plain_word, chosen, all_of, say_all, made_of, Numbers}
+use Rattle.cha_words.specs.Language.{Part, Piece, piece, piece_by, range, value_for, plain_word, chosen, all_of, say_all, made_of}
 use Rattle.cha_words.specs.Language.Part.{Value}
 use Rattle.cha_words.specs.Language.Piece.{Name, Whole}
 
@@ -72,24 +73,27 @@ chosen_from range (Some n) (word ∷ words) = None
 
 -- the numbers of all options, with the parts that are still to come
 abbrev pub numbers_from : Command → Given → List Part → Option Numbers
-numbers_from command given parts = let number_of : Setting → Option ℕ = λ setting. chosen_from (range command setting) (value_in setting given) (filter_map (value_for setting) parts) in
-    all_of (number_of Budget) (number_of Workers) (number_of Depth) (number_of Entries) (number_of Certs) (number_of Json) (number_of San) (number_of Fens) (number_of FlaggedDraws) (number_of Changed)
+numbers_from command given parts = all_of (λ setting. chosen_from (range command setting) (value_in setting given) (filter_map (value_for setting) parts))
 
 -- what a command orders with what is given and the parts that are still to come
 unfoldable pub order_from : Command → Given → List Part → Option Order
 order_from command given parts = made_of command (numbers_from command given parts) (say_all command (Some given.said) (filter_map plain_word parts))
 
--- a command that searches for verdicts
+-- a command that searches for verdicts: a budget can be given to it
 abbrev pub IsSearch : Command → Type 0
-IsSearch Check = ⊥
-IsSearch Mates = ⊥
-IsSearch Replay = ⊥
-IsSearch _ = ⊤
+IsSearch command = IsSome (range command Budget)
 
 -- a number lies in a range
 abbrev pub IsIn : Option Range → ℕ → Type 0
 IsIn None n = ⊤
 IsIn (Some range) n = (range.least ≤ n) × (n ≤ range.most)
+
+-- the numbers by which a search is bounded lie in their ranges
+pub record AreIn (command : Command) (numbers : Numbers) : Type 0 where
+  pub budget : IsIn (range command Budget) numbers.budget
+  pub workers : IsIn (range command Workers) numbers.workers
+  pub depth : IsIn (range command Depth) numbers.depth
+  pub entries : IsIn (range command Entries) numbers.entries
 
 -- a number that is given lies in a range
 abbrev pub IsGivenIn : Option Range → Option ℕ → Type 0

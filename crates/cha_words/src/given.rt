@@ -108,15 +108,6 @@ fn with(given: Given, setting: Setting, value: u64) -> Given
     next
 }
 
-/// The same with something said.
-fn with_said(given: Given, said: Said) -> Given
-    ensures { result ≡ record given { said = said } }
-{
-    let mut next = given;
-    next.said = said;
-    next
-}
-
 /// Takes an option with its value. None where the option may not be given now, or the value is no number in its range.
 fn with_value(command: Command, given: Given, setting: Setting, word: &str) -> Option<Given>
     requires { Fits command given }
@@ -136,21 +127,12 @@ fn said_by(argument: Option<Argument>, said: Said, word: &str) -> Option<Said>
     ensures { result ≡ say argument said word.now }
 {
     match argument {
-        Some(Argument::Seed) => match number(word, 0, u64::MAX) {
-            Some(seed) => Some(Said::Seeded(seed)),
-            None => None,
-        },
+        Some(Argument::Seed) => Some(Said::Seeded(number(word, 0, u64::MAX)?)),
         Some(Argument::Count) => match said {
-            Said::Seeded(seed) => match number(word, 1, 1_000) {
-                Some(count) => Some(Said::Games(seed, count)),
-                None => None,
-            },
+            Said::Seeded(seed) => Some(Said::Games(seed, number(word, 1, 1_000)?)),
             _ => None,
         },
-        Some(Argument::Side) => match side_of(word) {
-            Some(side) => Some(Said::Sided(side)),
-            None => None,
-        },
+        Some(Argument::Side) => Some(Said::Sided(side_of(word)?)),
         None => None,
     }
 }
@@ -161,7 +143,7 @@ fn with_plain(command: Command, given: Given, word: &str) -> Option<Given>
     ensures { Takes command given (Plain word.now) result }
 {
     match said_by(argument_of(command, given.said), given.said, word) {
-        Some(said) => Some(with_said(given, said)),
+        Some(said) => Some(Given { said, ..given }),
         None => None,
     }
 }
@@ -191,13 +173,11 @@ fn with_part(command: Command, given: Given, word: &str) -> Option<Given>
 fn settled(given: Option<Given>) -> Option<Progress>
     ensures { result ≡ settled_of given }
 {
-    match given {
-        Some(given) => Some(Progress {
-            given,
-            awaited: None,
-        }),
-        None => None,
-    }
+    let given = given?;
+    Some(Progress {
+        given,
+        awaited: None,
+    })
 }
 
 /// Takes one word that names an option.

@@ -1,18 +1,12 @@
-//! What the words order.
+//! What can be ordered.
 
-ghost use Rattle.std.specs.Prelude.{◌≡◌, ◌≤◌, ℕ, List, Some, [], map, string_bytes, IfOk, IfErr, IfSome, IsNone, IsSome, ◌↔◌};
-ghost use Rattle.cha_limits.specs.Bounds.{Bounds};
-ghost use Rattle.cha_words.specs.Language.{limits_in, order, order_by, order_of};
-ghost use Rattle.cha_words.specs.Faults.{IsFault, IsFaultOf};
-ghost use Rattle.cha_words.specs.Reading.{Stands, order_with};
-ghost use Rattle.cha_words.specs.declared.orders.Order.TheVariants.{GenGames, ListMates};
-ghost use Rattle.cha_board.specs.declared.men.Color.{Color as Side};
-ghost use Rattle.cha_words.specs.declared.orders.Printing.{Printing as Printed};
+ghost use Rattle.std.specs.Prelude.{◌≡◌};
+ghost use Rattle.cha_words.specs.Language.{bounds, limits_in, made as made_by, printing as printing_by};
+ghost use Rattle.cha_words.specs.Reading.{AreIn, IsSaid, IsSearch};
 
-use crate::faults::{Expected, UsageFault};
-use crate::given::{Given, Progress, Said, with_word};
-use crate::making::made;
-use crate::table::{Command, command_of};
+use crate::chosen::Numbers;
+use crate::given::Said;
+use crate::table::Command;
 use cha_board::Color;
 use cha_limits::Limits;
 
@@ -87,7 +81,7 @@ pub enum Order {
 }
 
 impl Order {
-    /// What a search for verdicts may spend on a side. A check, the shortest mates and the moves of games need none.
+    /// What a search for verdicts may spend on a side, of an order that needs one.
     pub fn limits(&self) -> Option<Limits>
         ensures { result ≡ limits_in self.now }
     {
@@ -96,141 +90,73 @@ impl Order {
             | Order::CorrectGames { limits, .. }
             | Order::JudgePositions { limits, .. }
             | Order::GenGames { limits, .. } => Some(*limits),
-            Order::CheckCert | Order::ListMates { .. } | Order::ReplayGames { .. } => None,
+            _ => None,
         }
     }
 }
 
-/// What the words order, which leave out the program's name, or None where they are not in the language.
-///
-/// | Command | Options, each at most once and in any order | Further words |
-/// |---|---|---|
-/// | `adjudicate` | `--budget`, `--workers`, `--depth`, `--entries`, `--certs`, `--json`, `--san`, `--fens`, `--flagged-draws` | none |
-/// | `correct` | `--budget`, `--workers`, `--depth`, `--entries`, `--flagged-draws`, `--changed` | none |
-/// | `position` | `--budget`, `--workers`, `--depth`, `--entries`, `--certs`, `--json`, `--san`, `--fens` | none |
-/// | `gen` | `--budget`, `--workers`, `--depth`, `--entries` | the seed, and then the number of games |
-/// | `check` | none | none |
-/// | `mates` | `--workers`, `--depth`, `--json`, `--san` | the side, `w` or `b` |
-/// | `replay` | `--json` | none |
-///
-/// An option with a number is `--name N` in two words or `--name=N` in one, and `--certs`, `--json`, `--san`, `--fens`,
-/// `--flagged-draws` and `--changed` take no value. A number is 1 to 20 ASCII digits, leading zeros among them.
-///
-/// | Number | From | To | Where it does not stand |
-/// |---|---|---|---|
-/// | `--budget` | 1 | 100,000 | 20,000 |
-/// | `--workers` | 1 | 16 | 2, and 1 for `gen` |
-/// | `--depth` | 2, and 1 for `mates` | 8, and 6 for `mates` | 4 |
-/// | `--entries` | 1 | 65,536 | 4,096 |
-/// | the seed | 0 | 18,446,744,073,709,551,615 | |
-/// | the number of games | 1 | 1,000 | |
-pub fn parse(words: &[String]) -> Option<Order>
-    ensures { result ≡ order words.now }
+/// What a command orders, by the numbers of its options and what its further words say, or None where these are not complete.
+pub fn made(command: Command, numbers: Numbers, said: Said) -> Option<Order>
+    requires ranges { AreIn command numbers }
+    requires said { IsSaid command said }
+    ensures { result ≡ made_by command numbers said }
 {
-    match read(words) {
-        Ok(order) => Some(order),
-        Err(_) => None,
-    }
-}
-
-/// Where words leave the language, or None where they are in it: at the first word with which no words behind it make an order, or
-/// behind the last one, where some words would.
-pub fn usage_fault(words: &[String]) -> Option<UsageFault>
-    ensures refused { IsSome result ↔ IsNone (order words.now) }
-    ensures fault { IfSome result (λ f. IsFault (map string_bytes words.now) f) }
-{
-    match read(words) {
-        Ok(_) => None,
-        Err(fault) => Some(fault),
-    }
-}
-
-/// The law: where games are ordered, there are 1 to 1,000 of them.
-pub fn games_are_some()
-    ensures { (words : List (List ℕ)) (spend : Bounds) (seed count : ℕ) → order_of words ≡ Some (GenGames spend seed count) → (1 ≤ count) × (count ≤ 1000) }
-{}
-
-/// The law: where the shortest mates are ordered, there are 1 to 16 workers, and 1 to 6 plies.
-pub fn mates_are_bounded()
-    ensures { (words : List (List ℕ)) (side : Side) (workers depth : ℕ) (printing : Printed) → order_of words ≡ Some (ListMates side workers depth printing) → ((1 ≤ workers) × (workers ≤ 16)) × ((1 ≤ depth) × (depth ≤ 6)) }
-{}
-
-/// What the words order, or where they leave the language.
-fn read(words: &[String]) -> Result<Order, UsageFault>
-    ensures order { IfOk result (λ o. order words.now ≡ Some o) }
-    ensures fault { IfErr result (λ f. IsFault (map string_bytes words.now) f) }
-{
-    let [word, behind @ ..] = words else {
-        return Err(UsageFault {
-            index: 0,
-            expected: Expected::First,
-        });
-    };
-    match command_of(word.as_str()) {
-        Some(command) => match read_behind(command, behind) {
-            Ok(order) => Ok(order),
-            Err(fault) => Err(UsageFault {
-                index: fault.index + 1,
-                expected: fault.expected,
-            }),
-        },
-        None => Err(UsageFault {
-            index: 0,
-            expected: Expected::First,
+    let flagged_draws = numbers.flagged_draws == 1;
+    let printing = printed(numbers);
+    match (command, said) {
+        (Command::Adjudicate, Said::Nothing) => Some(Order::AdjudicateGames {
+            limits: limits(command, numbers),
+            flagged_draws,
+            printing,
         }),
-    }
-}
-
-/// What a command orders with the words behind it, or where they leave the language, counted behind the command.
-fn read_behind(command: Command, words: &[String]) -> Result<Order, UsageFault>
-    ensures order { IfOk result (λ o. order_by command (map string_bytes words.now) ≡ Some o) }
-    ensures fault { IfErr result (λ f. IsFaultOf (order_by command) (map string_bytes words.now) f.index f.expected) }
-{
-    let mut progress = Progress {
-        given: Given {
-            budget: None,
-            workers: None,
-            depth: None,
-            entries: None,
-            certs: None,
-            json: None,
-            san: None,
-            fens: None,
-            flagged_draws: None,
-            changed: None,
-            said: Said::Nothing,
-        },
-        awaited: None,
-    };
-    let mut index = 0;
-    while index < words.len() {
-        match with_word(command, progress, words[index].as_str()) {
-            Some(next) => progress = next,
-            None => {
-                return Err(UsageFault {
-                    index,
-                    expected: Expected::Behind(command, progress),
-                });
-            }
-        }
-        index += 1;
-    }
-    match ended(command, progress) {
-        Some(order) => Ok(order),
-        None => Err(UsageFault {
-            index,
-            expected: Expected::Behind(command, progress),
+        (Command::Correct, Said::Nothing) => Some(Order::CorrectGames {
+            limits: limits(command, numbers),
+            flagged_draws,
+            changed: numbers.changed == 1,
         }),
+        (Command::Position, Said::Nothing) => Some(Order::JudgePositions {
+            limits: limits(command, numbers),
+            printing,
+        }),
+        (Command::Check, Said::Nothing) => Some(Order::CheckCert),
+        (Command::Gen, Said::Games(seed, count)) => Some(Order::GenGames {
+            limits: limits(command, numbers),
+            seed,
+            count: count as u32,
+        }),
+        (Command::Mates, Said::Sided(side)) => Some(Order::ListMates {
+            side,
+            workers: numbers.workers as u32,
+            depth: numbers.depth as u8,
+            printing,
+        }),
+        (Command::Replay, Said::Nothing) => Some(Order::ReplayGames { printing }),
+        _ => None,
     }
 }
 
-/// What a command orders where no word follows.
-fn ended(command: Command, progress: Progress) -> Option<Order>
-    requires { Stands command progress }
-    ensures { result ≡ order_with command progress [] }
+/// How the report is printed.
+fn printed(numbers: Numbers) -> Printing
+    ensures { result ≡ printing_by numbers }
 {
-    match progress.awaited {
-        Some(_) => None,
-        None => made(command, progress.given),
+    Printing {
+        certs: numbers.certs == 1,
+        json: numbers.json == 1,
+        san: numbers.san == 1,
+        fens: numbers.fens == 1,
     }
+}
+
+/// What a search of verdicts may spend.
+fn limits(command: Command, numbers: Numbers) -> Limits
+    requires ranges { AreIn command numbers }
+    requires search { IsSearch command }
+    ensures { result ≡ bounds numbers }
+{
+    Limits::new(
+        numbers.budget as u32,
+        numbers.depth as u8,
+        numbers.workers as u32,
+        numbers.entries as u32,
+    )
 }

@@ -3,7 +3,7 @@
 //! The reader of words, the faults, the usage and the completions all go by it. A new command, option or further word is a row here.
 
 ghost use Rattle.std.specs.Prelude.{◌≡◌, Some};
-ghost use Rattle.cha_words.specs.Language.{command_named, setting_named, is_flag as stands_alone, range, for_search as searched, next_argument, side_named};
+ghost use Rattle.cha_words.specs.Language.{command_named, setting_named, is_flag as stands_alone, takes as stands_behind, numbers_for as numbers_of, range, next_argument, side_named};
 
 use crate::given::Said;
 use cha_board::Color;
@@ -210,15 +210,36 @@ fn from_to(least: u64, most: u64, usual: u64) -> Range
     Range { least, most, usual }
 }
 
-/// The numbers that an option takes where a search of verdicts is bounded, by the usual number of workers.
-fn for_search(workers: u64, setting: Setting) -> Range
-    ensures { result ≡ searched workers setting }
+/// Whether an option stands behind a command.
+fn takes(command: Command, setting: Setting) -> bool
+    ensures { result ≡ stands_behind command setting }
 {
-    match setting {
-        Setting::Budget => from_to(1, 100_000, 20_000),
-        Setting::Workers => from_to(1, 16, workers),
-        Setting::Depth => from_to(2, 8, 4),
-        Setting::Entries => from_to(1, 65_536, 4_096),
+    match (command, setting) {
+        (Command::Adjudicate, Setting::Changed) => false,
+        (Command::Adjudicate, _) => true,
+        (Command::Correct, Setting::Certs | Setting::Json | Setting::San | Setting::Fens) => false,
+        (Command::Correct, _) => true,
+        (Command::Position, Setting::FlaggedDraws | Setting::Changed) => false,
+        (Command::Position, _) => true,
+        (Command::Gen, Setting::Budget | Setting::Workers | Setting::Depth | Setting::Entries) =>
+            true,
+        (Command::Mates, Setting::Workers | Setting::Depth | Setting::Json | Setting::San) => true,
+        (Command::Replay, Setting::Json) => true,
+        _ => false,
+    }
+}
+
+/// The numbers that an option takes where it stands.
+fn numbers_for(setting: Setting, command: Command) -> Range
+    ensures { result ≡ numbers_of setting command }
+{
+    match (setting, command) {
+        (Setting::Budget, _) => from_to(1, 100_000, 20_000),
+        (Setting::Workers, Command::Gen) => from_to(1, 16, 1),
+        (Setting::Workers, _) => from_to(1, 16, 2),
+        (Setting::Depth, Command::Mates) => from_to(1, 6, 4),
+        (Setting::Depth, _) => from_to(2, 8, 4),
+        (Setting::Entries, _) => from_to(1, 65_536, 4_096),
         _ => from_to(0, 1, 0),
     }
 }
@@ -227,37 +248,10 @@ fn for_search(workers: u64, setting: Setting) -> Range
 pub fn range_of(command: Command, setting: Setting) -> Option<Range>
     ensures { result ≡ range command setting }
 {
-    match command {
-        Command::Adjudicate => match setting {
-            Setting::Changed => None,
-            _ => Some(for_search(2, setting)),
-        },
-        Command::Correct => match setting {
-            Setting::Certs | Setting::Json | Setting::San | Setting::Fens => None,
-            _ => Some(for_search(2, setting)),
-        },
-        Command::Position => match setting {
-            Setting::FlaggedDraws | Setting::Changed => None,
-            _ => Some(for_search(2, setting)),
-        },
-        Command::Check => None,
-        Command::Gen => match setting {
-            Setting::Budget | Setting::Workers | Setting::Depth | Setting::Entries => Some(
-                for_search(1, setting),
-            ),
-            _ => None,
-        },
-        Command::Mates => match setting {
-            Setting::Workers => Some(from_to(1, 16, 2)),
-            Setting::Depth => Some(from_to(1, 6, 4)),
-            Setting::Json | Setting::San => Some(from_to(0, 1, 0)),
-            _ => None,
-        },
-        Command::Replay => match setting {
-            Setting::Json => Some(from_to(0, 1, 0)),
-            _ => None,
-        },
+    if takes(command, setting) {
+        return Some(numbers_for(setting, command));
     }
+    None
 }
 
 /// The word that comes next behind a command and is no option, by what such words have said, or None where there is no such word.

@@ -1,6 +1,6 @@
 use Rattle.adjudicate.proofs.commands.carry_out_plain.Goals as goal
 
-pub report_lines-requires-clause-ready : goal.report_lines-requires-clause-ready
-report_lines-requires-clause-ready g c =
+pub report-requires-clause-ready : goal.report-requires-clause-ready
+report-requires-clause-ready g c =
     let bounds = c.requires.bounded _ _ _ _ c.in-ListMates.is in
     (c.requires.ready, bounds.1.1, bounds.0.0)

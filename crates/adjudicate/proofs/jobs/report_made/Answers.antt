@@ -8,4 +8,4 @@ returns-in_default-clause-run g c = λ left faults. not_begun_by (Some (on_made 
 
 pub returns-clause-run : goal.returns-clause-run
 returns-clause-run g c = λ left faults. (
-    rw c.of_made.ensures (made_run _ c.args.seed c.args.count left _ _ faults _ _ c.new-made.result c.report_games.new.source 0 (c.new-made.ensures ∙ c.into_vec.ensures ∙ c.in-Ok.ensures) c.report_games.result c.report_games.ensures.run))
+    rw c.of_made.ensures (made_run _ c.args.seed c.args.count left _ _ faults _ _ c.new-made.result c.report.new.source 0 (c.new-made.ensures ∙ c.into_vec.ensures ∙ c.in-Ok.ensures) c.report.result c.report.ensures.run))

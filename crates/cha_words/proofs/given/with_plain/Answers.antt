@@ -8,7 +8,7 @@ pub returns-in-Some : goal.returns-in-Some
 unfolding Takes
 returns-in-Some c =
     let e : say (next_argument c.args.command c.args.given.said) c.args.given.said c.args.word.now ≡ Some c.in-Some.said = rw (← c.argument_of.ensures) (sym c.said_by.ensures ∙ c.in-Some.is) in
-    rw c.with_said.ensures (said_fits c.args.command c.args.given c.args.word.now c.in-Some.said c.requires e, plain_taken c.args.command c.args.given c.args.word.now c.in-Some.said e)
+    (said_fits c.args.command c.args.given c.args.word.now c.in-Some.said c.requires e, plain_taken c.args.command c.args.given c.args.word.now c.in-Some.said e)
 
 pub returns-in-None : goal.returns-in-None
 unfolding Takes

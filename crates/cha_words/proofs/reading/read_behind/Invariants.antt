@@ -1,7 +1,7 @@
 use Rattle.std.proofs.Common.{◌≡◌, ◌≤◌, ◌-◌, ◌++◌, List, ℕ, length, map, take, string_bytes}
 use Rattle.cha_words.specs.Language.{order_by}
 use Rattle.cha_words.specs.Reading.{Stands, order_with}
-use Rattle.cha_words.proofs.orders.read_behind.Given as goal
+use Rattle.cha_words.proofs.reading.read_behind.Given as goal
 
 -- whatever words come, they order with what is given what they order behind the words that are read
 abbrev pub invariant-loop-index : goal.invariant-loop-index

@@ -1,6 +1,6 @@
 use Rattle.std.proofs.Common.{◌-◌, length, take, drop, map, string_bytes, sym, ◌∙◌, arith, add-one}
 use Rattle.cha_words.proofs.Behind.{first_text, no_texts, order_whole, fault_whole, no_command, no_words}
-use Rattle.cha_words.proofs.orders.read.Goals as goal
+use Rattle.cha_words.proofs.reading.read.Goals as goal
 
 pub returns-in_default-clause-fault : goal.returns-in_default-clause-fault
 returns-in_default-clause-fault c = rw (no_texts c.args.words.now (omega (arith, c.in_default.len_below))) no_words

@@ -1,6 +1,6 @@
 use Rattle.std.proofs.Common.{map, string_bytes, sym, ◌∙◌, arith}
 use Rattle.cha_words.proofs.Behind.{started, nothing_stands, next_word, went_on, stands_on, stopped, fault_at, fault_end, whole_words, within, beyond}
-use Rattle.cha_words.proofs.orders.read_behind.Goals as goal
+use Rattle.cha_words.proofs.reading.read_behind.Goals as goal
 
 pub loop-index-init : goal.loop-index-init
 loop-index-init c = record { stands = nothing_stands c.args.command; within = omega arith; same = λ more. started c.args.command more }

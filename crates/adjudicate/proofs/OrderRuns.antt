@@ -1,9 +1,9 @@
 -- Runs of orders, whether they report or correct games.
-use Rattle.std.proofs.Common.{◌≡◌, ◌≢◌, ◌⊎◌, inl, inr, ℕ, ◌≤◌, List, [], length, Option, Some, None, IsSome, refl, sym, subst, arith}
+use Rattle.std.proofs.Common.{◌≡◌, ◌≢◌, ◌⊎◌, inl, inr, ℕ, ◌≤◌, List, [], length, Option, Some, None, refl, sym, subst, arith}
 use Rattle.std.proofs.KnownBytes.{Appends-nil, Consumes-nil}
 use Rattle.cha_outside.specs.Faults.{Rose}
 use Rattle.cha_words.specs.declared.orders.Order.{Order}
-use Rattle.cha_words.specs.declared.orders.Order.TheVariants.{AdjudicateGames, CorrectGames, JudgePositions, GenGames}
+use Rattle.cha_words.specs.declared.orders.Order.TheVariants.{CorrectGames, JudgePositions, CheckCert, GenGames, ListMates}
 use Rattle.cha_words.specs.Language.{limits_in}
 use Rattle.adjudicate.specs.declared.endings.Status.{Status}
 use Rattle.adjudicate.specs.declared.endings.Status.TheVariants.{Done, Usage, ReadFault, WriteFault, TooLong, NoMemory, NotAccepted}
@@ -33,12 +33,17 @@ nothing_corrected c took left a f g notes = record {
   notes_later = omega arith;
 }
 
-pub not_begun : (order : Order) → IsSome (limits_in order) → (left a : Option (List ℕ)) (f g : ℕ) (notes : Noted) → IsRun order NoMemory (outside left f a g) (outside left f a g) notes notes
-not_begun (AdjudicateGames limits flagged printing) some left a f g notes = (not_begun_by (job (AdjudicateGames limits flagged printing)) (took_nothing GameItems) left a f g, refl)
-not_begun (CorrectGames limits flagged changed) some left a f g notes = nothing_corrected _ (took_nothing KeptItems) left a f g notes
-not_begun (JudgePositions limits printing) some left a f g notes = (not_begun_by (job (JudgePositions limits printing)) (took_nothing LineItems) left a f g, refl)
-not_begun (GenGames limits seed count) some left a f g notes = (not_begun_by (job (GenGames limits seed count)) (took_all (λ _. 0) (λ _. refl) []) left a f g, refl)
-not_begun order some left a f g notes = cc
+-- where nothing was taken, no piece was: of lines, of what has no items to settle, and else of games
+took_none : (order : Order) → TookAsNeeded (demand order).settled [] 0
+took_none (JudgePositions limits printing) = took_nothing LineItems
+took_none (ListMates side workers depth printing) = took_nothing LineItems
+took_none CheckCert = took_all (λ _. 0) (λ _. refl) []
+took_none (GenGames limits seed count) = took_all (λ _. 0) (λ _. refl) []
+took_none order = took_nothing GameItems
+
+pub not_begun : (order : Order) (left a : Option (List ℕ)) (f g : ℕ) (notes : Noted) → IsRun order NoMemory (outside left f a g) (outside left f a g) notes notes
+not_begun (CorrectGames limits flagged changed) left a f g notes = nothing_corrected _ (took_nothing KeptItems) left a f g notes
+not_begun order left a f g notes = (not_begun_by (job order) (took_none order) left a f g, refl)
 
 -- an order that needs no search reports
 pub plain_run : (order : Order) (s : Status) (before now : Outside) (notes notes' : Noted) → limits_in order ≡ None → IsRunOf (demand order) s before now → notes' ≡ notes → IsRun order s before now notes notes'

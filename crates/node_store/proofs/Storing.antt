@@ -148,7 +148,7 @@ module _ (nodes : List Node) (waiting : List (List ℕ)) (was : IsStore nodes wa
     front_waited (x ∷ xs) within is = taken_waits_no_more x xs within is
 
     -- a name waits in one list alone, so what its list cost is what it cost
-    pub front_cost : (before used : ℕ) → used ≤ before + b + 2 → (list : List ℕ) → list_at waiting b ≡ list → IfSome (front_of list) (λ name. (k : ℕ) → Has (list_at waiting k) name → used ≤ before + k + 2)
+    pub front_cost : (before used : ℕ) → used ≡ before + b + 2 → (list : List ℕ) → list_at waiting b ≡ list → IfSome (front_of list) (λ name. (k : ℕ) → Has (list_at waiting k) name → used ≡ before + k + 2)
     front_cost before used cost [] is = tt
     front_cost before used cost (x ∷ xs) is = λ k h.
         let same : k ≡ b = was.apart k b x h (subst (λ (ys : List ℕ). Has ys x) (sym is) (has_front x xs)) in

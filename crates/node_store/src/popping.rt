@@ -48,8 +48,8 @@ impl Store {
         ensures within { IfSome result (λ name. name < length self.new.nodes) }
         ensures inner { IfSome result (λ name. slice_get (leaves self.new.nodes) name ≡ Some false) }
         ensures waited { IfSome result (λ name. (b : ℕ) → Has (list_at self.new.waiting b) name → ⊥) }
-        ensures cost { IfSome result (λ name. (b : ℕ) → Has (list_at self.old.waiting b) name → steps.new ≤ steps.old + b + 2) }
-        ensures whole_cost { IfNone result (steps.new ≤ steps.old + 64) }
+        ensures cost { IfSome result (λ name. (b : ℕ) → Has (list_at self.old.waiting b) name → steps.new ≡ steps.old + b + 2) }
+        ensures whole_cost { IfNone result (steps.new ≡ steps.old + 64) }
     {
         match self.waiting.first_used(steps) {
             None => None,

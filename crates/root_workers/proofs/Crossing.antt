@@ -1,11 +1,21 @@
--- What the workers share may be shared by threads.
-use denote.Param.Send.{IsSync, sendable}
+-- What the workers share may be shared by threads, and a worker may go to another.
+use denote.Param.Send.{IsSend, IsSync, sendable}
 use Rattle.std.proofs.Crossing.{crosses}
+use Rattle.shard_table.proofs.Sending.{table_pass_send}
+use Rattle.shard_table.proofs.shard.Shard.TheSendSync.{the_send as shard_send}
+use Rattle.helpmate.below.atomic_table.proofs.shared.Seat.TheSendSync.{the_send as seat_send}
+use Rattle.cha_fact.proofs.calls.FactCall.TheSendSync.{the_send as call_send}
+use Rattle.cha_fact.proofs.calls.FactReply.TheSendSync.{the_send as reply_send}
 use Rattle.cha_moves.specs.contracts.step.Move.{the_row as move_row}
+use Rattle.root_workers.proofs.work.Work.TheSendSync.{the_send as work_send}
 use Rattle.root_workers.specs.contracts.task.Task.{the_row as task_row}
+use Rattle.root_workers.specs.contracts.work.Worker.{the_row as worker_row}
 
 pub move_sync : IsSync move_row
 move_sync = search (sendable, crosses) depth 20
 
 pub task_sync : IsSync task_row
 task_sync = search (sendable, crosses) depth 30
+
+pub worker_send : IsSend worker_row
+worker_send = search (sendable, crosses, seat_send, shard_send, call_send, reply_send, work_send, table_pass_send) depth 60 fits 20000

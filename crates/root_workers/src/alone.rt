@@ -2,7 +2,6 @@
 
 ghost use Rattle.std.specs.Prelude.{◌≡◌};
 
-use crate::gate::OpenGate;
 use crate::share::share_of;
 use crate::task::Task;
 use crate::work::Work;
@@ -91,6 +90,6 @@ impl<'a, F: Facts> Crew for Alone<'a, F> {
     }
 
     fn share_out(&mut self, alloc: Global, task: &Task, moves: &[Move]) {
-        self.work = share_of(alloc, task, moves, 0, 1, self.place, &OpenGate);
+        self.work = share_of(alloc, task, moves, 0, 1, self.place);
     }
 }

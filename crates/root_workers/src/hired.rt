@@ -8,7 +8,6 @@ ghost use Rattle.root_workers.specs.Histories.{EndsAsOne};
 ghost use Rattle.root_workers.specs.Hiring.{IsHired, IsFreshlyHired, HiredMakes};
 
 use crate::dismissing::close;
-use crate::gate::OpenGate;
 use crate::many::{crew, first_probe, first_store, hand_out};
 use crate::task::Task;
 use crate::work::Worker;
@@ -81,15 +80,7 @@ impl Hired {
         ensures count { length self.new.crew.items ≡ length self.old.crew.items }
         ensures done { (i : ℕ) (d : Worker) → i < length self.old.crew.items → WorkerDone self.old.table task.now moves.now (length self.old.crew.items) (slice_index_or self.old.crew.items i d) (slice_index_or self.new.crew.items i d) }
     {
-        hand_out(
-            rt,
-            alloc,
-            &self.table,
-            task,
-            moves,
-            &mut self.crew,
-            &OpenGate,
-        );
+        hand_out(rt, alloc, &self.table, task, moves, &mut self.crew);
     }
 
     /// Dismisses all workers and closes the table. Its shards are left.

@@ -1,16 +1,16 @@
 //! Rounds of the bounded search, one ply deeper each, whose root moves workers share out.
 //!
-//! `answers` has what the rounds answer, `task` what is to do in one round, `work` what a worker leaves of it, `gate` what is
-//! told of each root move, `nowhere` a place of facts that keeps none, `share` one worker's part of a round, `workers` a crew of them as a whole, `alone` the crew that
-//! needs no thread, `nobody` the crew that has nobody who searches, `many` the crew of threads at one table, `dismissing` its end and that of the table, `gather` what the works of a round come to,
-//! `deepening` the rounds one after the other, and `table_rounds` the same for threads at a table.
+//! `answers` has what the rounds answer, `task` what is to do in one round, `work` what a worker leaves of it, `nowhere` a place
+//! of facts that keeps none, `share` one worker's part of a round, `workers` a crew of them as a whole, `alone` the crew that needs
+//! no thread, `nobody` the crew that has nobody who searches, `many` the crew of threads at one table, `hired` and `staff` with
+//! `on_demand` one that is made when it is first called on, `dismissing` its end and that of the table, `gather` what the works of a
+//! round come to, `deepening` the rounds one after the other, and `table_rounds` the same for threads at a table.
 #![tactic(auto)]
 
 mod alone;
 mod answers;
 mod deepening;
 mod dismissing;
-mod gate;
 mod gather;
 mod hired;
 mod many;

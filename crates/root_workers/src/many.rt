@@ -11,7 +11,6 @@ ghost use Rattle.root_workers.specs.Shares.{IsShare, ShareCalls};
 ghost use Rattle.root_workers.specs.Crews.{IsCrew, CrewMakes, WorkerDone};
 ghost use Rattle.root_workers.specs.Splits.{OnlySplits, AreFresh};
 
-use crate::gate::{Gate, OpenGate};
 use crate::share::share_of;
 use crate::task::Task;
 use crate::work::{Work, Worker};
@@ -90,7 +89,6 @@ fn work_on<R: Wait>(
     moves: &[Move],
     count: u32,
     worker: &mut Worker,
-    gate: &(dyn Gate + Sync),
 )
     requires of { IsOfTable table.now worker.old.pass }
     requires listed { moves.now ≡ legal_moves task.now.position }
@@ -102,7 +100,7 @@ fn work_on<R: Wait>(
     ensures done { WorkerDone table.now task.now moves.now count worker.old worker.new }
 {
     let mut facts = TableFacts::new(rt, table, &mut worker.pass);
-    worker.work = share_of(alloc, task, moves, worker.number, count, &mut facts, gate);
+    worker.work = share_of(alloc, task, moves, worker.number, count, &mut facts);
 }
 
 /// Each worker's part of a round, in a thread of its own.
@@ -113,7 +111,6 @@ pub(crate) fn hand_out<R: Threads + Wait + Sync>(
     task: &Task,
     moves: &[Move],
     crew: &mut [Worker],
-    gate: &(dyn Gate + Sync),
 )
     requires crew { IsCrew table.now crew.old }
     requires listed { moves.now ≡ legal_moves task.now.position }
@@ -131,7 +128,7 @@ pub(crate) fn hand_out<R: Threads + Wait + Sync>(
         &|_, worker: &mut Worker|
             requires { IsOfTable table.now worker.now.pass × (worker.now.number < count) × (count ≤ 16) × (moves.now ≡ legal_moves task.now.position) × (1 ≤ task.now.depth) × (task.now.depth ≤ 8) × (IsNone task.now.allowance → task.now.depth ≤ 3) }
             ensures { WorkerDone table.entry.now task.entry.now moves.entry.now count worker.entry.now worker.exit.now }
-        { work_on(rt, alloc, table, task, moves, count, worker, gate) },
+        { work_on(rt, alloc, table, task, moves, count, worker) },
     );
 }
 
@@ -223,8 +220,6 @@ impl<'a, R: Threads + Wait + Sync> Crew for Many<'a, R> {
     }
 
     fn share_out(&mut self, alloc: Global, task: &Task, moves: &[Move]) {
-        hand_out(
-            self.rt, alloc, self.table, task, moves, self.crew, &OpenGate,
-        );
+        hand_out(self.rt, alloc, self.table, task, moves, self.crew);
     }
 }

@@ -8,7 +8,6 @@ ghost use Rattle.root_workers.specs.Shares.{IsShare, ShareCalls};
 ghost use Rattle.root_workers.specs.Deepens.{PartCalls};
 ghost use Rattle.root_workers.specs.Gathers.{left_after};
 
-use crate::gate::Gate;
 use crate::nowhere::Nowhere;
 use crate::task::Task;
 use crate::work::{RootMate, Work};
@@ -66,7 +65,6 @@ pub fn share_of<F: Facts>(
     number: u32,
     count: u32,
     facts: &mut F,
-    gate: &(dyn Gate + Sync),
 ) -> Work
     requires ready { F.ready facts.old }
     requires listed { moves.now ≡ legal_moves task.now.position }
@@ -80,9 +78,9 @@ pub fn share_of<F: Facts>(
     ensures calls { ShareCalls F.made facts.old facts.new task.now moves.now number count result }
 {
     if task.depth <= WITHOUT_FACTS {
-        return part_of(alloc, task, moves, number, count, &mut Nowhere, gate);
+        return part_of(alloc, task, moves, number, count, &mut Nowhere);
     }
-    part_of(alloc, task, moves, number, count, facts, gate)
+    part_of(alloc, task, moves, number, count, facts)
 }
 
 /// Searches the root moves of a worker with a place that is asked whatever the depth.
@@ -93,7 +91,6 @@ fn part_of<F: Facts>(
     number: u32,
     count: u32,
     facts: &mut F,
-    gate: &(dyn Gate + Sync),
 ) -> Work
     requires ready { F.ready facts.old }
     requires listed { moves.now ≡ legal_moves task.now.position }
@@ -110,7 +107,6 @@ fn part_of<F: Facts>(
     let mut left = task.allowance;
     let mut index = number as usize;
     while index < moves.len() {
-        gate.enter(number, index as u32);
         match search_root(alloc, task, moves[index], left, facts) {
             Ok(done) => {
                 left = left_of(left, done.units);

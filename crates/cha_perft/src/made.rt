@@ -52,14 +52,7 @@ fn made_by_white(position: &Position, depth: u8) -> Option<u64>
     requires { Color.White ≡ position.now.side }
     ensures { Tells result (lines_with depth position.now (legal_moves position.now)) }
 {
-    let side = Color::White;
-    let shields = shields_of(position);
-    let total = made_kind(position, &shields, side, Kind::Pawn, depth, 0)?;
-    let total = made_kind(position, &shields, side, Kind::Knight, depth, total)?;
-    let total = made_kind(position, &shields, side, Kind::Bishop, depth, total)?;
-    let total = made_kind(position, &shields, side, Kind::Rook, depth, total)?;
-    let total = made_kind(position, &shields, side, Kind::Queen, depth, total)?;
-    made_kind(position, &shields, side, Kind::King, depth, total)
+    made_by_side(position, Color::White, depth)
 }
 
 /// The lines that begin with a move of Black, which is to move, and have `depth` more.
@@ -69,7 +62,16 @@ fn made_by_black(position: &Position, depth: u8) -> Option<u64>
     requires { Color.Black ≡ position.now.side }
     ensures { Tells result (lines_with depth position.now (legal_moves position.now)) }
 {
-    let side = Color::Black;
+    made_by_side(position, Color::Black, depth)
+}
+
+/// The lines that begin with a move of the side to move and have `depth` more.
+#[cycle(making)]
+#[inline(always)]
+fn made_by_side(position: &Position, side: Color, depth: u8) -> Option<u64>
+    requires { side ≡ position.now.side }
+    ensures { Tells result (lines_with depth position.now (legal_moves position.now)) }
+{
     let shields = shields_of(position);
     let total = made_kind(position, &shields, side, Kind::Pawn, depth, 0)?;
     let total = made_kind(position, &shields, side, Kind::Knight, depth, total)?;

@@ -1,6 +1,5 @@
 use Rattle.std.proofs.Common.{◌≡◌, ℕ, Bool, List, ◌+◌, ◌-◌, ◌<◌, ◌^◌, ◌∷◌, Option, Some, None, refl, sym, ap, subst, ◌∙◌, arith, rules}
 use Rattle.std.specs.List.{filter, flat_map}
-use Rattle.cha_board.specs.declared.men.Color.TheVariants.{White, Black}
 use Rattle.cha_board.specs.declared.men.Kind.TheVariants.{Queen, Rook, Bishop, Knight, King}
 use Rattle.cha_board.specs.SquareSets.{set_of, has_square, squares_in}
 use Rattle.cha_board.proofs.SetLaws.{has-set_of, squares_from_first, no_first_square}
@@ -249,44 +248,44 @@ made_way-returns-else-has-2 t c =
     let last = promoted_at q man c.promoting-last.result to to_small (c.promoting-last.ensures ∙ ap (λ x. set_of (is_promoted x man.kind)) c.requires.side) in
     subst (λ (n : ℕ). Tells c.made_move.result n) (one_move c.args.depth q (move_of s to None) ∙ ap (lines_with c.args.depth q) (sym (plain_way q s to man g (sym last ∙ sym c.has-2.ensures ∙ c.if-has-2.false)))) c.made_move.ensures
 
-pub made_by_white-returns-in_err-total : goal.made_by_white-returns-in_err-total
-made_by_white-returns-in_err-total t c =
+pub made_by_side-returns-in_err-total : goal.made_by_side-returns-in_err-total
+made_by_side-returns-in_err-total t c =
     let q = c.args.position.now in
-    let all = by_kinds q (λ ms. lines_with c.args.depth q ms) White c.requires (lines_add c.args.depth q) in
+    let all = by_kinds q (λ ms. lines_with c.args.depth q ms) c.args.side c.requires (lines_add c.args.depth q) in
     let most = c.in_err-total.ensures in
     subst (λ (x : Option ℕ). Tells x (lines_with c.args.depth q (legal q))) (sym c.from_residual.ensures) (omega (arith, all, most))
 
-pub made_by_white-returns-in_err-total-2 : goal.made_by_white-returns-in_err-total-2
-made_by_white-returns-in_err-total-2 t c =
+pub made_by_side-returns-in_err-total-2 : goal.made_by_side-returns-in_err-total-2
+made_by_side-returns-in_err-total-2 t c =
     let q = c.args.position.now in
-    let all = by_kinds q (λ ms. lines_with c.args.depth q ms) White c.requires (lines_add c.args.depth q) in
+    let all = by_kinds q (λ ms. lines_with c.args.depth q ms) c.args.side c.requires (lines_add c.args.depth q) in
     let t1 = c.in_ok-total.ensures in
     let most = c.in_err-total-2.ensures in
     subst (λ (x : Option ℕ). Tells x (lines_with c.args.depth q (legal q))) (sym c.from_residual-in_err-total-2.ensures) (omega (arith, all, t1, most))
 
-pub made_by_white-returns-in_err-total-3 : goal.made_by_white-returns-in_err-total-3
-made_by_white-returns-in_err-total-3 t c =
+pub made_by_side-returns-in_err-total-3 : goal.made_by_side-returns-in_err-total-3
+made_by_side-returns-in_err-total-3 t c =
     let q = c.args.position.now in
-    let all = by_kinds q (λ ms. lines_with c.args.depth q ms) White c.requires (lines_add c.args.depth q) in
+    let all = by_kinds q (λ ms. lines_with c.args.depth q ms) c.args.side c.requires (lines_add c.args.depth q) in
     let t1 = c.in_ok-total.ensures in
     let t2 = c.in_ok-total-2.ensures in
     let most = c.in_err-total-3.ensures in
     subst (λ (x : Option ℕ). Tells x (lines_with c.args.depth q (legal q))) (sym c.from_residual-in_err-total-3.ensures) (omega (arith, all, t1, t2, most))
 
-pub made_by_white-returns-in_err-total-4 : goal.made_by_white-returns-in_err-total-4
-made_by_white-returns-in_err-total-4 t c =
+pub made_by_side-returns-in_err-total-4 : goal.made_by_side-returns-in_err-total-4
+made_by_side-returns-in_err-total-4 t c =
     let q = c.args.position.now in
-    let all = by_kinds q (λ ms. lines_with c.args.depth q ms) White c.requires (lines_add c.args.depth q) in
+    let all = by_kinds q (λ ms. lines_with c.args.depth q ms) c.args.side c.requires (lines_add c.args.depth q) in
     let t1 = c.in_ok-total.ensures in
     let t2 = c.in_ok-total-2.ensures in
     let t3 = c.in_ok-total-3.ensures in
     let most = c.in_err-total-4.ensures in
     subst (λ (x : Option ℕ). Tells x (lines_with c.args.depth q (legal q))) (sym c.from_residual-in_err-total-4.ensures) (omega (arith, all, t1, t2, t3, most))
 
-pub made_by_white-returns-in_err-total-5 : goal.made_by_white-returns-in_err-total-5
-made_by_white-returns-in_err-total-5 t c =
+pub made_by_side-returns-in_err-total-5 : goal.made_by_side-returns-in_err-total-5
+made_by_side-returns-in_err-total-5 t c =
     let q = c.args.position.now in
-    let all = by_kinds q (λ ms. lines_with c.args.depth q ms) White c.requires (lines_add c.args.depth q) in
+    let all = by_kinds q (λ ms. lines_with c.args.depth q ms) c.args.side c.requires (lines_add c.args.depth q) in
     let t1 = c.in_ok-total.ensures in
     let t2 = c.in_ok-total-2.ensures in
     let t3 = c.in_ok-total-3.ensures in
@@ -294,71 +293,14 @@ made_by_white-returns-in_err-total-5 t c =
     let most = c.in_err-total-5.ensures in
     subst (λ (x : Option ℕ). Tells x (lines_with c.args.depth q (legal q))) (sym c.from_residual-in_err-total-5.ensures) (omega (arith, all, t1, t2, t3, t4, most))
 
-pub made_by_white-returns : goal.made_by_white-returns
-made_by_white-returns t c =
+pub made_by_side-returns : goal.made_by_side-returns
+made_by_side-returns t c =
     let q = c.args.position.now in
-    let all = by_kinds q (λ ms. lines_with c.args.depth q ms) White c.requires (lines_add c.args.depth q) in
+    let all = by_kinds q (λ ms. lines_with c.args.depth q ms) c.args.side c.requires (lines_add c.args.depth q) in
     let t1 = c.in_ok-total.ensures in
     let t2 = c.in_ok-total-2.ensures in
     let t3 = c.in_ok-total-3.ensures in
     let t4 = c.in_ok-total-4.ensures in
     let t5 = c.in_ok-total-5.ensures in
-    let sum : c.in_ok-total-5.total + lines_with c.args.depth q (legal_from q (squares_in (men_of q White King))) ≡ lines_with c.args.depth q (legal q) = omega (arith, all, t1, t2, t3, t4, t5) in
-    subst (λ (n : ℕ). Tells c.made_kind-6.result n) sum c.made_kind-6.ensures
-
-pub made_by_black-returns-in_err-total : goal.made_by_black-returns-in_err-total
-made_by_black-returns-in_err-total t c =
-    let q = c.args.position.now in
-    let all = by_kinds q (λ ms. lines_with c.args.depth q ms) Black c.requires (lines_add c.args.depth q) in
-    let most = c.in_err-total.ensures in
-    subst (λ (x : Option ℕ). Tells x (lines_with c.args.depth q (legal q))) (sym c.from_residual.ensures) (omega (arith, all, most))
-
-pub made_by_black-returns-in_err-total-2 : goal.made_by_black-returns-in_err-total-2
-made_by_black-returns-in_err-total-2 t c =
-    let q = c.args.position.now in
-    let all = by_kinds q (λ ms. lines_with c.args.depth q ms) Black c.requires (lines_add c.args.depth q) in
-    let t1 = c.in_ok-total.ensures in
-    let most = c.in_err-total-2.ensures in
-    subst (λ (x : Option ℕ). Tells x (lines_with c.args.depth q (legal q))) (sym c.from_residual-in_err-total-2.ensures) (omega (arith, all, t1, most))
-
-pub made_by_black-returns-in_err-total-3 : goal.made_by_black-returns-in_err-total-3
-made_by_black-returns-in_err-total-3 t c =
-    let q = c.args.position.now in
-    let all = by_kinds q (λ ms. lines_with c.args.depth q ms) Black c.requires (lines_add c.args.depth q) in
-    let t1 = c.in_ok-total.ensures in
-    let t2 = c.in_ok-total-2.ensures in
-    let most = c.in_err-total-3.ensures in
-    subst (λ (x : Option ℕ). Tells x (lines_with c.args.depth q (legal q))) (sym c.from_residual-in_err-total-3.ensures) (omega (arith, all, t1, t2, most))
-
-pub made_by_black-returns-in_err-total-4 : goal.made_by_black-returns-in_err-total-4
-made_by_black-returns-in_err-total-4 t c =
-    let q = c.args.position.now in
-    let all = by_kinds q (λ ms. lines_with c.args.depth q ms) Black c.requires (lines_add c.args.depth q) in
-    let t1 = c.in_ok-total.ensures in
-    let t2 = c.in_ok-total-2.ensures in
-    let t3 = c.in_ok-total-3.ensures in
-    let most = c.in_err-total-4.ensures in
-    subst (λ (x : Option ℕ). Tells x (lines_with c.args.depth q (legal q))) (sym c.from_residual-in_err-total-4.ensures) (omega (arith, all, t1, t2, t3, most))
-
-pub made_by_black-returns-in_err-total-5 : goal.made_by_black-returns-in_err-total-5
-made_by_black-returns-in_err-total-5 t c =
-    let q = c.args.position.now in
-    let all = by_kinds q (λ ms. lines_with c.args.depth q ms) Black c.requires (lines_add c.args.depth q) in
-    let t1 = c.in_ok-total.ensures in
-    let t2 = c.in_ok-total-2.ensures in
-    let t3 = c.in_ok-total-3.ensures in
-    let t4 = c.in_ok-total-4.ensures in
-    let most = c.in_err-total-5.ensures in
-    subst (λ (x : Option ℕ). Tells x (lines_with c.args.depth q (legal q))) (sym c.from_residual-in_err-total-5.ensures) (omega (arith, all, t1, t2, t3, t4, most))
-
-pub made_by_black-returns : goal.made_by_black-returns
-made_by_black-returns t c =
-    let q = c.args.position.now in
-    let all = by_kinds q (λ ms. lines_with c.args.depth q ms) Black c.requires (lines_add c.args.depth q) in
-    let t1 = c.in_ok-total.ensures in
-    let t2 = c.in_ok-total-2.ensures in
-    let t3 = c.in_ok-total-3.ensures in
-    let t4 = c.in_ok-total-4.ensures in
-    let t5 = c.in_ok-total-5.ensures in
-    let sum : c.in_ok-total-5.total + lines_with c.args.depth q (legal_from q (squares_in (men_of q Black King))) ≡ lines_with c.args.depth q (legal q) = omega (arith, all, t1, t2, t3, t4, t5) in
+    let sum : c.in_ok-total-5.total + lines_with c.args.depth q (legal_from q (squares_in (men_of q c.args.side King))) ≡ lines_with c.args.depth q (legal q) = omega (arith, all, t1, t2, t3, t4, t5) in
     subst (λ (n : ℕ). Tells c.made_kind-6.result n) sum c.made_kind-6.ensures

@@ -20,6 +20,9 @@ decreases-made_by_white l = 10 * l.depth + 9
 abbrev pub decreases-made_by_black : goal.decreases-made_by_black
 decreases-made_by_black l = 10 * l.depth + 9
 
+abbrev pub decreases-made_by_side : goal.decreases-made_by_side
+decreases-made_by_side l = 10 * l.depth + 8
+
 abbrev pub decreases-made_kind : goal.decreases-made_kind
 decreases-made_kind l = 10 * l.depth + 7
 

@@ -99,7 +99,8 @@ fn made_kind(
     let mut total = before;
     let mut left = position.men(side, kind);
     while let Some(from) = left.first() {
-        let Some(sum) = made_by(position, shields, side, kind, from, depth, total) else {
+        let man = Man { color: side, kind };
+        let Some(sum) = made_by(position, shields, man, from, depth, total) else {
             return None;
         };
         total = sum;
@@ -115,25 +116,24 @@ fn made_kind(
 fn made_by(
     position: &Position,
     shields: &Shields,
-    side: Color,
-    kind: Kind,
+    man: Man,
     from: Square,
     depth: u8,
     before: u64,
 ) -> Option<u64>
-    requires side { side ≡ position.now.side }
-    requires man { man_at position.now.men from ≡ Some (record { color = side; kind = kind }) }
+    requires side { man.color ≡ position.now.side }
+    requires man { man_at position.now.men from ≡ Some man }
     requires shields { AreShields position.now shields.now.answers shields.now.screens }
     ensures { Tells result (before + lines_with depth position.now (filter (is_legal_in position.now) (moves_from from))) }
 {
-    let color = side;
-    let man = Man { color, kind };
-    let quiet = quiet_squares(position, side, kind, from);
-    let rights = rights_leaving(position, man, from);
+    let leaving = Leaving {
+        quiet: quiet_squares(position, man.color, man.kind, from),
+        rights: rights_leaving(position, man, from),
+    };
     let mut total = before;
-    let mut left = legal_ways_by(position, shields, side, kind, from);
+    let mut left = legal_ways_by(position, shields, man.color, man.kind, from);
     while let Some(to) = left.first() {
-        let lines = made_way(position, man, quiet, rights, from, to, depth);
+        let lines = made_way(position, man, &leaving, from, to, depth);
         let Some(sum) = both(Some(total), lines) else {
             return None;
         };
@@ -143,23 +143,31 @@ fn made_by(
     Some(total)
 }
 
+/// What moves of a man from its square have in common.
+#[derive(Clone, Copy)]
+struct Leaving {
+    /// The squares to which it goes quietly.
+    quiet: SquareSet,
+    /// The rights after such a move.
+    rights: Rights,
+}
+
 /// The lines that begin with a move from one square to another, to which the man there goes legally, and have `depth`
-/// more. To the squares of `quiet` it goes quietly, and the rights are these then.
+/// more.
 #[cycle(making)]
 #[inline(always)]
 fn made_way(
     position: &Position,
     man: Man,
-    quiet: SquareSet,
-    rights: Rights,
+    leaving: &Leaving,
     from: Square,
     to: Square,
     depth: u8,
 ) -> Option<u64>
     requires side { man.color ≡ position.now.side }
     requires man { man_at position.now.men from ≡ Some man }
-    requires quiet { quiet ≡ set_of (is_quiet position.now man.kind from) }
-    requires rights { (m : Move) → m.from ≡ from → is_home m.to ≡ false → rights ≡ rights_after position.now.rights m }
+    requires quiet { leaving.now.quiet ≡ set_of (is_quiet position.now man.kind from) }
+    requires rights { (m : Move) → m.from ≡ from → is_home m.to ≡ false → leaving.now.rights ≡ rights_after position.now.rights m }
     requires way { IsTrue (goes_legally position.now from to) }
     ensures { Tells result (lines_with depth position.now (legal_between position.now from to)) }
 {
@@ -172,8 +180,8 @@ fn made_way(
         to,
         promotion,
     };
-    if quiet.has(to) {
-        let next = after_quiet(position, man.color, man.kind, rights, m);
+    if leaving.quiet.has(to) {
+        let next = after_quiet(position, man.color, man.kind, leaving.rights, m);
         return count_made(&next, depth);
     }
     let last = promoting(man.color, man.kind);

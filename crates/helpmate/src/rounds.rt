@@ -94,6 +94,6 @@ fn looked<F: Facts>(
             Some(answer) => answer,
             None => search_shallow(position, winner, depth, left),
         },
-        Probe::Miss => search_shallow(position, winner, depth, left),
+        Probe::Miss | Probe::Refused => search_shallow(position, winner, depth, left),
     }
 }

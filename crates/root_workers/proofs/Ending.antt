@@ -16,7 +16,7 @@ use Rattle.cha_limits.specs.Bounds.{Bounds}
 use Rattle.cha_fact.specs.declared.fact.Fact.{Fact}
 use Rattle.cha_fact.specs.declared.fact.Fact.TheVariants.{Mate as MateFact, NoneWithin as NoneFact}
 use Rattle.cha_fact.specs.declared.calls.Probe.{Probe}
-use Rattle.cha_fact.specs.declared.calls.Probe.TheVariants.{Found, Miss}
+use Rattle.cha_fact.specs.declared.calls.Probe.TheVariants.{Found, Miss, Refused}
 use Rattle.cha_fact.specs.Keys.{key_of}
 use Rattle.cha_fact.specs.Truths.{Claim}
 use Rattle.cha_fact.specs.Entries.{Entry, probe_entry, store_entry, HasFound, IsSearched}
@@ -100,6 +100,7 @@ decided_none made made_by count old new q w limits reply row depth entered grow 
 
 follows_none : (depth : ℕ) (reply : Probe) (rest : List Entry) (end : RoundsEnd) → IsUndecided depth reply → FollowsFirst depth reply rest end
 follows_none depth Miss rest end und = tt
+follows_none depth Refused rest end und = tt
 follows_none depth (Found row) rest end und = λ answer says. absurd (some_none answer (decided_by depth row.fact) says und)
 
 ok_holds : (P : RoundsEnd → Type 0) (result : Result RoundsEnd NoMemory) (end : RoundsEnd) → IfOk result P → result ≡ Ok end → P end

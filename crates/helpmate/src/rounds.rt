@@ -94,6 +94,7 @@ fn looked<F: Facts>(
             Some(answer) => answer,
             None => search_shallow(position, winner, depth, left),
         },
-        Probe::Miss | Probe::Refused => search_shallow(position, winner, depth, left),
+        Probe::Miss => search_shallow(position, winner, depth, left),
+        Probe::Refused => search_shallow(position, winner, depth, left),
     }
 }

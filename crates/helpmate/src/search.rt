@@ -95,7 +95,8 @@ fn search_deep<F: Facts>(
             Some(answer) => Ok(answer),
             None => expand(alloc, position, winner, depth, left, facts),
         },
-        Probe::Miss | Probe::Refused => expand(alloc, position, winner, depth, left, facts),
+        Probe::Miss => expand(alloc, position, winner, depth, left, facts),
+        Probe::Refused => expand(alloc, position, winner, depth, left, facts),
     }
 }
 

@@ -167,6 +167,18 @@ undecided_found depth other reply row is none same = subst (λ (p : Probe). IsUn
 pub undecided_missed : (depth : ℕ) (reply : Probe) → reply ≡ Miss → IsUndecided depth reply
 undecided_missed depth reply is = subst (λ (p : Probe). IsUndecided depth p) (sym is) tt
 
+pub undecided_refused : (depth : ℕ) (reply : Probe) → reply ≡ Refused → IsUndecided depth reply
+undecided_refused depth reply is = subst (λ (p : Probe). IsUndecided depth p) (sym is) tt
+
+-- the calls of the rounds whose answer cannot be kept
+pub deepened_refused : {S : Type 0} (made_by : ℕ → S → List Entry → S → Type 0) (old mid new : S) (q : Board) (w : Color) (from count : ℕ) (inner result : Result RoundsEnd NoMemory)
+    → DeepenCalls made_by old mid q w from count inner → new ≡ mid → ((end : RoundsEnd) → result ≡ Ok end → ⊥) → DeepenCalls made_by old new q w from count result
+unfolding DeepenCalls
+deepened_refused {S} made_by old mid new q w from count inner result deepened same refused i less =
+    let d = deepened i less in
+    let M : S → Type 0 = λ s. made_by i old d.0 s in
+    (d.0, subst M (sym same) d.1, (λ n is more deep. absurd (refused (NoneWithin n) is)))
+
 -- the calls of the first worker where nothing is kept
 pub kept_nothing : {S : Type 0} (made : S → List Entry → S → Type 0) (made_by : ℕ → S → List Entry → S → Type 0) (old new : S) (q : Board) (w : Color) (from most count : ℕ) (inner result : Result RoundsEnd NoMemory)
     → ((a b : S) (xs : List Entry) → made_by 0 a xs b → made a xs b) → DeepenCalls made_by old new q w from count inner → 0 < count → ((end : RoundsEnd) → result ≡ Ok end → ⊥) → KeptCalls made old new q w most result

@@ -202,8 +202,7 @@ pub fn rounds_by<C: Crew>(
                 deepen_and_keep(alloc, position, winner, limits, from, crew)
             }
         },
-        Probe::Miss | Probe::Refused => {
-            deepen_and_keep(alloc, position, winner, limits, 0, crew)
-        }
+        Probe::Miss => deepen_and_keep(alloc, position, winner, limits, 0, crew),
+        Probe::Refused => deepen_and_keep(alloc, position, winner, limits, 0, crew),
     }
 }

@@ -20,7 +20,8 @@ pub fn known_mate<F: Facts>(position: &Position, winner: Color, facts: &mut F) -
 {
     match facts.probe(&Key::of(position, winner)) {
         Probe::Found(row) => mate_of(position, winner, &row),
-        Probe::Miss | Probe::Refused => None,
+        Probe::Miss => None,
+        Probe::Refused => None,
     }
 }
 

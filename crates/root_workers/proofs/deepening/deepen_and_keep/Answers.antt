@@ -29,7 +29,6 @@ returns-in_err-keep-clause-calls g c =
 
 pub returns-in_err-keep-clause-kept : goal.returns-in_err-keep-clause-kept
 returns-in_err-keep-clause-kept g c =
-    let none = λ done is. no_answer c.from_residual-in_err-keep.result done c.from_residual-in_err-keep.ensures.0 is in
     kept_nothing g.C.Facts.made g.C.Crew.made_by c.args.crew.now c.keep.new.crew c.args.position.now c.args.winner c.args.from c.args.limits.now.depth (g.C.Crew.count c.args.crew.now) c.from_residual-in_err-keep.result c.from_residual-in_err-keep.result g.met.C.Crew.made_first
-    (deepened_refused g.C.Crew.made_by c.args.crew.now c.deepen.new.crew c.keep.new.crew c.args.position.now c.args.winner c.args.from (g.C.Crew.count c.args.crew.now) c.deepen.result c.from_residual-in_err-keep.result c.deepen.ensures.calls c.in_err-keep.ensures.unchanged none)
-    (g.met.C.Crew.some_workers c.args.crew.now c.requires.ready) none
+    (deepened_refused g.C.Crew.made_by c.args.crew.now c.deepen.new.crew c.keep.new.crew c.args.position.now c.args.winner c.args.from (g.C.Crew.count c.args.crew.now) c.deepen.result c.from_residual-in_err-keep.result c.deepen.ensures.calls c.in_err-keep.ensures.unchanged (λ done is. no_answer c.from_residual-in_err-keep.result done c.from_residual-in_err-keep.ensures.0 is))
+    (g.met.C.Crew.some_workers c.args.crew.now c.requires.ready) (λ done is. no_answer c.from_residual-in_err-keep.result done c.from_residual-in_err-keep.ensures.0 is)

@@ -7,7 +7,7 @@ use Rattle.cha_moves.specs.Moves.{after, legal}
 use Rattle.cha_fact.specs.declared.fact.Fact.TheVariants.{NoneWithin}
 use Rattle.cha_fact.specs.declared.key.Key.{Key}
 use Rattle.cha_fact.specs.declared.calls.Probe.{Probe}
-use Rattle.cha_fact.specs.declared.calls.Probe.TheVariants.{Found, Miss}
+use Rattle.cha_fact.specs.declared.calls.Probe.TheVariants.{Found, Miss, Refused}
 use Rattle.cha_fact.specs.declared.calls.Stored.{Stored}
 use Rattle.cha_fact.specs.declared.calls.FactCall.{FactCall}
 use Rattle.cha_fact.specs.declared.calls.FactCall.TheVariants.{Probe as Asked, Store}
@@ -35,6 +35,7 @@ MadeSome made old new = (entries : List Entry) × made old entries new
 abbrev pub IsOfKey : Key → Probe → Type 0
 IsOfKey key (Found row) = key_of row.position row.winner ≡ key
 IsOfKey key Miss = ⊤
+IsOfKey key Refused = ⊤
 
 -- that no list of at most so many legal moves mates
 abbrev pub none_within : Board → Color → ℕ → Claim

@@ -10,6 +10,8 @@ pub enum Probe {
     Found(Proved),
     /// Nothing is known under it.
     Miss,
+    /// A mate is known under that key, and memory for a copy of its line was refused.
+    Refused,
 }
 
 /// The answer of a place of facts that is given a fact to keep.

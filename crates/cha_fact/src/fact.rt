@@ -1,15 +1,17 @@
 //! What may be known of a position and a side.
 
-ghost use Rattle.std.specs.Prelude.{◌≡◌};
-ghost use Rattle.cha_fact.specs.Truths.{rank_of};
+ghost use Rattle.std.specs.Prelude.{◌≡◌, IsTrue, IsErr, IfOk};
+ghost use Rattle.cha_fact.specs.Truths.{is_mate, rank_of};
 
-use crate::line::Line;
+use crate::kept_line::KeptLine;
+use cha_list::NoMemory;
+use std::alloc::Global;
 
 /// What may be known of whether a side can mate from a position.
 #[derive(Drop)]
 pub enum Fact {
     /// This line of legal moves mates: a helpmate.
-    Mate(Line),
+    Mate(KeptLine),
     /// No list of at most so many legal moves mates.
     NoneWithin(u8),
 }
@@ -26,13 +28,17 @@ impl Fact {
         }
     }
 
-    /// A copy of the fact.
-    pub fn copy(&self) -> Fact
-        ensures { result ≡ self.now }
+    /// A copy of the fact. Memory is taken for the line of a mate alone.
+    pub fn copy(&self, alloc: Global) -> Result<Fact, NoMemory>
+        ensures value { IfOk result (λ fact. fact ≡ self.now) }
+        ensures refused { IsErr result → IsTrue (is_mate self.now) }
     {
         match self {
-            Fact::Mate(line) => Fact::Mate(line.copy()),
-            Fact::NoneWithin(depth) => Fact::NoneWithin(*depth),
+            Fact::Mate(line) => match line.copy(alloc) {
+                Ok(line) => Ok(Fact::Mate(line)),
+                Err(refused) => Err(refused),
+            },
+            Fact::NoneWithin(depth) => Ok(Fact::NoneWithin(*depth)),
         }
     }
 }

@@ -70,14 +70,22 @@ impl Line {
         Some(Line { moves })
     }
 
+    /// The line of these moves.
+    pub fn of(moves: &[Move]) -> Line
+        requires { length moves.now ≤ 64 }
+        ensures { result ≡ moves.now }
+    {
+        let mut kept = ArrayVec::new();
+        for m in moves {
+            kept.push(*m);
+        }
+        Line { moves: kept }
+    }
+
     /// A copy of the line.
     pub fn copy(&self) -> Line
         ensures { result ≡ self.now }
     {
-        let mut moves = ArrayVec::new();
-        for m in self.moves.as_slice() {
-            moves.push(*m);
-        }
-        Line { moves }
+        Line::of(self.moves.as_slice())
     }
 }

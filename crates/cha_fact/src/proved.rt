@@ -1,17 +1,18 @@
 //! What is known and true.
 
-ghost use Rattle.std.specs.Prelude.{◌≡◌, ◌∷◌, ◌↔◌, length, IsTrue, IsNone, IfSome, Contains};
+ghost use Rattle.std.specs.Prelude.{◌≡◌, IsTrue, IsErr, IfOk};
 ghost use Rattle.cha_board.specs.Board.{IsValid};
-ghost use Rattle.cha_moves.specs.Moves.{after, legal};
 ghost use Rattle.cha_moves.specs.Ends.{IsMatingLine, HasNoMateWithin};
 ghost use Rattle.cha_fact.specs.Keys.{key_of};
-ghost use Rattle.cha_fact.specs.Truths.{IsTrueOf, is_mate, line_of, rank_of};
+ghost use Rattle.cha_fact.specs.Truths.{IsTrueOf, is_mate, rank_of};
 
 use crate::fact::Fact;
+use crate::kept_line::KeptLine;
 use crate::key::Key;
 use crate::line::Line;
 use cha_board::{Color, Position};
-use cha_moves::Move;
+use cha_list::NoMemory;
+use std::alloc::Global;
 use std::marker::Model;
 
 /// A position, a side and a fact that is true of them: the line mates for the side from this position, or no list of at
@@ -34,19 +35,25 @@ impl Model for Proved {
 }
 
 impl Proved {
-    /// The fact that this line of legal moves mates for a side.
-    pub fn mate(position: &Position, winner: Color, line: Line) -> Proved
-        requires { IsMatingLine position.now winner line }
-        ensures { result ≡ record { position = position.now; winner = winner; fact = Fact.Mate line } }
+    /// The fact that this line of legal moves mates for a side. Memory is taken for the line.
+    pub fn mate(
+        alloc: Global,
+        position: &Position,
+        winner: Color,
+        line: &Line,
+    ) -> Result<Proved, NoMemory>
+        requires { IsMatingLine position.now winner line.now }
+        ensures { IfOk result (λ row. row ≡ record { position = position.now; winner = winner; fact = Fact.Mate line.now }) }
     {
-        Proved {
+        let line = KeptLine::of(alloc, line)?;
+        Ok(Proved {
             position: *position,
             winner,
             fact: Fact::Mate(line),
-        }
+        })
     }
 
-    /// That no list of at most so many legal moves mates for a side.
+    /// That no list of at most so many legal moves mates for a side. It takes no memory.
     pub fn none(position: &Position, winner: Color, depth: u8) -> Proved
         requires { HasNoMateWithin position.now winner depth }
         ensures { result ≡ record { position = position.now; winner = winner; fact = Fact.NoneWithin depth } }
@@ -55,24 +62,6 @@ impl Proved {
             position: *position,
             winner,
             fact: Fact::NoneWithin(depth),
-        }
-    }
-
-    /// The mate of the position before a legal move, from the mate of the position after it. None comes exactly where that
-    /// line has 64 moves.
-    pub fn step(before: &Position, first: Move, rest: &Proved) -> Option<Proved>
-        requires legal { Contains (legal before.now) first }
-        requires leads { rest.now.position ≡ after before.now first }
-        requires mates { IsTrue (is_mate rest.now.fact) }
-        ensures full { IsNone result ↔ (length (line_of rest.now.fact) ≡ 64) }
-        ensures value { IfSome result (λ row. row ≡ record { position = before.now; winner = rest.now.winner; fact = Fact.Mate (first ∷ line_of rest.now.fact) }) }
-    {
-        match &rest.fact {
-            Fact::Mate(line) => match line.led_by(first) {
-                Some(longer) => Some(Proved::mate(before, rest.winner, longer)),
-                None => None,
-            },
-            Fact::NoneWithin(_) => unreachable!(),
         }
     }
 
@@ -114,14 +103,18 @@ impl Proved {
         self.fact.rank()
     }
 
-    /// A copy of the fact, with its position and side.
-    pub fn copy(&self) -> Proved
-        ensures { result ≡ self.now }
+    /// A copy of the fact, with its position and side. Memory is taken for the line of a mate alone.
+    pub fn copy(&self, alloc: Global) -> Result<Proved, NoMemory>
+        ensures value { IfOk result (λ row. row ≡ self.now) }
+        ensures refused { IsErr result → IsTrue (is_mate self.now.fact) }
     {
-        Proved {
-            position: self.position,
-            winner: self.winner,
-            fact: self.fact.copy(),
+        match self.fact.copy(alloc) {
+            Ok(fact) => Ok(Proved {
+                position: self.position,
+                winner: self.winner,
+                fact,
+            }),
+            Err(refused) => Err(refused),
         }
     }
 }

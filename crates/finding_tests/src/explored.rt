@@ -72,11 +72,11 @@ fn a_budget_is_spent_to_the_last(rt: HostRuntime) {
 }
 
 /// A mate by this move, as what is known of a position.
-fn mate_by(rt: &impl Abort, position: &Position, first: Move) -> Proved {
+fn mate_by(rt: &impl Abort, alloc: Global, position: &Position, first: Move) -> Proved {
     let mut line = Line::new();
     line.push(first);
     assert!(rt; replays(position, Color::White, line.moves()));
-    Proved::mate(position, Color::White, line)
+    Proved::mate(alloc, position, Color::White, &line).expect(rt, "memory")
 }
 
 #[test]
@@ -88,7 +88,7 @@ fn a_mate_that_a_place_knows_ends_it(rt: HostRuntime) {
         to: Square::new(56).expect(&rt, "a square"),
         promotion: None,
     };
-    let _stored = shard.store(mate_by(&rt, &position, first));
+    let _stored = shard.store(mate_by(&rt, rt.alloc(), &position, first));
     match explored(&rt, rt.alloc(), &position, 1, &mut shard) {
         Explored::Mate(moves) => assert!(rt; moves.items() == [first].as_slice()),
         _ => panic!(rt; "no mate"),

@@ -7,6 +7,7 @@ use cha_board::{Color, Square};
 use cha_fact::{FactCall, FactReply, Facts, Key, Line, Probe, Proved, Stored};
 use cha_moves::{Move, replays};
 use shard_table::Shard;
+use std::alloc::Global;
 use std::process::Abort;
 use turn_cell::Object;
 
@@ -33,24 +34,24 @@ fn add(rt: &impl Abort, line: &mut Line, steps: &[(u8, u8)]) {
 }
 
 /// A mate.
-fn mate(rt: &impl Abort, fen: &str, winner: Color, line: Line) -> Proved {
+fn mate(rt: &impl Abort, alloc: Global, fen: &str, winner: Color, line: &Line) -> Proved {
     let position = place(rt, fen);
     assert!(rt; replays(&position, winner, line.moves()));
-    Proved::mate(&position, winner, line)
+    Proved::mate(alloc, &position, winner, line).expect(rt, "memory")
 }
 
 /// The mate in two moves, after the knights went out and back so often.
-fn detour(rt: &impl Abort, times: u8) -> Proved {
+fn detour(rt: &impl Abort, alloc: Global, times: u8) -> Proved {
     let mut line = Line::new();
     for _ in 0..times {
         add(rt, &mut line, KNIGHTS);
     }
     add(rt, &mut line, TWO_MOVES);
-    mate(rt, OPEN, Color::Black, line)
+    mate(rt, alloc, OPEN, Color::Black, &line)
 }
 
-fn mated(rt: &impl Abort) -> Proved {
-    mate(rt, MATED, Color::White, Line::new())
+fn mated(rt: &impl Abort, alloc: Global) -> Proved {
+    mate(rt, alloc, MATED, Color::White, &Line::new())
 }
 
 /// How much a place knows of a key.
@@ -60,6 +61,7 @@ fn known<F: Facts>(facts: &mut F, key: &Key) -> Option<u32>
     match facts.probe(key) {
         Probe::Found(row) => Some(row.rank()),
         Probe::Miss => None,
+        Probe::Refused => None,
     }
 }
 
@@ -87,13 +89,18 @@ fn a_shard_of_one_row_replies_as_told(rt: HostRuntime) {
     let position = place(&rt, OPEN);
     let key = Key::of(&position, Color::Black);
     knows(&rt, &mut shard, &key, None);
-    replies(&rt, &mut shard, detour(&rt, 1), Stored::Added);
-    replies(&rt, &mut shard, detour(&rt, 2), Stored::Kept);
+    replies(&rt, &mut shard, detour(&rt, rt.alloc(), 1), Stored::Added);
+    replies(&rt, &mut shard, detour(&rt, rt.alloc(), 2), Stored::Kept);
     knows(&rt, &mut shard, &key, Some(994));
-    replies(&rt, &mut shard, detour(&rt, 0), Stored::Better);
+    replies(&rt, &mut shard, detour(&rt, rt.alloc(), 0), Stored::Better);
     knows(&rt, &mut shard, &key, Some(998));
     knows(&rt, &mut shard, &Key::of(&position, Color::White), None);
-    replies(&rt, &mut shard, mated(&rt), Stored::Evicted(key));
+    replies(
+        &rt,
+        &mut shard,
+        mated(&rt, rt.alloc()),
+        Stored::Evicted(key),
+    );
     knows(&rt, &mut shard, &key, None);
 }
 
@@ -101,13 +108,14 @@ fn a_shard_of_one_row_replies_as_told(rt: HostRuntime) {
 fn the_row_used_longest_ago_goes(rt: HostRuntime) {
     let mut shard = Shard::new(rt.alloc(), 2).expect(&rt, "memory");
     let key = Key::of(&place(&rt, OPEN), Color::Black);
-    assert!(rt; shard.store(detour(&rt, 0)) == Stored::Added);
-    let first = mated(&rt);
+    assert!(rt; shard.store(detour(&rt, rt.alloc(), 0)) == Stored::Added);
+    let first = mated(&rt, rt.alloc());
     let last = first.key();
     assert!(rt; shard.store(first) == Stored::Added);
     knows(&rt, &mut shard, &key, Some(998));
     let mut line = Line::new();
     add(&rt, &mut line, &[(0, 56)]);
-    let row = mate(&rt, "6k1/5ppp/8/8/8/8/8/R3K3 w - -", Color::White, line);
+    let back_rank = "6k1/5ppp/8/8/8/8/8/R3K3 w - -";
+    let row = mate(&rt, rt.alloc(), back_rank, Color::White, &line);
     assert!(rt; shard.store(row) == Stored::Evicted(last));
 }

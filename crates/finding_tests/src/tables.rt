@@ -68,6 +68,7 @@ fn known<F: Facts>(facts: &mut F, key: &Key) -> Option<u32>
     match facts.probe(key) {
         Probe::Found(row) => Some(row.rank()),
         Probe::Miss => None,
+        Probe::Refused => None,
     }
 }
 
@@ -234,7 +235,8 @@ fn a_shard_of_one_row_keeps_the_last_key(rt: HostRuntime) {
     assert_eq!(rt; shard_of(&key), shard_of(&Key::of(&out, Color::White)));
     let row = none_within(&rt, &home, 0);
     let (table, mut pass) = Table::new(rt.alloc(), 1).expect(&rt, "memory");
-    replies(&rt, &table, &mut pass, row.copy(), Stored::Added);
+    let copy = row.copy(rt.alloc()).expect(&rt, "memory");
+    replies(&rt, &table, &mut pass, copy, Stored::Added);
     replies(&rt, &table, &mut pass, row, Stored::Kept);
     knows(&rt, &table, &mut pass, &key, Some(0));
     replies(

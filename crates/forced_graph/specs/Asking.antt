@@ -7,7 +7,7 @@ use Rattle.cha_moves.specs.Step.{Move}
 use Rattle.cha_fact.specs.declared.fact.Fact.{Fact}
 use Rattle.cha_fact.specs.declared.fact.Fact.TheVariants.{Mate as MateFact, NoneWithin as NoneFact}
 use Rattle.cha_fact.specs.declared.calls.Probe.{Probe}
-use Rattle.cha_fact.specs.declared.calls.Probe.TheVariants.{Found, Miss}
+use Rattle.cha_fact.specs.declared.calls.Probe.TheVariants.{Found, Miss, Refused}
 use Rattle.cha_fact.specs.Keys.{key_of}
 use Rattle.cha_fact.specs.Entries.{Entry, probe_entry}
 use Rattle.cha_cert.specs.declared.nodes.Node.{Node}
@@ -20,9 +20,10 @@ abbrev pub line_of_fact : Fact → Option (List Move)
 line_of_fact (MateFact line) = Some line
 line_of_fact (NoneFact n) = None
 
--- the line of a reply, if it is a mate
+-- the line of a reply, if it is a mate; there is none where memory for it was refused
 abbrev pub line_of_reply : Probe → Option (List Move)
 line_of_reply Miss = None
+line_of_reply Refused = None
 line_of_reply (Found row) = line_of_fact row.fact
 
 -- a place was asked once, for a position, and its reply is the answer

@@ -9,7 +9,8 @@ ghost use Rattle.forced_graph.specs.Asking.{line_of_fact, IsAsked};
 use cha_board::{Color, Position};
 use cha_fact::{Fact, Facts, Key, Line, Probe, Proved};
 
-/// The line that mates from a position, if a place knows one. It is asked once, and its reply is the answer.
+/// The line that mates from a position, if a place knows one and is not refused memory for it. It is asked once, and its reply is
+/// the answer.
 pub fn known_mate<F: Facts>(position: &Position, winner: Color, facts: &mut F) -> Option<Line>
     requires ready { F.ready facts.old }
     ensures stays_ready { F.ready facts.new }
@@ -20,6 +21,7 @@ pub fn known_mate<F: Facts>(position: &Position, winner: Color, facts: &mut F) -
     match facts.probe(&Key::of(position, winner)) {
         Probe::Found(row) => mate_of(position, winner, &row),
         Probe::Miss => None,
+        Probe::Refused => None,
     }
 }
 
@@ -33,7 +35,7 @@ fn mate_of(position: &Position, winner: Color, row: &Proved) -> Option<Line>
     position.known();
     let _valid = row.position();
     match row.fact() {
-        Fact::Mate(line) => Some(line.copy()),
+        Fact::Mate(line) => Some(Line::of(line.moves())),
         Fact::NoneWithin(_) => None,
     }
 }

@@ -12,7 +12,7 @@ use Rattle.cha_moves.specs.Moves.{after, legal}
 use Rattle.cha_moves.specs.Ends.{IsMated, HasNoMateWithin}
 use Rattle.cha_moves.proofs.Contained.{not_in_nothing, Contains-cons_here}
 use Rattle.cha_fact.specs.declared.calls.Probe.{Probe}
-use Rattle.cha_fact.specs.declared.calls.Probe.TheVariants.{Found, Miss}
+use Rattle.cha_fact.specs.declared.calls.Probe.TheVariants.{Found, Miss, Refused}
 use Rattle.cha_fact.specs.declared.calls.Stored.{Stored}
 use Rattle.cha_fact.specs.Truths.{Claim}
 use Rattle.cha_fact.specs.Keys.{key_of}
@@ -264,6 +264,9 @@ undecided q w d units reply row is none rest a expanded =
 
 pub missed : (q : Board) (w : Color) (d units : ℕ) (reply : Probe) → reply ≡ Miss → (rest : List Entry) (a : RoundAnswer) → AreExpandedBy rest q w d a units → FollowsProbe q w d reply rest a units
 missed q w d units reply is rest a expanded = (let F : Probe → Type 0 = λ p. FollowsProbe q w d p rest a units in subst F (sym is) expanded)
+
+pub refused : (q : Board) (w : Color) (d units : ℕ) (reply : Probe) → reply ≡ Refused → (rest : List Entry) (a : RoundAnswer) → AreExpandedBy rest q w d a units → FollowsProbe q w d reply rest a units
+refused q w d units reply is rest a expanded = (let F : Probe → Type 0 = λ p. FollowsProbe q w d p rest a units in subst F (sym is) expanded)
 
 the_done : (a b : RoundDone) (o : Result RoundDone NoMemory) → o ≡ Ok a → o ≡ Ok b → a ≡ b
 the_done a b o e f = cc

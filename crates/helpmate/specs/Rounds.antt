@@ -10,7 +10,7 @@ use Rattle.cha_moves.specs.Ends.{IsMated, IsMatingLine, HasNoMateWithin}
 use Rattle.cha_fact.specs.declared.fact.Fact.{Fact}
 use Rattle.cha_fact.specs.declared.fact.Fact.TheVariants.{Mate as MateFact, NoneWithin as NoneFact}
 use Rattle.cha_fact.specs.declared.calls.Probe.{Probe}
-use Rattle.cha_fact.specs.declared.calls.Probe.TheVariants.{Found, Miss}
+use Rattle.cha_fact.specs.declared.calls.Probe.TheVariants.{Found, Miss, Refused}
 use Rattle.cha_fact.specs.declared.calls.Stored.{Stored}
 use Rattle.cha_fact.specs.Keys.{key_of}
 use Rattle.cha_fact.specs.Entries.{Entry, probe_entry, store_entry, none_within, IsSearched}
@@ -35,10 +35,11 @@ abbrev pub decided_by : ℕ → Fact → Option RoundAnswer
 decided_by depth (MateFact line) = if nat_lt 32 (length line) then None else Some (Mate line)
 decided_by depth (NoneFact n) = if nat_lt n depth then None else Some NoneWithin
 
--- what was found decides a search, if it can: the search has that answer, and made no further call and expanded nothing; and else
--- the position was searched
+-- what was found decides a search, if it can: the search has that answer, and made no further call and expanded nothing; and else,
+-- also where nothing was found or memory for it was refused, the position was searched
 abbrev pub FollowsReply : ℕ → Probe → List Entry → RoundAnswer → ℕ → Type 0 → Type 0
 FollowsReply depth Miss rest answer n searched = searched
+FollowsReply depth Refused rest answer n searched = searched
 FollowsReply depth (Found row) rest answer n searched =
     ((known : RoundAnswer) → decided_by depth row.fact ≡ Some known → (answer ≡ known) × (n ≡ 0) × (rest ≡ [])) × (decided_by depth row.fact ≡ None → searched)
 

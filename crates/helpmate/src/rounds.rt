@@ -95,5 +95,6 @@ fn looked<F: Facts>(
             None => search_shallow(position, winner, depth, left),
         },
         Probe::Miss => search_shallow(position, winner, depth, left),
+        Probe::Refused => search_shallow(position, winner, depth, left),
     }
 }

@@ -96,6 +96,7 @@ fn search_deep<F: Facts>(
             None => expand(alloc, position, winner, depth, left, facts),
         },
         Probe::Miss => expand(alloc, position, winner, depth, left, facts),
+        Probe::Refused => expand(alloc, position, winner, depth, left, facts),
     }
 }
 

@@ -29,6 +29,7 @@ fn is_known<F: Facts>(position: &Position, winner: Color, plies: u8, facts: &mut
             None => false,
         },
         Probe::Miss => false,
+        Probe::Refused => false,
     }
 }
 

@@ -16,7 +16,7 @@ use Rattle.cha_limits.specs.Bounds.{Bounds}
 use Rattle.cha_fact.specs.declared.fact.Fact.{Fact}
 use Rattle.cha_fact.specs.declared.fact.Fact.TheVariants.{Mate as MateFact, NoneWithin as NoneFact}
 use Rattle.cha_fact.specs.declared.calls.Probe.{Probe}
-use Rattle.cha_fact.specs.declared.calls.Probe.TheVariants.{Found, Miss}
+use Rattle.cha_fact.specs.declared.calls.Probe.TheVariants.{Found, Miss, Refused}
 use Rattle.cha_fact.specs.Keys.{key_of}
 use Rattle.cha_fact.specs.Truths.{Claim}
 use Rattle.cha_fact.specs.Entries.{Entry, probe_entry, store_entry, HasFound, IsSearched}
@@ -100,6 +100,7 @@ decided_none made made_by count old new q w limits reply row depth entered grow 
 
 follows_none : (depth : ℕ) (reply : Probe) (rest : List Entry) (end : RoundsEnd) → IsUndecided depth reply → FollowsFirst depth reply rest end
 follows_none depth Miss rest end und = tt
+follows_none depth Refused rest end und = tt
 follows_none depth (Found row) rest end und = λ answer says. absurd (some_none answer (decided_by depth row.fact) says und)
 
 ok_holds : (P : RoundsEnd → Type 0) (result : Result RoundsEnd NoMemory) (end : RoundsEnd) → IfOk result P → result ≡ Ok end → P end
@@ -165,6 +166,18 @@ undecided_found depth other reply row is none same = subst (λ (p : Probe). IsUn
 
 pub undecided_missed : (depth : ℕ) (reply : Probe) → reply ≡ Miss → IsUndecided depth reply
 undecided_missed depth reply is = subst (λ (p : Probe). IsUndecided depth p) (sym is) tt
+
+pub undecided_refused : (depth : ℕ) (reply : Probe) → reply ≡ Refused → IsUndecided depth reply
+undecided_refused depth reply is = subst (λ (p : Probe). IsUndecided depth p) (sym is) tt
+
+-- the calls of the rounds whose answer cannot be kept
+pub deepened_refused : {S : Type 0} (made_by : ℕ → S → List Entry → S → Type 0) (old mid new : S) (q : Board) (w : Color) (from count : ℕ) (inner result : Result RoundsEnd NoMemory)
+    → DeepenCalls made_by old mid q w from count inner → new ≡ mid → ((end : RoundsEnd) → result ≡ Ok end → ⊥) → DeepenCalls made_by old new q w from count result
+unfolding DeepenCalls
+deepened_refused {S} made_by old mid new q w from count inner result deepened same refused i less =
+    let d = deepened i less in
+    let M : S → Type 0 = λ s. made_by i old d.0 s in
+    (d.0, subst M (sym same) d.1, (λ n is more deep. absurd (refused (NoneWithin n) is)))
 
 -- the calls of the first worker where nothing is kept
 pub kept_nothing : {S : Type 0} (made : S → List Entry → S → Type 0) (made_by : ℕ → S → List Entry → S → Type 0) (old new : S) (q : Board) (w : Color) (from most count : ℕ) (inner result : Result RoundsEnd NoMemory)

@@ -11,7 +11,7 @@ use Rattle.cha_limits.specs.Bounds.{Bounds}
 use Rattle.cha_fact.specs.declared.fact.Fact.{Fact}
 use Rattle.cha_fact.specs.declared.fact.Fact.TheVariants.{Mate as MateFact, NoneWithin as NoneFact}
 use Rattle.cha_fact.specs.declared.calls.Probe.{Probe}
-use Rattle.cha_fact.specs.declared.calls.Probe.TheVariants.{Found, Miss}
+use Rattle.cha_fact.specs.declared.calls.Probe.TheVariants.{Found, Miss, Refused}
 use Rattle.cha_fact.specs.declared.calls.Stored.{Stored}
 use Rattle.cha_fact.specs.Keys.{key_of}
 use Rattle.cha_fact.specs.Truths.{Claim}
@@ -47,11 +47,13 @@ IsDecidedEnd depth Spent end = ⊥
 -- what was found first is the answer without a further call, where it decides
 abbrev pub FollowsFirst : ℕ → Probe → List Entry → RoundsEnd → Type 0
 FollowsFirst depth Miss rest end = ⊤
+FollowsFirst depth Refused rest end = ⊤
 FollowsFirst depth (Found row) rest end = (answer : RoundAnswer) → decided_by depth row.fact ≡ Some answer → IsDecidedEnd depth answer end × (rest ≡ [])
 
--- what was found does not decide
+-- what was found, if anything was, does not decide
 abbrev pub IsUndecided : ℕ → Probe → Type 0
 IsUndecided depth Miss = ⊤
+IsUndecided depth Refused = ⊤
 IsUndecided depth (Found row) = decided_by depth row.fact ≡ None
 
 -- an answer as a fact

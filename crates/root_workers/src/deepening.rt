@@ -1,6 +1,6 @@
 //! The rounds, one after the other.
 
-ghost use Rattle.std.specs.Prelude.{◌≡◌, ◌≢◌, ℕ, ◌+◌, ◌-◌, ◌<◌, ◌≤◌, ◌⊎◌, [], ◌∷◌, length, List, Some, None, Ok, IsNone, IfOk, OnErr, Contains, true};
+ghost use Rattle.std.specs.Prelude.{◌≡◌, ◌≢◌, ℕ, ◌+◌, ◌-◌, ◌<◌, ◌≤◌, ◌⊎◌, [], ◌∷◌, length, List, Some, None, Ok, IsNone, IfOk, OnOk, OnErr, Contains, true};
 ghost use Rattle.cha_board.specs.Men.{other_color};
 ghost use Rattle.cha_moves.specs.Step.{Move as Step};
 ghost use Rattle.cha_moves.specs.Moves.{legal as legal_moves};
@@ -61,19 +61,27 @@ fn one_round<C: Crew>(
     gathered(task, moves, crew)
 }
 
-/// Gives what the rounds found out to keep.
-fn keep<C: Crew>(position: &Position, winner: Color, end: &RoundsEnd, crew: &mut C)
+/// Gives what the rounds found out to keep. Memory is taken for the line of a mate; where it is refused nobody is called.
+fn keep<C: Crew>(
+    alloc: Global,
+    position: &Position,
+    winner: Color,
+    end: &RoundsEnd,
+    crew: &mut C,
+) -> Result<(), NoMemory>
     requires ready { C.ready crew.old }
     requires mate { (line : List Step) → end.now ≡ RoundsEnd.Mate line → IsMatingLine position.now winner line }
     requires none { (depth : ℕ) → end.now ≡ RoundsEnd.NoneWithin depth → HasNoMateWithin position.now winner depth }
     ensures stays_ready { C.ready crew.new }
-    ensures kept { KeepCalls C.made crew.old crew.new (claim_of position.now winner end.now) }
+    ensures kept { OnOk result (KeepCalls C.made crew.old crew.new (claim_of position.now winner end.now)) }
+    ensures unchanged { OnErr result (crew.new ≡ crew.old) }
 {
     let row = match end {
-        RoundsEnd::Mate(line) => Proved::mate(position, winner, line.copy()),
+        RoundsEnd::Mate(line) => Proved::mate(alloc, position, winner, line)?,
         RoundsEnd::NoneWithin(depth) => Proved::none(position, winner, *depth),
     };
     let _stored = crew.store(row);
+    Ok(())
 }
 
 /// The rounds from a depth on at which there is no mate.
@@ -115,7 +123,7 @@ fn deepen<C: Crew>(
     Ok(RoundsEnd::NoneWithin(depth))
 }
 
-/// The rounds from a depth on, whose answer is given to keep.
+/// The rounds from a depth on, whose answer is given to keep. Where memory to keep it is refused, they end for want of memory.
 fn deepen_and_keep<C: Crew>(
     alloc: Global,
     position: &Position,
@@ -135,7 +143,7 @@ fn deepen_and_keep<C: Crew>(
     ensures kept { KeptCalls C.made crew.old crew.new position.now winner limits.now.depth result }
 {
     let end = deepen(alloc, position, winner, limits, from, crew)?;
-    keep(position, winner, &end, crew);
+    keep(alloc, position, winner, &end, crew)?;
     Ok(end)
 }
 
@@ -195,5 +203,6 @@ pub fn rounds_by<C: Crew>(
             }
         },
         Probe::Miss => deepen_and_keep(alloc, position, winner, limits, 0, crew),
+        Probe::Refused => deepen_and_keep(alloc, position, winner, limits, 0, crew),
     }
 }

@@ -4,7 +4,7 @@ use Rattle.std.specs.List.{AllByRecursion}
 use Rattle.std.proofs.lemmas.List.Elements.{All-from_recursion}
 use Rattle.cha_fact.specs.declared.key.Key.{Key}
 use Rattle.cha_fact.specs.declared.calls.Probe.{Probe}
-use Rattle.cha_fact.specs.declared.calls.Probe.TheVariants.{Found, Miss}
+use Rattle.cha_fact.specs.declared.calls.Probe.TheVariants.{Found, Miss, Refused}
 use Rattle.cha_fact.specs.declared.calls.Stored.{Stored}
 use Rattle.cha_fact.specs.declared.calls.Stored.TheVariants.{Added, Evicted, Better, Kept, Dropped}
 use Rattle.cha_fact.specs.declared.calls.FactCall.{FactCall}
@@ -151,6 +151,7 @@ probed_holds : (entries : ℕ) (key : Key) (rows : List Claim) (reply : Probe) (
 probed_holds entries key rows (Found row) new step holds =
     subst (Holds entries) (sym step.1) (fronted entries key rows row row holds step.0 (found_key key rows row step.0) (found_true key rows row holds.truths step.0))
 probed_holds entries key rows Miss new step holds = subst (Holds entries) (sym step.1) holds
+probed_holds entries key rows Refused new step holds = subst (Holds entries) (sym step.1) holds
 
 step_holds : (entries : ℕ) (old : Rows) (call : FactCall) (reply : FactReply) (new : Rows) → 0 < entries → old.entries ≡ entries → GivesTruth call → ShardStep old call reply new
     → Holds entries old.rows → Holds entries new.rows × (new.entries ≡ entries)

@@ -5,7 +5,7 @@ use Rattle.turn_cell.specs.declared.object.Entry.{Entry}
 use Rattle.turn_cell.specs.Histories.{IsLegalHistory, entry}
 use Rattle.cha_fact.specs.declared.key.Key.{Key}
 use Rattle.cha_fact.specs.declared.calls.Probe.{Probe}
-use Rattle.cha_fact.specs.declared.calls.Probe.TheVariants.{Found, Miss}
+use Rattle.cha_fact.specs.declared.calls.Probe.TheVariants.{Found, Miss, Refused}
 use Rattle.cha_fact.specs.declared.calls.Stored.{Stored}
 use Rattle.cha_fact.specs.declared.calls.Stored.TheVariants.{Added, Evicted, Better, Kept, Dropped}
 use Rattle.cha_fact.specs.declared.calls.FactCall.{FactCall}
@@ -105,6 +105,7 @@ module _ (key : Key) (n : ℕ) where
       let r = ap (λ (c : Claim). rank_of c.fact) same in let le = h.2 in omega (arith, r, le))
       (λ apart. without_else key asked old apart ∙ h.1))
   kept_by_probe asked old new Miss p h = subst (Has key n) (sym p.1) h
+  kept_by_probe asked old new Refused p h = subst (Has key n) (sym p.1) h
 
   kept_by_step : (old new : Rows) (call : FactCall) (reply : FactReply) → ShardStep old call reply new → Has key n old.rows → (reply ≡ StoredAs (Evicted key) → ⊥) → Has key n new.rows
   kept_by_step old new (Asked asked) (Probed reply) s h stays = kept_by_probe asked old.rows new.rows reply s.0 h
@@ -167,6 +168,7 @@ module _ (key : Key) (number : ℕ) (reply : Probe) where
   at_least : (n : ℕ) (rows rows' : List Claim) (r : Probe) → Probes key rows r rows' → Has key n rows → FindsAtLeast key n r
   at_least n rows rows' (Found row) p h = (found_key key rows row p.0, let same = one_found key rows row h.0 p.0 h.1 in let r = ap (λ (c : Claim). rank_of c.fact) same in let le = h.2 in omega (arith, r, le))
   at_least n rows rows' Miss p h = none_found key rows h.0 p.0 h.1
+  at_least n rows rows' Refused p h = tt
 
   -- where a live entry stored a row of the key, the probe that comes last found one that says no less
   pub live_found : (history : History) (i : ℕ) (v u : Rows) (row : Claim) → IsLegalHistory ShardStep v (history ++ last ∷ []) u → row_key row ≡ key → IsLive (history ++ last ∷ []) i row → FindsAtLeast key (rank_of row.fact) reply

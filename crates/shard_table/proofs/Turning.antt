@@ -8,7 +8,7 @@ use Rattle.cha_board.specs.Board.{Board, IsValid}
 use Rattle.cha_fact.proofs.Searching.{keys_tell}
 use Rattle.cha_fact.specs.declared.key.Key.{Key}
 use Rattle.cha_fact.specs.declared.calls.Probe.{Probe}
-use Rattle.cha_fact.specs.declared.calls.Probe.TheVariants.{Found, Miss}
+use Rattle.cha_fact.specs.declared.calls.Probe.TheVariants.{Found, Miss, Refused}
 use Rattle.cha_fact.specs.declared.calls.Stored.{Stored}
 use Rattle.cha_fact.specs.declared.calls.Stored.TheVariants.{Added, Evicted, Better, Kept, Dropped}
 use Rattle.cha_fact.specs.declared.calls.FactCall.{FactCall}
@@ -36,6 +36,7 @@ stores_one entries row old a b Dropped s t = absurd s
 probes_one : (key : Key) (old a b : List Claim) (reply : Probe) → Probes key old reply a → Probes key old reply b → a ≡ b
 probes_one key old a b (Found row) s t = s.1 ∙ sym t.1
 probes_one key old a b Miss s t = s.1 ∙ sym t.1
+probes_one key old a b Refused s t = s.1 ∙ sym t.1
 
 same_rows : (a b : Rows) → a.rows ≡ b.rows → a.entries ≡ b.entries → a ≡ b
 same_rows a b e f = λ i. record { rows = e i; entries = f i }
@@ -102,6 +103,7 @@ module _ (start : Rows) (v w : Known FactCall FactReply) where
     is_row : (r : Probe) (rows rows' : List Claim) → Probes key rows r rows' → IsRowOf key rows r
     is_row (Found row) rows rows' p = p.0
     is_row Miss rows rows' p = p.0
+    is_row Refused rows rows' p = p.0
 
     pub finds : (before : History) (rows : Rows) (e : Entry FactCall FactReply) → w.seen ≡ before ++ e ∷ [] → IsLegalHistory ShardStep start before rows → IsRowOf key rows.rows reply
     finds before rows e s l = is_row reply rows.rows t.last.rows (step_from (Asked key) (Probed reply) t before rows e s l).0
@@ -109,6 +111,7 @@ module _ (start : Rows) (v w : Known FactCall FactReply) where
     of_key : (r : Probe) (rows rows' : List Claim) → Probes key rows r rows' → IsOfKey key r
     of_key (Found row) rows rows' p = found_key key rows row p.0
     of_key Miss rows rows' p = tt
+    of_key Refused rows rows' p = tt
 
     pub finds_key : IsOfKey key reply
     finds_key = let h = last_step (Asked key) (Probed reply) t in of_key reply h.0.rows t.last.rows h.2.0

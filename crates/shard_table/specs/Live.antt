@@ -5,7 +5,7 @@ use Rattle.cha_board.specs.declared.men.Color.{Color}
 use Rattle.cha_board.specs.Board.{Board}
 use Rattle.cha_fact.specs.declared.key.Key.{Key}
 use Rattle.cha_fact.specs.declared.calls.Probe.{Probe}
-use Rattle.cha_fact.specs.declared.calls.Probe.TheVariants.{Found, Miss}
+use Rattle.cha_fact.specs.declared.calls.Probe.TheVariants.{Found, Miss, Refused}
 use Rattle.cha_fact.specs.declared.calls.Stored.TheVariants.{Added, Evicted, Better, Kept, Dropped}
 use Rattle.cha_fact.specs.declared.calls.FactCall.{FactCall}
 use Rattle.cha_fact.specs.declared.calls.FactCall.TheVariants.{Store}
@@ -33,12 +33,14 @@ IsLive history i row =
     (e : Entry FactCall FactReply) × (slice_get history i ≡ Some e) × (e.call ≡ Store row) × IsKeptBy e.reply
     × ((j : ℕ) (later : Entry FactCall FactReply) → i < j → slice_get history j ≡ Some later → later.reply ≡ StoredAs (Evicted (row_key row)) → ⊥)
 
--- a row of the key was found that says at least so much
+-- a row of the key was found that says at least so much, or memory for a copy of it was refused
 abbrev pub FindsAtLeast : Key → ℕ → Probe → Type 0
 FindsAtLeast key least (Found row) = (row_key row ≡ key) × (least ≤ rank_of row.fact)
 FindsAtLeast key least Miss = ⊥
+FindsAtLeast key least Refused = ⊤
 
 -- what was found is true of a position and a side
 abbrev pub IsTrueReply : Board → Color → Probe → Type 0
 IsTrueReply q winner (Found row) = IsTrueOf q winner row.fact
 IsTrueReply q winner Miss = ⊤
+IsTrueReply q winner Refused = ⊤

@@ -1,18 +1,18 @@
 -- The calls of a shard (this project).
-use Rattle.std.specs.Prelude.{◌≡◌, ℕ, ◌-◌, ◌<◌, ◌≤◌, Bool, ◌&&◌, ⊤, List, [], ◌∷◌, map, take, length, nat_eq, Option, Some, None, slice_get, if◌then◌else◌}
+use Rattle.std.specs.Prelude.{◌≡◌, ℕ, ◌-◌, ◌<◌, ◌≤◌, Bool, ◌&&◌, ⊤, List, [], ◌∷◌, map, take, length, nat_eq, Option, Some, None, slice_get, if◌then◌else◌, IsTrue}
 use Rattle.std.specs.List.{All}
 use Rattle.std.specs.Cmp.Lexicographic.{pointwise}
 use Rattle.cha_board.specs.Men.{same_color}
 use Rattle.cha_fact.specs.declared.key.Key.{Key}
 use Rattle.cha_fact.specs.declared.calls.Probe.{Probe}
-use Rattle.cha_fact.specs.declared.calls.Probe.TheVariants.{Found, Miss}
+use Rattle.cha_fact.specs.declared.calls.Probe.TheVariants.{Found, Miss, Refused}
 use Rattle.cha_fact.specs.declared.calls.Stored.{Stored}
 use Rattle.cha_fact.specs.declared.calls.Stored.TheVariants.{Added, Evicted, Better, Kept, Dropped}
 use Rattle.cha_fact.specs.declared.calls.FactCall.{FactCall}
 use Rattle.cha_fact.specs.declared.calls.FactCall.TheVariants.{Probe as Asked, Store}
 use Rattle.cha_fact.specs.declared.calls.FactReply.{FactReply}
 use Rattle.cha_fact.specs.declared.calls.FactReply.TheVariants.{Probed, Stored as StoredAs}
-use Rattle.cha_fact.specs.Truths.{Claim, IsTrueOf, rank_of}
+use Rattle.cha_fact.specs.Truths.{Claim, IsTrueOf, is_mate, rank_of}
 use Rattle.cha_fact.specs.Entries.{Entry}
 use Rattle.shard_table.specs.ShardRows.{Rows, row_key}
 
@@ -30,10 +30,16 @@ abbrev pub without : Key → List Claim → List Claim
 without key [] = []
 without key (row ∷ rows) = if same_key key (row_key row) then rows else row ∷ without key rows
 
--- a probe of a key: its row is found and goes to the front, or there is none and nothing changes
+-- the row of the key is a mate
+abbrev pub HasMate : Key → List Claim → Type 0
+HasMate key rows = (row : Claim) × (find_row key rows ≡ Some row) × IsTrue (is_mate row.fact)
+
+-- a probe of a key: its row is found and goes to the front, or there is none and nothing changes, or it is a mate, memory for a
+-- copy of its line is refused, and nothing changes
 abbrev pub Probes : Key → List Claim → Probe → List Claim → Type 0
 Probes key old (Found row) new = (find_row key old ≡ Some row) × (new ≡ row ∷ without key old)
 Probes key old Miss new = (find_row key old ≡ None) × (new ≡ old)
+Probes key old Refused new = HasMate key old × (new ≡ old)
 
 -- a store of a row among at most so many: its key had none and there was room, or the last row goes, or it says more than
 -- the row of its key, or no more; none is dropped, since there is room for all rows

@@ -9,13 +9,13 @@ use Rattle.turn_cell.specs.Passes.{Known, known, taken, IsOf, Turned, SplitOff, 
 use Rattle.cha_board.specs.Packing.{color_code}
 use Rattle.cha_fact.specs.declared.key.Key.{Key}
 use Rattle.cha_fact.specs.declared.calls.Probe.{Probe}
-use Rattle.cha_fact.specs.declared.calls.Probe.TheVariants.{Found, Miss}
+use Rattle.cha_fact.specs.declared.calls.Probe.TheVariants.{Found, Miss, Refused}
 use Rattle.cha_fact.specs.declared.calls.Stored.{Stored}
 use Rattle.cha_fact.specs.declared.calls.FactCall.{FactCall}
 use Rattle.cha_fact.specs.declared.calls.FactReply.{FactReply}
 use Rattle.cha_fact.specs.Truths.{Claim}
 use Rattle.shard_table.specs.ShardRows.{Rows, row_key}
-use Rattle.shard_table.specs.Shards.{find_row, Stores, ShardStep, empty}
+use Rattle.shard_table.specs.Shards.{find_row, HasMate, Stores, ShardStep, empty}
 use Rattle.shard_table.specs.Live.{History}
 use Rattle.shard_table.specs.declared.table.Table.{Table}
 use Rattle.shard_table.specs.declared.table.TablePass.{TablePass}
@@ -74,10 +74,11 @@ TakesTurn k table old call reply new = Turned ShardStep (empty table.entries) (p
 abbrev pub OthersStay : ℕ → TablePass → TablePass → Type 0
 OthersStay k old new = (j : ℕ) → j ≢ k → pass_at new j ≡ pass_at old j
 
--- the row of the key is found, or there is a miss where the key has none
+-- the row of the key is found, or there is a miss where the key has none, or a refusal where its row is a mate
 abbrev pub IsRowOf : Key → List Claim → Probe → Type 0
 IsRowOf key rows (Found row) = find_row key rows ≡ Some row
 IsRowOf key rows Miss = find_row key rows ≡ None
+IsRowOf key rows Refused = HasMate key rows
 
 -- the reply is what the rows give that all entries but the pass's last one leave
 abbrev pub FindsExactly : Table → TablePass → Key → Probe → Type 0

@@ -7,9 +7,11 @@ ghost use Rattle.shard_table.specs.Shards.{Probes, Stores};
 
 use cha_fact::{Key, Probe, Proved, Stored};
 use lru::LruCache;
+use std::alloc::Global;
 
-/// Asks for the row of a key, which then is the most recently used.
-pub(crate) fn probe(cache: &mut LruCache<Key, Proved>, key: &Key) -> Probe
+/// Asks for a copy of the row of a key, which then is the most recently used. Where memory for the copy is refused nothing
+/// changes.
+pub(crate) fn probe(alloc: Global, cache: &mut LruCache<Key, Proved>, key: &Key) -> Probe
     requires { AreKeyed cache.old.entries }
     ensures keyed { AreKeyed cache.new.entries }
     ensures most { cache.new.cap ≡ cache.old.cap }
@@ -18,9 +20,11 @@ pub(crate) fn probe(cache: &mut LruCache<Key, Proved>, key: &Key) -> Probe
 {
     match cache.peek(key) {
         Some(row) => {
-            let row = row.copy();
+            let Ok(found) = row.copy(alloc) else {
+                return Probe::Refused;
+            };
             cache.promote(key);
-            Probe::Found(row)
+            Probe::Found(found)
         }
         None => Probe::Miss,
     }

@@ -1,4 +1,4 @@
-//! Rows in a list that has room for them from the start. It takes no memory, and searches row by row.
+//! Rows in a list that has room for them from the start. It takes no memory but for copies, and searches row by row.
 
 ghost use Rattle.std.specs.Prelude.{◌≡◌, ◌<◌, ◌≤◌, [], ◌∷◌, length, None, MatchOption};
 ghost use Rattle.std.specs.Vec.{vec_len, vec_capacity};
@@ -9,6 +9,7 @@ ghost use Rattle.shard_table.specs.Places.{IsPlaceOf};
 
 use cha_fact::{Key, Probe, Proved, Stored};
 use lru::LruCache;
+use std::alloc::Global;
 
 /// The place of the row of a key.
 fn place_of(rows: &[Proved], key: &Key) -> Option<usize>
@@ -33,8 +34,9 @@ fn put_first(rows: &mut Vec<Proved>, row: Proved)
     };
 }
 
-/// Asks for the row of a key, which then is the most recently used.
-pub(crate) fn probe(rows: &mut Vec<Proved>, key: &Key) -> Probe
+/// Asks for a copy of the row of a key, which then is the most recently used. Where memory for the copy is refused nothing
+/// changes.
+pub(crate) fn probe(alloc: Global, rows: &mut Vec<Proved>, key: &Key) -> Probe
     requires { length rows.old.items ≤ vec_capacity rows.old }
     ensures room { vec_capacity rows.old ≤ vec_capacity rows.new }
     ensures reply { Probes key.now rows.old.items result rows.new.items }
@@ -43,8 +45,10 @@ pub(crate) fn probe(rows: &mut Vec<Proved>, key: &Key) -> Probe
 {
     match place_of(rows, key) {
         Some(place) => {
+            let Ok(found) = rows[place].copy(alloc) else {
+                return Probe::Refused;
+            };
             let row = rows.remove(place);
-            let found = row.copy();
             put_first(rows, row);
             Probe::Found(found)
         }

@@ -23,6 +23,7 @@ pub struct Shard {
     cache: LruCache<Key, Proved>,
     listed: Vec<Proved>,
     entries: u32,
+    alloc: Global,
 }
 
 impl Model for Shard {
@@ -53,19 +54,21 @@ impl Shard {
             cache,
             listed,
             entries,
+            alloc,
         })
     }
 
-    /// Asks for the row of a key, which then is the most recently used. It takes no memory.
+    /// Asks for the row of a key, which then is the most recently used. It takes memory for the line of a mate alone; where
+    /// that is refused the answer says so, and nothing changes.
     pub fn probe(&mut self, key: &Key) -> Probe
         ensures reply { Probes key.now self.old.rows result self.new.rows }
         ensures of_key { IsOfKey key.now result }
         ensures entries { self.new.entries ≡ self.old.entries }
     {
         if self.listed.is_empty() {
-            return cached::probe(&mut self.cache, key);
+            return cached::probe(self.alloc, &mut self.cache, key);
         }
-        listed::probe(&mut self.listed, key)
+        listed::probe(self.alloc, &mut self.listed, key)
     }
 
     /// Stores a row. One under the same key is replaced only by a row that says more. It is never dropped, even where memory is

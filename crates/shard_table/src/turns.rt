@@ -67,11 +67,12 @@ fn turn<R: Wait>(
 }
 
 impl Table {
-    /// Asks for the row of a key, by one turn at the key's shard. It may wait for other turns there, and takes no memory.
+    /// Asks for the row of a key, by one turn at the key's shard. It may wait for other turns there, and takes memory for the
+    /// line of a mate alone.
     ///
     /// What is found is of the asked position and side, and true. There is a miss exactly where the key has no row after all
-    /// that the pass then knows to have gone before. A row that was stored is found, or a better one, as long as the pass
-    /// does not know it to be evicted.
+    /// that the pass then knows to have gone before, and a refusal only where it has a mate. A row that was stored is found, or
+    /// a better one, as long as the pass does not know it to be evicted and memory is not refused.
     pub fn probe<R: Wait>(&self, rt: &R, pass: &mut TablePass, key: &Key) -> Probe
         requires { IsOfTable self.now pass.old }
         ensures of { IsOfTable self.now pass.new }
@@ -91,6 +92,7 @@ impl Table {
                 Probe::Found(row)
             }
             FactReply::Probed(Probe::Miss) => Probe::Miss,
+            FactReply::Probed(Probe::Refused) => Probe::Refused,
             FactReply::Stored(_) => unreachable!(),
         }
     }

@@ -17,3 +17,10 @@ returns-in-Miss-clause-asked g c = (
   subst (λ (k : Key). g.F.Facts.made c.args.facts.now (probe_entry k c.probe.result ∷ []) c.probe.new.self) c.of.ensures c.probe.ensures.entered,
   sym (ap line_of_reply c.in-Miss.is),
 )
+
+pub returns-in-Refused-clause-asked : goal.returns-in-Refused-clause-asked
+returns-in-Refused-clause-asked g c = (
+  c.probe.result,
+  subst (λ (k : Key). g.F.Facts.made c.args.facts.now (probe_entry k c.probe.result ∷ []) c.probe.new.self) c.of.ensures c.probe.ensures.entered,
+  sym (ap line_of_reply c.in-Refused.is),
+)

@@ -9,5 +9,5 @@ pub returns-in-Mate-clause-mates : goal.returns-in-Mate-clause-mates
 returns-in-Mate-clause-mates c =
     let row = c.args.row.now in
     let L : List Move → Type 0 = λ l. IsMatingLine c.args.position.now c.args.winner l in
-    subst L (sym c.copy.ensures)
+    subst L (sym (c.of.ensures ∙ c.moves.ensures.value))
     (true_of_asked c.position-valid.result row.position c.args.position.now row.winner c.args.winner row.fact (Mate c.in-Mate.line) c.position-valid.ensures.valid c.position-valid.ensures.value c.known.ensures c.requires c.fact.ensures.holds (sym c.fact.ensures.value ∙ c.in-Mate.is))

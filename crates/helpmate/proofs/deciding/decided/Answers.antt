@@ -13,8 +13,8 @@ returns-else-moves-gt-MOST_FOUND-clause-holds c =
     in
     let L : List Move → Type 0 = λ l. IsMatingLine c.args.position.now c.args.winner l in
     let short = c.if-moves-gt-MOST_FOUND.false in
-    let same = ap length (c.copy.ensures ∙ sym c.moves.ensures.value) in
-    (subst L (sym c.copy.ensures) mates, omega arith)
+    let same = ap length c.of.ensures in
+    (subst L (sym (c.of.ensures ∙ c.moves-moves.ensures.value)) mates, omega arith)
 
 pub returns-else-within-depth-clause-holds : goal.returns-else-within-depth-clause-holds
 returns-else-within-depth-clause-holds c = λ ms few line.

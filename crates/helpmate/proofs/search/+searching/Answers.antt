@@ -4,7 +4,7 @@ use Rattle.cha_moves.specs.Moves.{after}
 use Rattle.helpmate.specs.declared.answers.RoundAnswer.TheVariants.{Mate, Spent}
 use Rattle.helpmate.proofs.Counting.{no_units, from_no_move, one_more_counted, all_counted}
 use Rattle.helpmate.proofs.Saying.{none_answered, no_answer}
-use Rattle.helpmate.proofs.Trying.{no_mate_yet, no_mate_more, no_mate_at_all, none_tried, one_more_tried, the_answer, ends_at_once, ends_refused_at_once, ends_refused, ends_below, all_tried, decides, of_root, expanded, undecided, missed}
+use Rattle.helpmate.proofs.Trying.{no_mate_yet, no_mate_more, no_mate_at_all, none_tried, one_more_tried, the_answer, ends_at_once, ends_refused_at_once, ends_refused, ends_below, all_tried, decides, of_root, expanded, undecided, missed, refused}
 use Rattle.helpmate.proofs.search.+searching.Goals as goal
 
 pub expand-returns-then-is_mate-clause-units : goal.expand-returns-then-is_mate-clause-units
@@ -122,8 +122,8 @@ search_deep-returns-in-Some-clause-calls g t c =
     (decides g.F.Facts.made c.args.facts.now c.ask.new.facts q w c.args.depth units c.ask.result c.in-Found.row c.in-Some.answer (Ok c.in-Some.answer) c.ask.ensures.entered
     c.in-Found.is (sym c.decided.ensures.value ∙ c.in-Some.is) (omega arith) refl) c.requires.some
 
-pub search_deep-returns-in-None-clause-calls : goal.search_deep-returns-in-None-clause-calls
-search_deep-returns-in-None-clause-calls g t c =
+pub search_deep-returns-in-Found-clause-calls : goal.search_deep-returns-in-Found-clause-calls
+search_deep-returns-in-Found-clause-calls g t c =
     let q = c.args.position.now in
     let w = c.args.winner in
     let units = c.args.left.now - c.expand.new.left in
@@ -137,3 +137,12 @@ search_deep-returns-in-Miss-clause-calls g t c =
     let units = c.args.left.now - c.expand-in-Miss.new.left in
     expanded g.F.Facts.made c.args.facts.now c.ask.new.facts c.expand-in-Miss.new.facts q w c.args.depth units c.ask.result c.expand-in-Miss.result g.met.F.Facts.both_made c.ask.ensures.entered
     c.expand-in-Miss.ensures.calls c.requires.some (missed q w c.args.depth units c.ask.result c.in-Miss.is)
+
+pub search_deep-returns-clause-calls : goal.search_deep-returns-clause-calls
+search_deep-returns-clause-calls g t c =
+    let q = c.args.position.now in
+    let w = c.args.winner in
+    let units = c.args.left.now - c.expand-in-Refused.new.left in
+    expanded g.F.Facts.made c.args.facts.now c.ask.new.facts c.expand-in-Refused.new.facts q w c.args.depth units c.ask.result c.expand-in-Refused.result g.met.F.Facts.both_made c.ask.ensures.entered
+    c.expand-in-Refused.ensures.calls c.requires.some (refused q w c.args.depth units c.ask.result c.in-Refused.is)
+

@@ -15,13 +15,13 @@ returns-then-rank-clause-reply c =
     let less : rank_of c.args.row.fact ≤ rank_of c.in-Some.old.now.fact = omega (arith, c.rank.ensures, c.rank-in-Some.ensures, c.if-rank.true) in
     (kept_there eq-value.it eq_is_same c.args.cache.now c.requires c.args.row c.key-key.result c.key-key.ensures _ refl c.args.cache.now.cap c.in-Some.old.now c.promote.new.self (sym c.in-Some.ensures) less (ap (λ s. s.entries) c.promote.ensures.entries)).0
 
-pub returns-in-Ok-clause-keyed : goal.returns-in-Ok-clause-keyed
-returns-in-Ok-clause-keyed c =
+pub returns-in-Some-clause-keyed : goal.returns-in-Some-clause-keyed
+returns-in-Some-clause-keyed c =
     let more : rank_of c.in-Some.old.now.fact < rank_of c.args.row.fact = omega (arith, c.rank.ensures, c.rank-in-Some.ensures, c.if-rank.false) in
     (better_there eq-value.it eq_is_same c.args.cache.now c.requires c.args.row c.key-key.result c.key-key.ensures _ refl c.args.cache.now.cap c.in-Some.old.now c.put.new.self (sym c.in-Some.ensures) more (ap (λ s. s.entries) c.in-Ok.ensures.entries)).1
 
-pub returns-in-Ok-clause-reply : goal.returns-in-Ok-clause-reply
-returns-in-Ok-clause-reply c =
+pub returns-in-Some-clause-reply : goal.returns-in-Some-clause-reply
+returns-in-Some-clause-reply c =
     let more : rank_of c.in-Some.old.now.fact < rank_of c.args.row.fact = omega (arith, c.rank.ensures, c.rank-in-Some.ensures, c.if-rank.false) in
     (better_there eq-value.it eq_is_same c.args.cache.now c.requires c.args.row c.key-key.result c.key-key.ensures _ refl c.args.cache.now.cap c.in-Some.old.now c.put.new.self (sym c.in-Some.ensures) more (ap (λ s. s.entries) c.in-Ok.ensures.entries)).0
 

@@ -1,7 +1,7 @@
 use Rattle.std.proofs.Common.{◌∙◌, subst}
 use Rattle.cha_fact.specs.declared.calls.FactCall.TheVariants.{Probe as Asked}
 use Rattle.cha_fact.specs.declared.calls.FactReply.TheVariants.{Probed}
-use Rattle.cha_fact.specs.declared.calls.Probe.TheVariants.{Found, Miss}
+use Rattle.cha_fact.specs.declared.calls.Probe.TheVariants.{Found, Miss, Refused}
 use Rattle.cha_board.specs.Board.{IsValid}
 use Rattle.shard_table.specs.Shards.{empty}
 use Rattle.shard_table.specs.Tables.{TakesTurn, pass_at, shard_number}
@@ -55,3 +55,18 @@ returns-in-Probed-Found-clause-knows g c = knows_well c.args.self.now c.turn.new
 
 pub returns-in-Probed-Miss-clause-knows : goal.returns-in-Probed-Miss-clause-knows
 returns-in-Probed-Miss-clause-knows g c = knows_well c.args.self.now c.turn.new.pass c.turn.ensures.of
+
+pub returns-in-Probed-Refused-clause-exactly : goal.returns-in-Probed-Refused-clause-exactly
+returns-in-Probed-Refused-clause-exactly g c =
+    let k = shard_number c.args.key.now in
+    finds (empty c.args.self.now.entries) (pass_at c.args.pass.now k) (pass_at c.turn.new.pass k) c.args.key.now Refused
+    (subst (λ r. TakesTurn k c.args.self.now c.args.pass.now (Asked c.args.key.now) (Probed r) c.turn.new.pass) c.in-Probed-Refused.field-0-is c.in-Probed-Refused.ensures.turned)
+
+pub returns-in-Probed-Refused-clause-stays : goal.returns-in-Probed-Refused-clause-stays
+returns-in-Probed-Refused-clause-stays g c =
+    let k = shard_number c.args.key.now in
+    stays (empty c.args.self.now.entries) (pass_at c.args.pass.now k) (pass_at c.turn.new.pass k) c.args.key.now Refused
+    (subst (λ r. TakesTurn k c.args.self.now c.args.pass.now (Asked c.args.key.now) (Probed r) c.turn.new.pass) c.in-Probed-Refused.field-0-is c.in-Probed-Refused.ensures.turned)
+
+pub returns-in-Probed-Refused-clause-knows : goal.returns-in-Probed-Refused-clause-knows
+returns-in-Probed-Refused-clause-knows g c = knows_well c.args.self.now c.turn.new.pass c.turn.ensures.of

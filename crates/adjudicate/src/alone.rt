@@ -35,10 +35,9 @@ use cha_outcome::found_results_stay;
 use cha_outside::{MOST_BYTES, Sink, Source};
 use cha_verdict::sound_is_complete;
 use cha_words::{Order, games_are_some, mates_are_bounded, parse};
-use helpmate_list::InTurn;
+use helpmate_list::OneByOne;
 use root_workers::Alone;
 use shard_table::Shard;
-use side_by_side::OneByOne;
 use std::alloc::Global;
 
 /// Does what the words order, as `run` does, without a runtime: it starts no thread, waits for none and takes no lock. So it
@@ -90,7 +89,7 @@ pub fn run_alone<S: Source, K: Sink, N: Sink>(
     match parse(words) {
         Some(order) => match order.limits() {
             Some(limits) => by_itself(alloc, &order, &limits, source, sink, notes),
-            None => carry_out_plain(alloc, &order, &OneByOne, InTurn, source, sink)
+            None => carry_out_plain(alloc, &order, &OneByOne, source, sink)
         },
         None => Status::Usage,
     }

@@ -23,7 +23,6 @@ use cha_outcome::FlaggedDraws;
 use cha_outside::{Sink, Source};
 use cha_words::{Order, Printing};
 use flag_report::{BlockForm, Notation, Style, Subject};
-use helpmate_list::Spread;
 use json_report::Extras;
 use root_workers::Crew;
 use side_by_side::Hands;
@@ -140,16 +139,14 @@ pub fn carry_out<H: Hands, C: Crew, S: Source, K: Sink, N: Sink>(
 
 /// Reads a source to its end, and writes what an order asks for that needs no search for verdicts: the answer on a certificate,
 /// the shortest mates of each line, or the moves of each game.
-pub fn carry_out_plain<H: Hands, P: Spread + Drop, S: Source, K: Sink>(
+pub fn carry_out_plain<H: Hands, S: Source, K: Sink>(
     alloc: Global,
     order: &Order,
     hands: &H,
-    spread: P,
     source: &mut S,
     sink: &mut K,
 ) -> Status
     requires hands { H.ready hands.now }
-    requires ready { P.ready spread }
     requires no_search { limits_in order.now ≡ None }
     requires bounded { (side : Side) (workers depth : ℕ) (printing : Printed) → order.now ≡ ListMates side workers depth printing → ((1 ≤ workers) × (workers ≤ 16)) × ((1 ≤ depth) × (depth ≤ 6)) }
     ensures { IsRunOf (demand order.now) result (outside (S.left source.old) (S.faults source.old) (K.written sink.old) (K.faults sink.old)) (outside (S.left source.new) (S.faults source.new) (K.written sink.new) (K.faults sink.new)) }
@@ -166,7 +163,7 @@ pub fn carry_out_plain<H: Hands, P: Spread + Drop, S: Source, K: Sink>(
                 side: *side,
                 depth: *depth,
                 workers: *workers,
-                spread,
+                hands,
             };
             let form = form_of(*printing, Subject::Mates);
             report(alloc, Kind::Lines, form, hands, &mut judge, source, sink)

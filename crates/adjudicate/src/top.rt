@@ -36,9 +36,8 @@ use cha_outcome::found_results_stay;
 use cha_outside::{MOST_BYTES, Sink, Source};
 use cha_verdict::sound_is_complete;
 use cha_words::{Order, games_are_some, mates_are_bounded, parse};
-use helpmate_list::InThreads;
+use helpmate_list::Threaded;
 use root_workers::OnDemand;
-use side_by_side::Threaded;
 use std::alloc::Global;
 use std::sync::Wait;
 use std::thread::Threads;
@@ -100,25 +99,19 @@ pub fn run<R: Threads + Wait + Sync, S: Source, K: Sink, N: Sink>(
     match parse(words) {
         Some(order) => match order.limits() {
             Some(limits) => by_threads(rt, alloc, &order, &limits, source, sink, notes),
-            None => carry_out_plain(
-                alloc,
-                &order,
-                &Threaded::new(rt, threads_for(&order)),
-                InThreads::new(rt),
-                source,
-                sink,
-            ),
+            None => {
+                let most = threads_for(&order);
+                carry_out_plain(alloc, &order, &Threaded { rt, most }, source, sink)
+            }
         },
         None => Status::Usage,
     }
 }
 
 /// How many threads may work on an order that needs no search for verdicts.
-fn threads_for(order: &Order) -> u32
-    ensures { 1 ≤ result }
-{
+fn threads_for(order: &Order) -> u32 {
     match order {
-        Order::ListMates { workers, .. } => (*workers).max(1),
+        Order::ListMates { workers, .. } => *workers,
         _ => 1,
     }
 }
@@ -140,7 +133,8 @@ fn by_threads<R: Threads + Wait + Sync, S: Source, K: Sink, N: Sink>(
     ensures run { IsRun order.now result (outside (S.left source.old) (S.faults source.old) (K.written sink.old) (K.faults sink.old)) (outside (S.left source.new) (S.faults source.new) (K.written sink.new) (K.faults sink.new)) (noted (N.written notes.old) (N.faults notes.old)) (noted (N.written notes.new) (N.faults notes.new)) }
 {
     let mut crew = OnDemand::new(rt, alloc, limits.workers(), limits.entries());
-    let hands = Threaded::new(rt, limits.workers());
+    let most = limits.workers();
+    let hands = Threaded { rt, most };
     let status = carry_out(alloc, order, &hands, &mut crew, source, sink, notes);
     let _shards = crew.close();
     status

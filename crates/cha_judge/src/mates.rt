@@ -3,27 +3,27 @@
 use crate::judges::Judge;
 use cha_board::Color;
 use cha_outcome::{Item, Outcome, Question};
-use helpmate_list::{Spread, least_mates_by};
+use helpmate_list::{Spread, least_mates};
 use std::alloc::Global;
 
 /// The judge that lists the shortest mates of a side in a position.
 #[derive(Drop)]
-pub struct MatesJudge<P: Spread> {
+pub struct MatesJudge<'a, H: Spread> {
     /// The side that mates.
     pub side: Color,
     /// Within how many plies mates are looked for, at most 6.
     pub depth: u8,
     /// How many workers share the root moves, at least one.
     pub workers: u32,
-    /// How the workers do their parts: in threads, or in turn.
-    pub spread: P,
+    /// Who does the parts of the workers.
+    pub hands: &'a H,
 }
 
-impl<P: Spread> Judge for MatesJudge<P> {
+impl<'a, H: Spread> Judge for MatesJudge<'a, H> {
     ghost use Rattle.std.specs.Prelude.{◌≤◌};
     ghost use Rattle.cha_outcome.specs.declared.questions.Question.TheVariants.{Mates};
 
-    ghost ready = { λ s. P.ready s.spread × (s.depth ≤ 6) × (1 ≤ s.workers) };
+    ghost ready = { λ s. H.ready s.hands.now × (s.depth ≤ 6) × (1 ≤ s.workers) };
 
     ghost worked = { λ old new. Unit {0} };
 
@@ -44,8 +44,8 @@ impl<P: Spread> Judge for MatesJudge<P> {
         match item {
             Item::Position { line, position } => {
                 let depth = self.depth;
-                let found = least_mates_by(
-                    &self.spread,
+                let found = least_mates(
+                    self.hands,
                     alloc,
                     &position,
                     self.side,

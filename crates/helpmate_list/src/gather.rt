@@ -56,13 +56,13 @@ fn gathered(
 
 /// The first lines of so many plies that mate from the root, of which one more than an answer has is kept.
 pub fn root_lines<S: Spread>(
-    spread: &S,
+    hands: &S,
     alloc: Global,
     task: &Task,
     moves: &[Move],
     count: usize,
 ) -> Result<Lines, NoMemory>
-    requires ready { S.ready spread.now }
+    requires ready { S.ready hands.now }
     requires listed { moves.now ≡ legal_moves task.now.position }
     requires least { HasNoMateBelow task.now.position task.now.winner task.now.plies }
     requires a_worker { 0 < count }
@@ -71,6 +71,6 @@ pub fn root_lines<S: Spread>(
     if task.plies == 0 {
         return standing_lines(alloc, &task.position, task.winner);
     }
-    let parts = spread.parts(alloc, task, moves, count)?;
+    let parts = hands.parts(alloc, task, moves, count)?;
     gathered(alloc, task, moves, &parts)
 }

@@ -13,13 +13,11 @@ ghost use Rattle.helpmate_list.specs.declared.answers.Shortest.TheVariants.{None
 use crate::answers::{Lines, MOST_LINES, Shortest};
 use crate::gather::root_lines;
 use crate::parts::{MOST_KEPT, Task};
-use crate::spread::{InTurn, Spread};
-use crate::threads::InThreads;
+use crate::spread::Spread;
 use cha_board::{Color, Position};
 use cha_list::NoMemory;
 use cha_moves::legal;
 use std::alloc::Global;
-use std::thread::Threads;
 
 /// The answer where these are the first lines, of which there is one.
 fn found(plies: u8, kept: Lines) -> Shortest
@@ -40,15 +38,15 @@ fn found(plies: u8, kept: Lines) -> Shortest
 ///
 /// Numbers of plies after which the winner is to move are passed over, since no mate has so many. `NoMemory` means that memory
 /// ran out.
-pub fn least_mates_by<S: Spread>(
-    spread: &S,
+pub fn least_mates<S: Spread>(
+    hands: &S,
     alloc: Global,
     position: &Position,
     winner: Color,
     depth: u8,
     workers: u32,
 ) -> Result<Shortest, NoMemory>
-    requires ready { S.ready spread.now }
+    requires ready { S.ready hands.now }
     requires few { depth ≤ 6 }
     requires a_worker { 1 ≤ workers }
     ensures { IfOk result (λ answer. answer ≡ shortest position.now winner depth) }
@@ -63,7 +61,7 @@ pub fn least_mates_by<S: Spread>(
                 winner,
                 plies,
             };
-            let lines = root_lines(spread, alloc, &task, &moves, workers as usize)?;
+            let lines = root_lines(hands, alloc, &task, &moves, workers as usize)?;
             if !lines.items().is_empty() {
                 return Ok(found(plies, lines));
             }
@@ -72,39 +70,6 @@ pub fn least_mates_by<S: Spread>(
         plies += 1;
     }
     Ok(Shortest::NoneWithin)
-}
-
-/// The shortest mates of a side within 1 to 6 plies, with 1 to 16 workers that are threads: the least number of plies, and the
-/// first 200 of all lists of that many moves that mate. How many workers there are changes nothing of the answer.
-pub fn least_mates<R: Threads + Sync>(
-    rt: &R,
-    alloc: Global,
-    position: &Position,
-    winner: Color,
-    depth: u8,
-    workers: u32,
-) -> Result<Shortest, NoMemory>
-    requires some { 1 ≤ depth }
-    requires few { depth ≤ 6 }
-    requires a_worker { 1 ≤ workers }
-    requires sixteen { workers ≤ 16 }
-    ensures { IfOk result (λ answer. answer ≡ shortest position.now winner depth) }
-{
-    least_mates_by(&InThreads::new(rt), alloc, position, winner, depth, workers)
-}
-
-/// What `least_mates` answers, by one worker without a thread.
-pub fn least_mates_alone(
-    alloc: Global,
-    position: &Position,
-    winner: Color,
-    depth: u8,
-) -> Result<Shortest, NoMemory>
-    requires some { 1 ≤ depth }
-    requires few { depth ≤ 6 }
-    ensures { IfOk result (λ answer. answer ≡ shortest position.now winner depth) }
-{
-    least_mates_by(&InTurn, alloc, position, winner, depth, 1)
 }
 
 /// The law of the shortest mates, in terms of lists of moves: there are none exactly where no list of at most so many legal

@@ -1,7 +1,7 @@
 //! How soon a helpmate exists, and all of the shortest ones, in the order of moves.
 //!
 //! `answers` has what comes out, `leading` lists of lines with a move in front of each, `first` the first lines of a number of
-//! plies from a position, `parts` the root moves of one worker, `spread` how the parts are carried out, `threads` in threads,
+//! plies from a position, `parts` the root moves of one worker, `spread` who carries out the parts,
 //! `gather` what the parts come to, and `least` the least number of plies.
 #![tactic(auto)]
 
@@ -12,10 +12,8 @@ mod leading;
 mod least;
 mod parts;
 mod spread;
-mod threads;
 
 pub use answers::{Lines, MOST_LINES, Shortest};
-pub use least::{least_mates, least_mates_alone, least_mates_by, shortest_says};
+pub use least::{least_mates, shortest_says};
 pub use parts::{RootLines, Task};
-pub use spread::{InTurn, Spread};
-pub use threads::InThreads;
+pub use spread::{OneByOne, Spread, Threaded};

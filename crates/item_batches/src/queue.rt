@@ -20,6 +20,10 @@ use std::mem;
 /// take, so that all threads soon have work, and few threads begin where much has come.
 pub const FIRST_ITEMS: usize = 8;
 
+/// How many items a part has at most where threads work: so many that threads seldom begin and end, and so few that all are at work soon
+/// after a piece of a file was read.
+const MOST_ITEMS: usize = 128;
+
 /// How many times as many parts may be begun as are worked on at a time: the work on some has ended, but not on one before them.
 const AHEAD: usize = 4;
 
@@ -137,17 +141,17 @@ fn begin_cut<H: Hands>(
     }
 }
 
-/// Whether the hands take a further part behind these, of which fewer than `most` may be begun.
-fn are_free<H: Hands>(hands: &H, most: usize, begun: &VecDeque<Part>) -> bool
+/// Whether the hands, which work on so many parts at a time, take a further one behind these, of which fewer than `most` may be begun.
+fn are_free(parts: usize, most: usize, begun: &VecDeque<Part>) -> bool
     ensures { result ≡ true → length begun.now.items < most }
 {
     let mut open: usize = 0;
     for part in begun.iter() {
-        if !hands.has_ended(part) {
+        if !part.has_ended() {
             open = open.saturating_add(1);
         }
     }
-    begun.len() < most && open < hands.most_parts()
+    begun.len() < most && open < parts
 }
 
 /// Begins as many parts as the hands take, and cuts items for the next one. Some item is queued, and on none the work has ended.
@@ -174,17 +178,17 @@ fn fill<H: Hands>(
     ensures some { OnOk result (1 ≤ length queue.new.begun.items) }
     ensures queued { OnOk result (IsQueued reader.new question.now (items_queued queue.new) false) }
 {
-    let most = hands.most_parts().saturating_mul(AHEAD).min(MOST_BEGUN);
-    while queue.begun.is_empty() || are_free(hands, most, &queue.begun) {
-        let items = hands.most_items().min(queue.most);
-        cut_more(alloc, items, queue, reader)?;
+    let parts = hands.most_parts();
+    let ahead = if parts <= 1 { 0 } else { MOST_ITEMS };
+    let most = parts.saturating_mul(AHEAD).min(MOST_BEGUN);
+    while queue.begun.is_empty() || are_free(parts, most, &queue.begun) {
+        cut_more(alloc, ahead.max(1).min(queue.most), queue, reader)?;
         if queue.cut.is_empty() {
             return Ok(());
         }
         begin_cut(alloc, hands, question, queue)?;
     }
-    let items = hands.most_behind().min(queue.most);
-    cut_more(alloc, items, queue, reader)
+    cut_more(alloc, ahead.min(queue.most), queue, reader)
 }
 
 /// Ends the work on the first part.

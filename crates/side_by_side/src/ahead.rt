@@ -8,7 +8,7 @@ use crate::progress::Progress;
 use cha_fen::FenFault;
 use cha_judge::{Judge, MatesJudge, PliesJudge, VerdictsJudge};
 use cha_outcome::{Item, Outcome, Question};
-use helpmate_list::InTurn;
+use helpmate_list::OneByOne;
 use root_workers::Nobody;
 use std::alloc::Global;
 use std::mem;
@@ -51,7 +51,7 @@ fn judged_alone(alloc: Global, question: &Question, item: Item) -> Progress
                 side,
                 depth,
                 workers: 1,
-                spread: InTurn,
+                hands: &OneByOne,
             };
             progress_of(judge.judge(alloc, item))
         }

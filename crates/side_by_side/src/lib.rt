@@ -12,6 +12,6 @@ mod parts;
 mod progress;
 
 pub use cuts::Cut;
-pub use hands::{Hands, OneByOne, Threaded};
+pub use hands::Hands;
 pub use parts::{GoOn, Part, Task};
 pub use progress::{Progress, finish};

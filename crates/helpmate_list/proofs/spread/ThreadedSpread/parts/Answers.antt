@@ -1,6 +1,6 @@
 use Rattle.std.proofs.Common.{rules}
 use Rattle.helpmate_list.specs.Parts.{AreParts}
-use Rattle.helpmate_list.proofs.threads.in_threads.Goals as goal
+use Rattle.helpmate_list.proofs.spread.ThreadedSpread.parts.Goals as goal
 
 pub returns : goal.returns
 unfolding AreParts

@@ -3,8 +3,8 @@ use Rattle.std.proofs.lemmas.List.{nil_from_length}
 use Rattle.cha_moves.specs.MateLines.{mate_lines}
 use Rattle.helpmate_list.proofs.Mating.{none_below_zero, none_at_all}
 use Rattle.helpmate_list.proofs.Deepening.{none_on_turn, mover_next, none_yet, longer_first, longer_next, longer_found, longer_none}
-use Rattle.helpmate_list.proofs.least.least_mates_by.Goals as goal
-use Rattle.helpmate_list.proofs.least.least_mates_by.Goals.{then-not-is+in_ok-lines+else-not-is_empty, else-not-is}
+use Rattle.helpmate_list.proofs.least.least_mates.Goals as goal
+use Rattle.helpmate_list.proofs.least.least_mates.Goals.{then-not-is+in_ok-lines+else-not-is_empty, else-not-is}
 
 pub loop-plies-init : goal.loop-plies-init
 loop-plies-init g c = record {

@@ -1,7 +1,7 @@
 use Rattle.std.proofs.Common.{ap, sym, ◌∙◌, subst}
 use Rattle.side_by_side.specs.Progresses.{AreAsked, AllGoOn}
 use Rattle.side_by_side.proofs.Going.{all_stay}
-use Rattle.side_by_side.proofs.parts.begin.Goals as goal
+use Rattle.side_by_side.proofs.hands.ThreadedHands.begin.Goals as goal
 
 pub returns-then-len-lt-WORTH_A_THREAD-clause-same : goal.returns-then-len-lt-WORTH_A_THREAD-clause-same
 returns-then-len-lt-WORTH_A_THREAD-clause-same g c = all_stay c.args.question.now c.args.items.items

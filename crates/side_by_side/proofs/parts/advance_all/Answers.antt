@@ -2,7 +2,7 @@ use Rattle.std.proofs.Common.{rules, ◌<◌, length, ap, sym, ◌∙◌, subst}
 use Rattle.std.proofs.lemmas.List.{length-set}
 use Rattle.side_by_side.specs.Progresses.{AllGoOn}
 use Rattle.side_by_side.proofs.Going.{all_stay, still_asked, goes_on_at}
-use Rattle.side_by_side.proofs.parts.all_advanced.Goals as goal
+use Rattle.side_by_side.proofs.parts.advance_all.Goals as goal
 
 pub loop-progress-init : goal.loop-progress-init
 loop-progress-init c =

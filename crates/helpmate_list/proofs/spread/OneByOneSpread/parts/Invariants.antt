@@ -1,5 +1,5 @@
 use Rattle.helpmate_list.proofs.Dealing.{ArePartsBelow}
-use Rattle.helpmate_list.proofs.spread.in_turn.Given as goal
+use Rattle.helpmate_list.proofs.spread.OneByOneSpread.parts.Given as goal
 
 abbrev pub invariant-loop-number : goal.invariant-loop-number
 invariant-loop-number l = ArePartsBelow l.task l.moves l.count l.number l.parts.items

@@ -1,6 +1,6 @@
 use Rattle.std.proofs.Common.{◌≡◌, length}
 use Rattle.side_by_side.specs.Progresses.{AllGoOn}
-use Rattle.side_by_side.proofs.parts.all_advanced.Given as goal
+use Rattle.side_by_side.proofs.parts.advance_all.Given as goal
 
 -- the work on each went on
 abbrev pub invariant-loop-progress : goal.invariant-loop-progress

@@ -1,6 +1,6 @@
 use Rattle.std.proofs.Common.{arith}
 use Rattle.helpmate_list.proofs.Dealing.{parts_done}
-use Rattle.helpmate_list.proofs.spread.in_turn.Goals as goal
+use Rattle.helpmate_list.proofs.spread.OneByOneSpread.parts.Goals as goal
 
 pub returns : goal.returns
 returns c =

@@ -3,7 +3,7 @@ use Rattle.side_by_side.specs.declared.parts.Part.{Part}
 use Rattle.side_by_side.specs.Progresses.{AllGoOn}
 use Rattle.side_by_side.specs.Parts.{items_of}
 use Rattle.side_by_side.proofs.Going.{all_stay}
-use Rattle.side_by_side.proofs.parts.end.Goals as goal
+use Rattle.side_by_side.proofs.hands.ThreadedHands.end.Goals as goal
 
 pub returns-in-Here-clause-same : goal.returns-in-Here-clause-same
 returns-in-Here-clause-same g c = λ question about.

@@ -1,13 +1,15 @@
 -- What is built is valid.
-use Rattle.std.proofs.Common.{◌≡◌, ℕ, ◌<◌, Bool, true, false, not, ◌&&◌, ◌||◌, if◌then◌else◌, List, length, Option, Some, None, IsTrue, refl, ap}
+use Rattle.std.proofs.Common.{◌≡◌, ℕ, ◌<◌, Bool, true, false, not, ◌&&◌, ◌||◌, if◌then◌else◌, List, length, Option, Some, None, IsTrue, refl, ap, ◌∙◌}
 use Rattle.cha_board.specs.declared.men.Color.{Color}
 use Rattle.cha_board.specs.declared.men.Color.TheVariants.{White, Black}
 use Rattle.cha_board.specs.declared.men.Man.{Man}
 use Rattle.cha_board.specs.declared.position.Rights.{Rights}
+use Rattle.cha_board.specs.declared.castling.Wing.{Wing}
 use Rattle.cha_board.specs.declared.build.BuildFault.TheVariants.{Kings, PawnRank, OpponentInCheck}
 use Rattle.cha_board.specs.Men.{other_color}
-use Rattle.cha_board.specs.Board.{IsValid, has_one_king, has_pawn_at_end, is_pawn_at_end, in_check, are_at_home, rights_fit, target_fits, target_is_good}
+use Rattle.cha_board.specs.Board.{IsValid, has_one_king, has_pawn_at_end, is_pawn_at_end, in_check, are_at_home, has_right, right_fits, target_fits, target_is_good}
 use Rattle.cha_board.specs.Build.{build_fault, kept_rights, kept_target}
+use Rattle.cha_board.proofs.RightLaws.{has-where}
 use Rattle.cha_board.proofs.Scans.{any_square_at, no_square}
 
 pub pawn_at : (men : List (Option Man)) (s : ℕ) → s < 64 → is_pawn_at_end men s ≡ true → has_pawn_at_end men ≡ true
@@ -39,28 +41,15 @@ sound men side h =
     let t = sound_tests (has_one_king men White) (has_one_king men Black) (has_pawn_at_end men) (in_check men (other_color side)) h in
     record { white = t.0; black = t.1; pawns = t.2; opponent = t.3 }
 
-kept_fits : (a b h k : Bool) → ((not (a && h) || h) && (not (b && k) || k)) ≡ true
-kept_fits true true true true = refl
-kept_fits true true true false = refl
-kept_fits true true false true = refl
-kept_fits true true false false = refl
-kept_fits true false true true = refl
-kept_fits true false true false = refl
-kept_fits true false false true = refl
-kept_fits true false false false = refl
-kept_fits false true true true = refl
-kept_fits false true true false = refl
-kept_fits false true false true = refl
-kept_fits false true false false = refl
-kept_fits false false true true = refl
-kept_fits false false true false = refl
-kept_fits false false false true = refl
-kept_fits false false false false = refl
+kept_fits : (a h : Bool) → (not (a && h) || h) ≡ true
+kept_fits true true = refl
+kept_fits true false = refl
+kept_fits false true = refl
+kept_fits false false = refl
 
-rights_kept_fit : (men : List (Option Man)) (r : Rights) (c : Color) → rights_fit men (kept_rights men r) c ≡ true
-unfolding rights_fit kept_rights
-rights_kept_fit men r White = kept_fits r.white_king r.white_queen (are_at_home men White 7) (are_at_home men White 0)
-rights_kept_fit men r Black = kept_fits r.black_king r.black_queen (are_at_home men Black 63) (are_at_home men Black 56)
+right_kept_fits : (men : List (Option Man)) (r : Rights) (c : Color) (w : Wing) → right_fits men (kept_rights men r) c w ≡ true
+unfolding right_fits kept_rights
+right_kept_fits men r c w = ap (λ b. not b || are_at_home men c w) (has-where (λ c w. has_right r c w && are_at_home men c w) c w) ∙ kept_fits (has_right r c w) (are_at_home men c w)
 
 kept_if : (men : List (Option Man)) (side : Color) (s : ℕ) (v : Bool) → target_fits men side s ≡ v → target_is_good men side (if v then Some s else None) ≡ true
 kept_if men side s true e = e
@@ -84,6 +73,6 @@ built_is_valid men side rights target size none =
       kings = λ c. one_king_each men side c s;
       pawns = ap not s.pawns;
       opponent = ap not s.opponent;
-      rights = λ c. rights_kept_fit men rights c;
+      rights = right_kept_fits men rights;
       target = target_kept_fits men side target;
     }

@@ -121,24 +121,6 @@ all_five a b c d e h =
     let y = all_four a b c d x.0 in
     (y.0, y.1, y.2, y.3, x.1)
 
--- the first conjuncts of eight
-pub five_of_eight : (a b c d e f g h : Bool) → (a && b && c && d && e && f && g && h) ≡ true → (a ≡ true) × (b ≡ true) × (c ≡ true) × (d ≡ true) × (e ≡ true)
-five_of_eight a b c d e f g h all =
-    let x = and_parts (a && b && c && d && e && f && g) h all in
-    let y = and_parts (a && b && c && d && e && f) g x.0 in
-    let z = and_parts (a && b && c && d && e) f y.0 in
-    all_five a b c d e z.0
-
--- the first conjuncts of nine
-pub six_of_nine : (a b c d e f g h i : Bool) → (a && b && c && d && e && f && g && h && i) ≡ true → (a ≡ true) × (b ≡ true) × (c ≡ true) × (d ≡ true) × (e ≡ true) × (f ≡ true)
-six_of_nine a b c d e f g h i all =
-    let x = and_parts (a && b && c && d && e && f && g && h) i all in
-    let y = and_parts (a && b && c && d && e && f && g) h x.0 in
-    let z = and_parts (a && b && c && d && e && f) g y.0 in
-    let w = and_parts (a && b && c && d && e) f z.0 in
-    let v = all_five a b c d e w.0 in
-    (v.0, v.1, v.2, v.3, v.4, w.1)
-
 -- an implication written as a test
 pub if_at : (a b : Bool) → (not a || b) ≡ true → a ≡ true → b ≡ true
 if_at true b h e = h

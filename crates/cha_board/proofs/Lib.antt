@@ -5,6 +5,7 @@ pub mod Scans
 pub mod Counting
 pub mod Sightings
 pub mod Kings
+pub mod RightLaws
 pub mod Builds
 pub mod SetBits
 pub mod Pulls

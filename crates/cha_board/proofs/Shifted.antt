@@ -10,7 +10,7 @@ use Rattle.std.proofs.Math.Nat.{mod-add-div, mod-lt}
 use Rattle.std.proofs.lemmas.Nat.Bits.{bit_at-zero, bit_at_above, bit_at_cat_low, bit_at_cat_high}
 use Rattle.cha_board.specs.declared.men.Color.TheVariants.{White, Black}
 use Rattle.cha_board.specs.Men.{same_color}
-use Rattle.cha_board.specs.Squares.{squares, file_of, rank_of, color_of_square}
+use Rattle.cha_board.specs.Squares.{squares, file_of, rank_of, color_of_square, files_apart, ranks_apart, is_straight, is_diagonal, is_within, lies_between}
 use Rattle.cha_board.specs.Board.{is_home}
 use Rattle.cha_board.specs.SquareSets.{set_of, has_square, set_of_bits}
 use Rattle.cha_board.proofs.SetLaws.{same_set}
@@ -144,3 +144,9 @@ colors_shown = (refl, refl)
 pub homes_shown : set_of_bits 10448351135499550865 ≡ set_of is_home
 unfolding squares
 homes_shown = refl
+
+-- the squares between the homes of kings and rooks, as numbers
+pub ways_shown : (set_of_bits 96 ≡ set_of (lies_between 4 7)) × (set_of_bits 14 ≡ set_of (lies_between 4 0))
+    × (set_of_bits 6917529027641081856 ≡ set_of (lies_between 60 63)) × (set_of_bits 1008806316530991104 ≡ set_of (lies_between 60 56))
+unfolding squares lies_between is_within is_straight is_diagonal files_apart ranks_apart
+ways_shown = (refl, refl, refl, refl)

@@ -6,6 +6,8 @@ use Rattle.cha_board.specs.declared.men.Color.TheVariants.{White, Black}
 use Rattle.cha_board.specs.declared.men.Kind.TheVariants.{Pawn, Rook, King}
 use Rattle.cha_board.specs.declared.men.Man.{Man}
 use Rattle.cha_board.specs.declared.position.Rights.{Rights}
+use Rattle.cha_board.specs.declared.castling.Wing.{Wing}
+use Rattle.cha_board.specs.declared.castling.Wing.TheVariants.{Kingside, Queenside}
 use Rattle.cha_board.specs.Men.{other_color, same_color, is_vacant, is_man, is_pawn}
 use Rattle.cha_board.specs.Squares.{squares, rank_of, ahead_of, aims_at, between}
 
@@ -63,49 +65,49 @@ abbrev pub home_of : Color → ℕ
 home_of White = 4
 home_of Black = 60
 
--- the home squares of c's rooks: h1 or h8 for castling on the king's side, a1 or a8 on the queen's
-abbrev pub short_home_of : Color → ℕ
-short_home_of c = home_of c + 3
+-- the home square of c's rook on a wing: h1 or h8, a1 or a8
+abbrev pub corner_of : Color → Wing → ℕ
+corner_of c Kingside = home_of c + 3
+corner_of c Queenside = home_of c - 4
 
-abbrev pub long_home_of : Color → ℕ
-long_home_of c = home_of c - 4
+-- what c's king crosses by castling on a wing, where its rook arrives: f1 or f8, d1 or d8
+abbrev pub crossing_of : Color → Wing → ℕ
+crossing_of c Kingside = home_of c + 1
+crossing_of c Queenside = home_of c - 1
 
--- where c's king arrives by castling: g1 or g8 on the king's side, c1 or c8 on the queen's
-abbrev pub short_goal_of : Color → ℕ
-short_goal_of c = home_of c + 2
-
-abbrev pub long_goal_of : Color → ℕ
-long_goal_of c = home_of c - 2
+-- where c's king arrives by castling on a wing: g1 or g8, c1 or c8
+abbrev pub goal_of : Color → Wing → ℕ
+goal_of c Kingside = home_of c + 2
+goal_of c Queenside = home_of c - 2
 
 -- a home of c's king or one of its rooks, and of either side's
 abbrev pub is_home_of : Color → ℕ → Bool
-is_home_of c s = (s == home_of c) || (s == short_home_of c) || (s == long_home_of c)
+is_home_of c s = (s == home_of c) || (s == corner_of c Kingside) || (s == corner_of c Queenside)
 
 abbrev pub is_home : ℕ → Bool
 is_home s = is_home_of White s || is_home_of Black s
 
--- nobody may castle
+-- c may still castle on a wing, as far as king and rook have not moved
+abbrev pub has_right : Rights → Color → Wing → Bool
+has_right r White Kingside = r.white_king
+has_right r White Queenside = r.white_queen
+has_right r Black Kingside = r.black_king
+has_right r Black Queenside = r.black_queen
+
+-- the rights that a test tells, and that nobody may castle
+abbrev pub rights_where : (Color → Wing → Bool) → Rights
+rights_where p = record { white_king = p White Kingside; white_queen = p White Queenside; black_king = p Black Kingside; black_queen = p Black Queenside }
+
 abbrev pub no_rights : Rights
-no_rights = record { white_king = false; white_queen = false; black_king = false; black_queen = false }
+no_rights = rights_where (λ c w. false)
 
--- c may still castle on the king's side, as far as king and rook have not moved
-abbrev pub has_short_right : Rights → Color → Bool
-has_short_right r White = r.white_king
-has_short_right r Black = r.black_king
-
--- the same on the queen's side
-abbrev pub has_long_right : Rights → Color → Bool
-has_long_right r White = r.white_queen
-has_long_right r Black = r.black_queen
-
--- the king of c and its rook on s are at home
-unfoldable pub are_at_home : List (Option Man) → Color → ℕ → Bool
-are_at_home men c s = is_man c King (man_at men (home_of c)) && is_man c Rook (man_at men s)
+-- the king of c and its rook on a wing are at home
+unfoldable pub are_at_home : List (Option Man) → Color → Wing → Bool
+are_at_home men c w = is_man c King (man_at men (home_of c)) && is_man c Rook (man_at men (corner_of c w))
 
 -- where c has a right, its king and that rook are at home
-unfoldable pub rights_fit : List (Option Man) → Rights → Color → Bool
-rights_fit men r c =
-    (not (has_short_right r c) || are_at_home men c (short_home_of c)) && (not (has_long_right r c) || are_at_home men c (long_home_of c))
+unfoldable pub right_fits : List (Option Man) → Rights → Color → Wing → Bool
+right_fits men r c w = not (has_right r c w) || are_at_home men c w
 
 -- the rank of the squares over which a pawn of the other side may just have passed, with c to move
 abbrev pub target_rank : Color → ℕ
@@ -130,5 +132,5 @@ pub record IsValid (q : Board) : Type 0 where
   pub kings : (c : Color) → IsTrue (has_one_king q.men c)
   pub pawns : IsTrue (not (has_pawn_at_end q.men))
   pub opponent : IsTrue (not (in_check q.men (other_color q.side)))
-  pub rights : (c : Color) → IsTrue (rights_fit q.men q.rights c)
+  pub rights : (c : Color) (w : Wing) → IsTrue (right_fits q.men q.rights c w)
   pub target : IsTrue (target_is_good q.men q.side q.target)

@@ -7,7 +7,7 @@ use Rattle.cha_board.specs.declared.position.Rights.{Rights}
 use Rattle.cha_board.specs.declared.build.BuildFault.{BuildFault}
 use Rattle.cha_board.specs.declared.build.BuildFault.TheVariants.{Kings, PawnRank, OpponentInCheck}
 use Rattle.cha_board.specs.Men.{other_color}
-use Rattle.cha_board.specs.Board.{Board, has_one_king, has_pawn_at_end, in_check, short_home_of, long_home_of, are_at_home, target_fits}
+use Rattle.cha_board.specs.Board.{Board, has_one_king, has_pawn_at_end, in_check, has_right, rights_where, are_at_home, target_fits}
 
 -- the first rule that men and a side to move break
 unfoldable pub build_fault : List (Option Man) → Color → Option BuildFault
@@ -18,12 +18,7 @@ build_fault men side =
 
 -- the rights whose king and rook are at home
 unfoldable pub kept_rights : List (Option Man) → Rights → Rights
-kept_rights men r = record {
-  white_king = r.white_king && are_at_home men White (short_home_of White);
-  white_queen = r.white_queen && are_at_home men White (long_home_of White);
-  black_king = r.black_king && are_at_home men Black (short_home_of Black);
-  black_queen = r.black_queen && are_at_home men Black (long_home_of Black);
-}
+kept_rights men r = rights_where (λ c w. has_right r c w && are_at_home men c w)
 
 -- the target, where a pawn may just have passed over it
 unfoldable pub kept_target : List (Option Man) → Color → Option ℕ → Option ℕ

@@ -1,14 +1,14 @@
 //! How a position is made from its parts.
 
-ghost use Rattle.std.specs.Prelude.{◌≡◌, ◌≢◌, IfOk};
+ghost use Rattle.std.specs.Prelude.{◌≡◌, ◌≢◌, ◌&&◌, IfOk};
 ghost use Rattle.std.specs.Result.{result_err};
 ghost use Rattle.cha_board.specs.Men.{other_color};
 ghost use Rattle.cha_board.specs.Squares.{last_rank};
-ghost use Rattle.cha_board.specs.Board.{has_pawn_at_end, are_at_home, target_fits};
+ghost use Rattle.cha_board.specs.Board.{has_pawn_at_end, has_right, are_at_home, target_fits};
 ghost use Rattle.cha_board.specs.Board.{target_rank as target_rank_of};
 ghost use Rattle.cha_board.specs.Build.{build_fault, kept_rights, kept_target, built};
 
-use crate::castling::{home, long_home, short_home};
+use crate::castling::{Wing, home};
 use crate::men::{Color, Kind, Man, is_man_of};
 use crate::placement::Men;
 use crate::position::{Position, Rights};
@@ -89,13 +89,21 @@ fn pawn_at_end(men: &Men) -> bool
     !men.all_of_kind(Kind::Pawn).common(ends).is_empty()
 }
 
-/// Whether the king of a side and its rook on a square are at home.
+/// Whether the king of a side and its rook on a wing are at home.
 #[tactic(auto, unfolding(crate::specs::Board::are_at_home))]
-fn at_home(men: &Men, side: Color, rook: Square) -> bool
-    ensures { result ≡ are_at_home men.now side rook }
+fn at_home(men: &Men, side: Color, wing: Wing) -> bool
+    ensures { result ≡ are_at_home men.now side wing }
 {
-    let king = men.man(Square::at(home(side)));
-    is_man_of(king, side, Kind::King) && is_man_of(men.man(rook), side, Kind::Rook)
+    let king = men.man(home(side));
+    let rook = men.man(wing.corner(side));
+    is_man_of(king, side, Kind::King) && is_man_of(rook, side, Kind::Rook)
+}
+
+/// Whether there is a right whose king and rook are at home.
+fn right_kept(men: &Men, rights: Rights, side: Color, wing: Wing) -> bool
+    ensures { result ≡ (has_right rights side wing && are_at_home men.now side wing) }
+{
+    rights.has(side, wing) && at_home(men, side, wing)
 }
 
 /// The rights whose king and rook are at home.
@@ -104,10 +112,10 @@ fn rights_kept(men: &Men, rights: Rights) -> Rights
     ensures { result ≡ kept_rights men.now rights }
 {
     Rights {
-        white_king: rights.white_king && at_home(men, Color::White, short_home(Color::White)),
-        white_queen: rights.white_queen && at_home(men, Color::White, long_home(Color::White)),
-        black_king: rights.black_king && at_home(men, Color::Black, short_home(Color::Black)),
-        black_queen: rights.black_queen && at_home(men, Color::Black, long_home(Color::Black)),
+        white_king: right_kept(men, rights, Color::White, Wing::Kingside),
+        white_queen: right_kept(men, rights, Color::White, Wing::Queenside),
+        black_king: right_kept(men, rights, Color::Black, Wing::Kingside),
+        black_queen: right_kept(men, rights, Color::Black, Wing::Queenside),
     }
 }
 

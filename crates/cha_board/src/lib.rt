@@ -30,9 +30,7 @@ mod strikes;
 
 pub use aim::{aims_at, files_between, steps_between};
 pub use build::BuildFault;
-pub use castling::{
-    home, homes, long_goal, long_home, long_right, short_goal, short_home, short_right,
-};
+pub use castling::{Wing, home, homes};
 pub use kept::Kept;
 pub use letters::put_square;
 pub use men::{Color, Kind, Man, is_man_of};

@@ -10,7 +10,8 @@ use Rattle.cha_board.specs.declared.men.Color.{Color}
 use Rattle.cha_board.specs.declared.men.Color.TheVariants.{White, Black}
 use Rattle.cha_board.specs.declared.men.Man.{Man}
 use Rattle.cha_board.specs.declared.position.Rights.{Rights}
-use Rattle.cha_board.specs.Board.{Board, IsValid, has_one_king, has_pawn_at_end, in_check, are_at_home, rights_fit, target_is_good}
+use Rattle.cha_board.specs.declared.castling.Wing.{Wing}
+use Rattle.cha_board.specs.Board.{Board, IsValid, has_one_king, has_pawn_at_end, in_check, has_right, rights_where, are_at_home, right_fits, target_is_good}
 use Rattle.cha_board.specs.Men.{other_color}
 use Rattle.cha_board.specs.Build.{build_fault, built, kept_rights, kept_target}
 use Rattle.cha_board.specs.Letters.{square_text}
@@ -173,16 +174,9 @@ kept true true e = refl
 kept true false e = cc
 kept false h e = refl
 
-rights_again : (men : List (Option Man)) (r : Rights) → rights_fit men r White ≡ true → rights_fit men r Black ≡ true → kept_rights men r ≡ r
-unfolding rights_fit kept_rights are_at_home
-rights_again men r w b =
-    let white = and_parts _ _ w in
-    let black = and_parts _ _ b in
-    let wk = kept r.white_king _ white.0 in
-    let wq = kept r.white_queen _ white.1 in
-    let bk = kept r.black_king _ black.0 in
-    let bq = kept r.black_queen _ black.1 in
-    λ i. record { white_king = wk i; white_queen = wq i; black_king = bk i; black_queen = bq i }
+rights_again : (men : List (Option Man)) (r : Rights) → ((c : Color) (w : Wing) → right_fits men r c w ≡ true) → kept_rights men r ≡ r
+unfolding right_fits kept_rights
+rights_again men r fit = λ i. rights_where (λ c w. kept (has_right r c w) (are_at_home men c w) (fit c w) i)
 
 target_again : (men : List (Option Man)) (c : Color) (t : Option ℕ) → target_is_good men c t ≡ true → kept_target men c t ≡ t
 unfolding kept_target
@@ -192,7 +186,7 @@ target_again men c (Some s) h = rw h refl
 pub built_again : (q : Board) → IsValid q → built q.men q.side q.rights q.target ≡ q
 unfolding built
 built_again q v =
-    let rights = rights_again q.men q.rights (v.rights White) (v.rights Black) in
+    let rights = rights_again q.men q.rights v.rights in
     let target = target_again q.men q.side q.target v.target in
     λ i. record { men = q.men; side = q.side; rights = rights i; target = target i }
 

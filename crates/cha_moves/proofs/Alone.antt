@@ -10,14 +10,16 @@ use Rattle.cha_board.specs.declared.men.Color.TheVariants.{White, Black}
 use Rattle.cha_board.specs.declared.men.Kind.{Kind}
 use Rattle.cha_board.specs.declared.men.Kind.TheVariants.{Pawn, King}
 use Rattle.cha_board.specs.declared.men.Man.{Man}
+use Rattle.cha_board.specs.declared.castling.Wing.{Wing}
+use Rattle.cha_board.specs.declared.castling.Wing.TheVariants.{Kingside, Queenside}
 use Rattle.cha_board.specs.Men.{same_kind, is_man}
 use Rattle.cha_board.specs.Squares.{rank_of, files_apart, ranks_apart, steps_apart, is_rank_ahead, aims_at}
-use Rattle.cha_board.specs.Board.{Board, man_at, is_empty, home_of}
+use Rattle.cha_board.specs.Board.{Board, man_at, is_empty, home_of, goal_of}
 use Rattle.cha_board.proofs.Identity.{same_color_equal, man_of, is_man_from, one_kind, two_kinds}
 use Rattle.cha_moves.specs.Step.{Move}
-use Rattle.cha_moves.specs.Moves.{second_rank, fourth_rank, middle, victim_of, is_target, is_pawn_capture, goes, rook_of, is_en_passant, is_short_castling, is_long_castling, is_double_step, arriving, moved, castles_short, castles_long, captures_en_passant, men_after, target_after, legal}
-use Rattle.cha_moves.proofs.Made.{makes, Plainly, Passing, Shortly, Longly}
-use Rattle.cha_moves.proofs.Kept.{promoted, short_tests, long_tests}
+use Rattle.cha_moves.specs.Moves.{second_rank, fourth_rank, middle, victim_of, is_target, is_pawn_capture, goes, is_en_passant, castles, is_double_step, arriving, moved, king_castles, rook_castled, captures_en_passant, men_after, target_after, legal}
+use Rattle.cha_moves.proofs.Made.{makes, Plainly, Passing, OnWing}
+use Rattle.cha_moves.proofs.Kept.{promoted, castling_tests, king_way}
 use Rattle.cha_moves.proofs.Listed.{mover_of}
 use Rattle.cha_moves.proofs.Near.{king_aims}
 use Rattle.cha_moves.proofs.Validity.{pawn_ahead, step_tests, double_step, Steps, DoubleSteps, Captures, Passes, pawn_way}
@@ -43,15 +45,14 @@ the_man o c k h =
 
 -- where no more than one man goes
 pub goes_alone : (q : Board) (m : Move) (k : Kind) → is_man q.side k (man_at q.men m.from) ≡ true → m.promotion ≡ None
-    → captures_en_passant q (man_at q.men m.from) m.from m.to ≡ false → castles_short q (man_at q.men m.from) m.from m.to ≡ false → castles_long q (man_at q.men m.from) m.from m.to ≡ false
+    → captures_en_passant q (man_at q.men m.from) m.from m.to ≡ false → ((w : Wing) → king_castles q w (man_at q.men m.from) m.from m.to ≡ false)
     → men_after q m ≡ moved q.men m.from m.to (Some (record { color = q.side; kind = k }))
-goes_alone q m k man none passing short long =
+goes_alone q m k man none passing castling =
     elim (makes q m) [
-      | Plainly a b c e ↦
+      | Plainly a b e ↦
           e ∙ ap (λ b. moved q.men m.from m.to (arriving (man_at q.men m.from) b)) none ∙ ap (moved q.men m.from m.to) (the_man (man_at q.men m.from) q.side k man)
       | Passing t e ↦ absurd (both_ways (captures_en_passant q (man_at q.men m.from) m.from m.to) passing t)
-      | Shortly t e ↦ absurd (both_ways (castles_short q (man_at q.men m.from) m.from m.to) short t)
-      | Longly t e ↦ absurd (both_ways (castles_long q (man_at q.men m.from) m.from m.to) long t)
+      | OnWing w t e ↦ absurd (both_ways (king_castles q w (man_at q.men m.from) m.from m.to) (castling w) t)
     ]
 
 pub not_some : (o : Option Kind) → is_some o ≡ false → o ≡ None
@@ -79,13 +80,13 @@ pub piece_alone : (q : Board) (m : Move) (k : Kind) → Contains (legal q) m →
 piece_alone q m k h man no_pawn no_king =
     let pawn = one_kind q.side q.side k Pawn (man_at q.men m.from) no_pawn man in
     let king = one_kind q.side q.side k King (man_at q.men m.from) no_king man in
-    goes_alone q m k man (not_promoted q m k h man no_pawn) (and_left _ (is_en_passant q m.from m.to) pawn) (and_left _ (is_short_castling q m.from m.to) king) (and_left _ (is_long_castling q m.from m.to) king)
+    goes_alone q m k man (not_promoted q m k h man no_pawn) (and_left _ (is_en_passant q m.from m.to) pawn) (λ w. and_left _ (castles q w m.from m.to) king)
 
 pub pawn_alone : (q : Board) (m : Move) → is_man q.side Pawn (man_at q.men m.from) ≡ true → m.promotion ≡ None → is_en_passant q m.from m.to ≡ false
     → men_after q m ≡ moved q.men m.from m.to (Some (record { color = q.side; kind = Pawn }))
 pawn_alone q m man none passing =
     let king = one_kind q.side q.side Pawn King (man_at q.men m.from) refl man in
-    goes_alone q m Pawn man none (two_kinds (is_man q.side Pawn (man_at q.men m.from)) (is_en_passant q m.from m.to) passing) (and_left _ (is_short_castling q m.from m.to) king) (and_left _ (is_long_castling q m.from m.to) king)
+    goes_alone q m Pawn man none (two_kinds (is_man q.side Pawn (man_at q.men m.from)) (is_en_passant q m.from m.to) passing) (λ w. and_left _ (castles q w m.from m.to) king)
 
 second_out : (a b : Bool) → a ≡ true → (a && b) ≡ false → b ≡ false
 second_out true b h e = e
@@ -98,35 +99,24 @@ passes q m man none passing =
     let king = one_kind q.side q.side Pawn King (man_at q.men m.from) refl man in
     let f : Option Man → List (Option Man) = λ (o : Option Man). slice_set (moved q.men m.from m.to o) (victim_of q.side m.to) None in
     elim (makes q m) [
-      | Plainly a b c e ↦ absurd (both_ways (is_en_passant q m.from m.to) (second_out _ _ man a) passing)
+      | Plainly a b e ↦ absurd (both_ways (is_en_passant q m.from m.to) (second_out _ _ man a) passing)
       | Passing t e ↦ e ∙ ap (λ b. f (arriving (man_at q.men m.from) b)) none ∙ ap f (the_man (man_at q.men m.from) q.side Pawn man)
-      | Shortly t e ↦ absurd (both_ways (castles_short q (man_at q.men m.from) m.from m.to) (and_left _ (is_short_castling q m.from m.to) king) t)
-      | Longly t e ↦ absurd (both_ways (castles_long q (man_at q.men m.from) m.from m.to) (and_left _ (is_long_castling q m.from m.to) king) t)
+      | OnWing w t e ↦ absurd (both_ways (king_castles q w (man_at q.men m.from) m.from m.to) (and_left _ (castles q w m.from m.to) king) t)
     ]
 
 -- a king that castles goes two files
-two_right : (c : Color) → files_apart (home_of c) (home_of c + 2) ≡ 2
+two_files : (c : Color) (w : Wing) → files_apart (home_of c) (goal_of c w) ≡ 2
 unfolding files_apart
-two_right White = refl
-two_right Black = refl
+two_files White Kingside = refl
+two_files White Queenside = refl
+two_files Black Kingside = refl
+two_files Black Queenside = refl
 
-two_left : (c : Color) → files_apart (home_of c) (home_of c - 2) ≡ 2
-unfolding files_apart
-two_left White = refl
-two_left Black = refl
-
-not_short : (q : Board) (s t : ℕ) → files_apart s t ≤ 1 → is_short_castling q s t ≡ false
-not_short q s t near =
-    false_from_ne_true (is_short_castling q s t) (λ h.
-    let tests = short_tests q s t h in
-    let far : files_apart s t ≡ 2 = rw (tests.from_home, tests.two_files) (two_right q.side) in
-    omega (arith, far, near))
-
-not_long : (q : Board) (s t : ℕ) → files_apart s t ≤ 1 → is_long_castling q s t ≡ false
-not_long q s t near =
-    false_from_ne_true (is_long_castling q s t) (λ h.
-    let tests = long_tests q s t h in
-    let far : files_apart s t ≡ 2 = rw (tests.from_home, tests.two_files) (two_left q.side) in
+not_castling : (q : Board) (w : Wing) (s t : ℕ) → files_apart s t ≤ 1 → castles q w s t ≡ false
+not_castling q w s t near =
+    false_from_ne_true (castles q w s t) (λ h.
+    let tests = castling_tests q w s t h in
+    let far : files_apart s t ≡ 2 = rw (tests.from_home, tests.to_goal) (two_files q.side w) in
     omega (arith, far, near))
 
 pub king_alone : (q : Board) (m : Move) → Contains (legal q) m → is_man q.side King (man_at q.men m.from) ≡ true → files_apart m.from m.to ≤ 1
@@ -134,22 +124,17 @@ pub king_alone : (q : Board) (m : Move) → Contains (legal q) m → is_man q.si
 king_alone q m h man near =
     let pawn = one_kind q.side q.side King Pawn (man_at q.men m.from) refl man in
     goes_alone q m King man (not_promoted q m King h man refl) (and_left _ (is_en_passant q m.from m.to) pawn)
-    (two_kinds (is_man q.side King (man_at q.men m.from)) (is_short_castling q m.from m.to) (not_short q m.from m.to near))
-    (two_kinds (is_man q.side King (man_at q.men m.from)) (is_long_castling q m.from m.to) (not_long q m.from m.to near))
+    (λ w. two_kinds (is_man q.side King (man_at q.men m.from)) (castles q w m.from m.to) (not_castling q w m.from m.to near))
 
 -- a king that goes further than to the next file castles: a rook goes over it
 pub near_files : (s t : ℕ) → (steps_apart s t == 1) ≡ true → files_apart s t ≤ 1
 unfolding steps_apart
 near_files s t h = (let e = eqb-true (steps_apart s t) 1 h in omega arith)
 
-never_far : (q : Board) (s t : ℕ) → goes q King s t ≡ true → is_short_castling q s t ≡ false → is_long_castling q s t ≡ false → 1 < files_apart s t → ⊥
-unfolding goes
-never_far q s t h short long far = elim (or_cases (aims_at q.side King s t || is_short_castling q s t) (is_long_castling q s t) h) [
-  | inl x ↦ elim (or_cases (aims_at q.side King s t) (is_short_castling q s t) x) [
-    | inl y ↦ (let near = near_files s t (king_aims q.side s t y) in omega (arith, near, far))
-    | inr y ↦ both_ways (is_short_castling q s t) short y
-  ]
-  | inr x ↦ both_ways (is_long_castling q s t) long x
+never_far : (q : Board) (s t : ℕ) → goes q King s t ≡ true → ((w : Wing) → castles q w s t ≡ false) → 1 < files_apart s t → ⊥
+never_far q s t h castling far = elim (king_way q s t h) [
+  | inl y ↦ (let near = near_files s t (king_aims q.side s t y) in omega (arith, near, far))
+  | inr y ↦ both_ways (castles q y.0 s t) (castling y.0) y.1
 ]
 
 goes_as_kind : (q : Board) (m : Move) (k : Kind) → Contains (legal q) m → is_man q.side k (man_at q.men m.from) ≡ true → goes q k m.from m.to ≡ true
@@ -162,30 +147,22 @@ goes_as_kind q m k h man =
 arrived : (q : Board) (m : Move) → Contains (legal q) m → is_man q.side King (man_at q.men m.from) ≡ true → arriving (man_at q.men m.from) m.promotion ≡ Some (record { color = q.side; kind = King })
 arrived q m h man = ap (arriving (man_at q.men m.from)) (not_promoted q m King h man refl) ∙ the_man (man_at q.men m.from) q.side King man
 
-pub castles_up : (q : Board) (m : Move) (i j : ℕ) → Contains (legal q) m → is_man q.side King (man_at q.men m.from) ≡ true → 1 < files_apart m.from m.to → m.from < m.to → i ≡ home_of q.side + 3 → j ≡ home_of q.side + 1
-    → men_after q m ≡ moved (moved q.men m.from m.to (Some (record { color = q.side; kind = King }))) i j (rook_of q.side)
-castles_up q m i j h man far up first next =
-    let f : List (Option Man) → List (Option Man) = λ (men : List (Option Man)). moved men (home_of q.side + 3) (home_of q.side + 1) (rook_of q.side) in
-    elim (makes q m) [
-      | Plainly a b c e ↦ absurd (never_far q m.from m.to (goes_as_kind q m King h man) (second_out _ _ man b) (second_out _ _ man c) far)
-      | Passing t e ↦ absurd (both_ways (is_man q.side Pawn (man_at q.men m.from)) (one_kind q.side q.side King Pawn (man_at q.men m.from) refl man) (and_parts (is_man q.side Pawn (man_at q.men m.from)) (is_en_passant q m.from m.to) t).0)
-      | Shortly t e ↦ e ∙ ap (λ a. f (moved q.men m.from m.to a)) (arrived q m h man) ∙ rw (first, next) refl
-      | Longly t e ↦ (
-          let tests = long_tests q m.from m.to (and_parts (is_man q.side King (man_at q.men m.from)) (is_long_castling q m.from m.to) t).1 in
-          absurd (omega (arith, up, tests.from_home, tests.two_files)))
-    ]
+-- the wing on which a king castles, told by the way that it goes
+wing_told : (c : Color) (v w : Wing) (s t : ℕ) → s ≡ home_of c → t ≡ goal_of c v → (s < t → w ≡ Kingside) → (t ≤ s → w ≡ Queenside) → w ≡ v
+wing_told c Kingside w s t from to up down = up (omega (arith, from, to))
+wing_told White Queenside w s t from to up down = down (omega (arith, from, to))
+wing_told Black Queenside w s t from to up down = down (omega (arith, from, to))
 
-pub castles_down : (q : Board) (m : Move) (i j : ℕ) → Contains (legal q) m → is_man q.side King (man_at q.men m.from) ≡ true → 1 < files_apart m.from m.to → m.to ≤ m.from → i ≡ home_of q.side - 4 → j ≡ home_of q.side - 1
-    → men_after q m ≡ moved (moved q.men m.from m.to (Some (record { color = q.side; kind = King }))) i j (rook_of q.side)
-castles_down q m i j h man far down first next =
-    let f : List (Option Man) → List (Option Man) = λ (men : List (Option Man)). moved men (home_of q.side - 4) (home_of q.side - 1) (rook_of q.side) in
+pub castles_far : (q : Board) (m : Move) (w : Wing) → Contains (legal q) m → is_man q.side King (man_at q.men m.from) ≡ true → 1 < files_apart m.from m.to → (m.from < m.to → w ≡ Kingside) → (m.to ≤ m.from → w ≡ Queenside)
+    → men_after q m ≡ rook_castled (moved q.men m.from m.to (Some (record { color = q.side; kind = King }))) q.side w
+castles_far q m w h man far up down =
     elim (makes q m) [
-      | Plainly a b c e ↦ absurd (never_far q m.from m.to (goes_as_kind q m King h man) (second_out _ _ man b) (second_out _ _ man c) far)
+      | Plainly a b e ↦ absurd (never_far q m.from m.to (goes_as_kind q m King h man) (λ v. second_out _ _ man (b v)) far)
       | Passing t e ↦ absurd (both_ways (is_man q.side Pawn (man_at q.men m.from)) (one_kind q.side q.side King Pawn (man_at q.men m.from) refl man) (and_parts (is_man q.side Pawn (man_at q.men m.from)) (is_en_passant q m.from m.to) t).0)
-      | Shortly t e ↦ (
-          let tests = short_tests q m.from m.to (and_parts (is_man q.side King (man_at q.men m.from)) (is_short_castling q m.from m.to) t).1 in
-          absurd (omega (arith, down, tests.from_home, tests.two_files)))
-      | Longly t e ↦ e ∙ ap (λ a. f (moved q.men m.from m.to a)) (arrived q m h man) ∙ rw (first, next) refl
+      | OnWing v t e ↦ (
+          let tests = castling_tests q v m.from m.to (and_parts (is_man q.side King (man_at q.men m.from)) (castles q v m.from m.to) t).1 in
+          let same = wing_told q.side v w m.from m.to tests.from_home tests.to_goal up down in
+          e ∙ ap (λ a. rook_castled (moved q.men m.from m.to a) q.side v) (arrived q m h man) ∙ rw same refl)
     ]
 
 -- a pawn goes two ranks by a double step alone

@@ -7,10 +7,12 @@ use Rattle.cha_board.specs.declared.men.Color.{Color}
 use Rattle.cha_board.specs.declared.men.Kind.{Kind}
 use Rattle.cha_board.specs.declared.men.Kind.TheVariants.{Pawn, Knight, Bishop, Rook, Queen, King}
 use Rattle.cha_board.specs.declared.men.Man.{Man}
+use Rattle.cha_board.specs.declared.castling.Wing.{Wing}
+use Rattle.cha_board.specs.declared.castling.Wing.TheVariants.{Kingside, Queenside}
 use Rattle.cha_board.specs.Men.{other_color, same_color, same_kind, is_man, is_vacant}
 use Rattle.cha_board.specs.Squares.{squares, rank_of, last_rank, aims_at, lies_between, between}
 use Rattle.cha_board.specs.Aims.{is_open, aims_over}
-use Rattle.cha_board.specs.Board.{Board, IsValid, man_at, is_empty, is_clear, attacks_as, attacked, in_check, king_of, home_of}
+use Rattle.cha_board.specs.Board.{Board, IsValid, man_at, is_empty, is_clear, attacks_as, attacked, in_check, king_of, goal_of}
 use Rattle.cha_board.specs.SquareSets.{set_of, squares_in, has_square, set_common, set_without}
 use Rattle.cha_board.proofs.SetLaws.{has-set_of}
 use Rattle.cha_board.proofs.Tables.{aims_from_there}
@@ -19,13 +21,13 @@ use Rattle.cha_board.proofs.Scans.{no_square}
 use Rattle.cha_board.proofs.Identity.{one_color, man_of, on_board, other_other, same_kind_equal}
 use Rattle.cha_board.proofs.Sightings.{attacked_from, attacked_by_none}
 use Rattle.cha_moves.specs.Step.{Move}
-use Rattle.cha_moves.specs.Moves.{is_target, arriving, is_en_passant, is_short_castling, is_long_castling, men_after, after}
+use Rattle.cha_moves.specs.Moves.{is_target, arriving, is_en_passant, castles, men_after, after}
 use Rattle.cha_moves.specs.Shields.{aims_as}
 use Rattle.cha_moves.specs.Ways.{is_way}
 use Rattle.cha_moves.specs.Checks.{IsAlone, HaveScreens, others, may_check, is_special_check}
 use Rattle.cha_moves.proofs.KingSquare.{king_stands}
-use Rattle.cha_moves.proofs.Made.{Step, men_moved, moved_to, moved_from, moved_other, Plainly, Passing, Shortly, Longly, makes}
-use Rattle.cha_moves.proofs.Kept.{from_to, no_king_entered, promoted, length_after, kings_kept, king_place, short_tests, long_tests}
+use Rattle.cha_moves.proofs.Made.{Step, men_moved, moved_to, moved_from, moved_other, Plainly, Passing, OnWing, makes}
+use Rattle.cha_moves.proofs.Kept.{from_to, no_king_entered, promoted, length_after, kings_kept, king_place, castling_tests}
 use Rattle.cha_moves.proofs.Listed.{is_listed, mover_of}
 use Rattle.cha_moves.proofs.MateMoves.{Mates, in_squares, way_there}
 use Rattle.cha_moves.proofs.Clearing.{clear_at, clear_from, attack_parts, attack_from}
@@ -127,8 +129,7 @@ pub data Gives (q : Board) (m : Move) (man : Man) : Type 0 where
   Near : aims_at q.side man.kind m.to (enemy_king q) ≡ true → is_clear (men_moved q m) m.to (enemy_king q) ≡ true → Gives q m man
   Becoming : man.kind ≡ Pawn → rank_of m.to ≡ last_rank q.side → Gives q m man
   Taking : man.kind ≡ Pawn → is_target q.target m.to ≡ true → Gives q m man
-  Short : man.kind ≡ King → m.to ≡ home_of q.side + 2 → Gives q m man
-  Long : man.kind ≡ King → m.to ≡ home_of q.side - 2 → Gives q m man
+  Castled : (w : Wing) → man.kind ≡ King → m.to ≡ goal_of q.side w → Gives q m man
 
 -- a man that passes the test of a kind is of that kind
 pub kind_tested : (c : Color) (k : Kind) (o : Option Man) (man : Man) → o ≡ Some man → is_man c k o ≡ true → man.kind ≡ k
@@ -150,19 +151,16 @@ unfolding is_en_passant
 gives_check q m man step off check =
     let found = step.may.found in
     elim (makes q m) [
-      | Plainly a b c plain ↦ elim (cases_Bool (attacks_as (men_moved q m) q.side (enemy_king q) m.to (arriving (man_at q.men m.from) m.promotion))) [
+      | Plainly a b plain ↦ elim (cases_Bool (attacks_as (men_moved q m) q.side (enemy_king q) m.to (arriving (man_at q.men m.from) m.promotion))) [
         | inl attacks ↦ (let parts = attack_parts (men_moved q m) q.side (enemy_king q) m.to (arriving (man_at q.men m.from) m.promotion) attacks in near_by q m man step parts.0 parts.1)
         | inr aimless ↦ absurd (both_ways (in_check (men_after q m) (other_color q.side)) (no_check q m man step plain off aimless) check)
       ]
       | Passing t e ↦
           let parts = and_parts (is_man q.side Pawn (man_at q.men m.from)) (is_en_passant q m.from m.to) t in
           Taking (kind_tested q.side Pawn (man_at q.men m.from) man found parts.0) (and_parts (aims_at q.side Pawn m.from m.to) (is_target q.target m.to) parts.1).1
-      | Shortly t e ↦
-          let parts = and_parts (is_man q.side King (man_at q.men m.from)) (is_short_castling q m.from m.to) t in
-          Short (kind_tested q.side King (man_at q.men m.from) man found parts.0) (short_tests q m.from m.to parts.1).two_files
-      | Longly t e ↦
-          let parts = and_parts (is_man q.side King (man_at q.men m.from)) (is_long_castling q m.from m.to) t in
-          Long (kind_tested q.side King (man_at q.men m.from) man found parts.0) (long_tests q m.from m.to parts.1).two_files
+      | OnWing w t e ↦
+          let parts = and_parts (is_man q.side King (man_at q.men m.from)) (castles q w m.from m.to) t in
+          Castled w (kind_tested q.side King (man_at q.men m.from) man found parts.0) (castling_tests q w m.from m.to parts.1).to_goal
     ]
 
 -- no man off the lines alone stands between the king and a man that aims at it
@@ -178,7 +176,11 @@ special_pawn q Rook t e h = cc
 special_pawn q Queen t e h = cc
 special_pawn q King t e h = cc
 
-special_king : (q : Board) (k : Kind) (t : ℕ) → k ≡ King → ((t == home_of q.side - 2) || (t == home_of q.side + 2)) ≡ true → is_special_check q k t ≡ true
+at_goals : (c : Color) (w : Wing) (t : ℕ) → t ≡ goal_of c w → ((t == goal_of c Queenside) || (t == goal_of c Kingside)) ≡ true
+at_goals c Kingside t e = or_right (t == goal_of c Queenside) (t == goal_of c Kingside) (eq-eqb t (goal_of c Kingside) e)
+at_goals c Queenside t e = or_left (t == goal_of c Queenside) (t == goal_of c Kingside) (eq-eqb t (goal_of c Queenside) e)
+
+special_king : (q : Board) (k : Kind) (t : ℕ) → k ≡ King → ((t == goal_of q.side Queenside) || (t == goal_of q.side Kingside)) ≡ true → is_special_check q k t ≡ true
 unfolding is_special_check
 special_king q King t e h = h
 special_king q Pawn t e h = cc
@@ -240,10 +242,8 @@ may_check_by q m man step (Becoming pawn last) =
     or_right (aims_over (other_color q.side) man.kind (enemy_king q) (others q m.from) m.to) (is_special_check q man.kind m.to) (special_pawn q man.kind m.to pawn (or_left (rank_of m.to == last_rank q.side) (is_target q.target m.to) (eq-eqb (rank_of m.to) (last_rank q.side) last)))
 may_check_by q m man step (Taking pawn target) =
     or_right (aims_over (other_color q.side) man.kind (enemy_king q) (others q m.from) m.to) (is_special_check q man.kind m.to) (special_pawn q man.kind m.to pawn (or_right (rank_of m.to == last_rank q.side) (is_target q.target m.to) target))
-may_check_by q m man step (Short king to) =
-    or_right (aims_over (other_color q.side) man.kind (enemy_king q) (others q m.from) m.to) (is_special_check q man.kind m.to) (special_king q man.kind m.to king (or_right (m.to == home_of q.side - 2) (m.to == home_of q.side + 2) (eq-eqb m.to (home_of q.side + 2) to)))
-may_check_by q m man step (Long king to) =
-    or_right (aims_over (other_color q.side) man.kind (enemy_king q) (others q m.from) m.to) (is_special_check q man.kind m.to) (special_king q man.kind m.to king (or_left (m.to == home_of q.side - 2) (m.to == home_of q.side + 2) (eq-eqb m.to (home_of q.side - 2) to)))
+may_check_by q m man step (Castled w king to) =
+    or_right (aims_over (other_color q.side) man.kind (enemy_king q) (others q m.from) m.to) (is_special_check q man.kind m.to) (special_king q man.kind m.to king (at_goals q.side w m.to to))
 
 -- a move of a man on s that mates, where s is off the lines to the king, goes to one of those of its ways on which it may give check
 pub checks_there : (q : Board) (w : Color) (man : Man) (s : ℕ) (ways checks targets lines : List Bool) → IsValid q → man_at q.men s ≡ Some man → ways ≡ set_of (is_way q s) → checks ≡ set_of (may_check q s man.kind) → targets ≡ set_common ways checks

@@ -5,7 +5,7 @@ use Rattle.cha_board.specs.declared.men.Kind.TheVariants.{Pawn, Knight, Bishop, 
 use Rattle.cha_board.specs.declared.men.Man.{Man}
 use Rattle.cha_board.specs.Squares.{squares, files_apart, ranks_apart, steps_apart, is_straight, is_diagonal, is_line, is_rank_ahead, aims_at, is_within, lies_between, between}
 use Rattle.cha_board.specs.Board.{Board, man_at, is_clear, attacks_as, attacked, king_of, in_check}
-use Rattle.cha_moves.specs.Moves.{is_step, is_double_step, is_pawn_capture, is_en_passant, is_short_castling, is_long_castling, goes, promotes_well, is_pseudo_legal_as, men_after, rights_after, target_after, after, is_legal_in, moves_from, all_moves, legal}
+use Rattle.cha_moves.specs.Moves.{is_step, is_double_step, is_pawn_capture, is_en_passant, castles, goes, promotes_well, is_pseudo_legal_as, men_after, rights_after, target_after, after, is_legal_in, moves_from, all_moves, legal}
 use Rattle.cha_moves.specs.Ends.{IsMated, IsStalemated}
 use Rattle.cha_board.specs.Letters.{square_text}
 use Rattle.cha_moves.specs.Texts.{promotion_text, move_bytes}
@@ -67,7 +67,7 @@ opening = record {
 }
 
 twenty_moves : length (legal opening) ≡ 20
-unfolding legal all_moves moves_from is_legal_in is_pseudo_legal_as goes promotes_well is_step is_double_step is_pawn_capture is_en_passant is_short_castling is_long_castling men_after in_check king_of attacked attacks_as is_clear between lies_between is_within aims_at is_rank_ahead is_line is_straight is_diagonal steps_apart files_apart ranks_apart squares
+unfolding legal all_moves moves_from is_legal_in is_pseudo_legal_as goes promotes_well is_step is_double_step is_pawn_capture is_en_passant castles men_after in_check king_of attacked attacks_as is_clear between lies_between is_within aims_at is_rank_ahead is_line is_straight is_diagonal steps_apart files_apart ranks_apart squares
 twenty_moves = refl
 
 -- a position known as Kiwipete: r3k2r/p1ppqpb1/bn2pnp1/3PN3/1p2P3/2N2Q1p/PPPBBPPP/R3K2R w KQkq -
@@ -88,7 +88,7 @@ kiwipete = record {
 }
 
 forty_eight_moves : length (legal kiwipete) ≡ 48
-unfolding legal all_moves moves_from is_legal_in is_pseudo_legal_as goes promotes_well is_step is_double_step is_pawn_capture is_en_passant is_short_castling is_long_castling men_after in_check king_of attacked attacks_as is_clear between lies_between is_within aims_at is_rank_ahead is_line is_straight is_diagonal steps_apart files_apart ranks_apart squares
+unfolding legal all_moves moves_from is_legal_in is_pseudo_legal_as goes promotes_well is_step is_double_step is_pawn_capture is_en_passant castles men_after in_check king_of attacked attacks_as is_clear between lies_between is_within aims_at is_rank_ahead is_line is_straight is_diagonal steps_apart files_apart ranks_apart squares
 forty_eight_moves = refl
 
 -- the fool's mate: rnb1kbnr/pppp1ppp/8/4p3/6Pq/5P2/PPPPP2P/RNBQKBNR w KQkq -
@@ -109,7 +109,7 @@ fools_mate = record {
 }
 
 fools_mate_mates : IsMated fools_mate White
-unfolding legal all_moves moves_from is_legal_in is_pseudo_legal_as goes promotes_well is_step is_double_step is_pawn_capture is_en_passant is_short_castling is_long_castling men_after in_check king_of attacked attacks_as is_clear between lies_between is_within aims_at is_rank_ahead is_line is_straight is_diagonal steps_apart files_apart ranks_apart squares
+unfolding legal all_moves moves_from is_legal_in is_pseudo_legal_as goes promotes_well is_step is_double_step is_pawn_capture is_en_passant castles men_after in_check king_of attacked attacks_as is_clear between lies_between is_within aims_at is_rank_ahead is_line is_straight is_diagonal steps_apart files_apart ranks_apart squares
 fools_mate_mates = record { to_move = refl; check = refl; stuck = refl }
 
 -- a stalemate: 7k/5Q2/6K1/8/8/8/8/8 b - -
@@ -130,7 +130,7 @@ cornered = record {
 }
 
 cornered_is_stalemated : IsStalemated cornered
-unfolding legal all_moves moves_from is_legal_in is_pseudo_legal_as goes promotes_well is_step is_double_step is_pawn_capture is_en_passant is_short_castling is_long_castling men_after in_check king_of attacked attacks_as is_clear between lies_between is_within aims_at is_rank_ahead is_line is_straight is_diagonal steps_apart files_apart ranks_apart squares
+unfolding legal all_moves moves_from is_legal_in is_pseudo_legal_as goes promotes_well is_step is_double_step is_pawn_capture is_en_passant castles men_after in_check king_of attacked attacks_as is_clear between lies_between is_within aims_at is_rank_ahead is_line is_straight is_diagonal steps_apart files_apart ranks_apart squares
 cornered_is_stalemated = record { free = refl; stuck = refl }
 
 -- f1 and b1 are attacked: 1r2kr2/8/8/8/8/8/8/R3K2R w KQ -
@@ -152,12 +152,12 @@ guarded_way = record {
 
 -- the king would pass over an attacked square
 no_castling_through_check : is_legal_in guarded_way (record { from = 4; to = 6; promotion = None }) ≡ false
-unfolding is_legal_in is_pseudo_legal_as goes promotes_well is_step is_double_step is_pawn_capture is_en_passant is_short_castling is_long_castling men_after in_check king_of attacked attacks_as is_clear between lies_between is_within aims_at is_rank_ahead is_line is_straight is_diagonal steps_apart files_apart ranks_apart squares
+unfolding is_legal_in is_pseudo_legal_as goes promotes_well is_step is_double_step is_pawn_capture is_en_passant castles men_after in_check king_of attacked attacks_as is_clear between lies_between is_within aims_at is_rank_ahead is_line is_straight is_diagonal steps_apart files_apart ranks_apart squares
 no_castling_through_check = refl
 
 -- the square on the b-file may be attacked
 castling_past_an_attacked_rook_way : is_legal_in guarded_way (record { from = 4; to = 2; promotion = None }) ≡ true
-unfolding is_legal_in is_pseudo_legal_as goes promotes_well is_step is_double_step is_pawn_capture is_en_passant is_short_castling is_long_castling men_after in_check king_of attacked attacks_as is_clear between lies_between is_within aims_at is_rank_ahead is_line is_straight is_diagonal steps_apart files_apart ranks_apart squares
+unfolding is_legal_in is_pseudo_legal_as goes promotes_well is_step is_double_step is_pawn_capture is_en_passant castles men_after in_check king_of attacked attacks_as is_clear between lies_between is_within aims_at is_rank_ahead is_line is_straight is_diagonal steps_apart files_apart ranks_apart squares
 castling_past_an_attacked_rook_way = refl
 
 -- a capture en passant would open the rank: 8/8/8/K2pP2r/8/8/8/4k3 w - d6
@@ -178,7 +178,7 @@ pinned = record {
 }
 
 no_capture_that_opens_the_king : is_legal_in pinned (record { from = 36; to = 43; promotion = None }) ≡ false
-unfolding is_legal_in is_pseudo_legal_as goes promotes_well is_step is_double_step is_pawn_capture is_en_passant is_short_castling is_long_castling men_after in_check king_of attacked attacks_as is_clear between lies_between is_within aims_at is_rank_ahead is_line is_straight is_diagonal steps_apart files_apart ranks_apart squares
+unfolding is_legal_in is_pseudo_legal_as goes promotes_well is_step is_double_step is_pawn_capture is_en_passant castles men_after in_check king_of attacked attacks_as is_clear between lies_between is_within aims_at is_rank_ahead is_line is_straight is_diagonal steps_apart files_apart ranks_apart squares
 no_capture_that_opens_the_king = refl
 
 -- the same with the rook elsewhere: 7r/8/8/K2pP3/8/8/8/4k3 w - d6
@@ -199,12 +199,12 @@ unpinned = record {
 }
 
 capture_en_passant : is_legal_in unpinned (record { from = 36; to = 43; promotion = None }) ≡ true
-unfolding is_legal_in is_pseudo_legal_as goes promotes_well is_step is_double_step is_pawn_capture is_en_passant is_short_castling is_long_castling men_after in_check king_of attacked attacks_as is_clear between lies_between is_within aims_at is_rank_ahead is_line is_straight is_diagonal steps_apart files_apart ranks_apart squares
+unfolding is_legal_in is_pseudo_legal_as goes promotes_well is_step is_double_step is_pawn_capture is_en_passant castles men_after in_check king_of attacked attacks_as is_clear between lies_between is_within aims_at is_rank_ahead is_line is_straight is_diagonal steps_apart files_apart ranks_apart squares
 capture_en_passant = refl
 
 -- the captured pawn stood on d5
 captured_pawn_leaves : man_at (men_after unpinned (record { from = 36; to = 43; promotion = None })) 35 ≡ None
-unfolding men_after is_legal_in is_pseudo_legal_as goes promotes_well is_step is_double_step is_pawn_capture is_en_passant is_short_castling is_long_castling in_check king_of attacked attacks_as is_clear between lies_between is_within aims_at is_rank_ahead is_line is_straight is_diagonal steps_apart files_apart ranks_apart squares
+unfolding men_after is_legal_in is_pseudo_legal_as goes promotes_well is_step is_double_step is_pawn_capture is_en_passant castles in_check king_of attacked attacks_as is_clear between lies_between is_within aims_at is_rank_ahead is_line is_straight is_diagonal steps_apart files_apart ranks_apart squares
 captured_pawn_leaves = refl
 
 -- a pawn before its last step: 4k3/P7/8/8/8/8/8/4K3 w - -
@@ -233,7 +233,7 @@ moves_in_order : legal last_step ≡ (record { from = 4; to = 3; promotion = Non
     (record { from = 48; to = 56; promotion = Some Rook }) ∷
     (record { from = 48; to = 56; promotion = Some Bishop }) ∷
     (record { from = 48; to = 56; promotion = Some Knight }) ∷ []
-unfolding legal all_moves moves_from is_legal_in is_pseudo_legal_as goes promotes_well is_step is_double_step is_pawn_capture is_en_passant is_short_castling is_long_castling men_after in_check king_of attacked attacks_as is_clear between lies_between is_within aims_at is_rank_ahead is_line is_straight is_diagonal steps_apart files_apart ranks_apart squares
+unfolding legal all_moves moves_from is_legal_in is_pseudo_legal_as goes promotes_well is_step is_double_step is_pawn_capture is_en_passant castles men_after in_check king_of attacked attacks_as is_clear between lies_between is_within aims_at is_rank_ahead is_line is_straight is_diagonal steps_apart files_apart ranks_apart squares
 moves_in_order = refl
 
 -- also where no pawn can capture

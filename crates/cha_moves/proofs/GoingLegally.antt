@@ -9,19 +9,21 @@ use Rattle.cha_board.specs.declared.men.Color.TheVariants.{White, Black}
 use Rattle.cha_board.specs.declared.men.Kind.{Kind}
 use Rattle.cha_board.specs.declared.men.Kind.TheVariants.{Pawn, Rook, Bishop, Knight, Queen, King}
 use Rattle.cha_board.specs.declared.men.Man.{Man}
+use Rattle.cha_board.specs.declared.castling.Wing.{Wing}
+use Rattle.cha_board.specs.declared.castling.Wing.TheVariants.{Kingside, Queenside}
 use Rattle.cha_board.specs.Men.{other_color, same_color, same_kind, is_vacant, is_of, is_man}
 use Rattle.cha_board.specs.Squares.{squares, rank_of, last_rank, aims_at, files_apart, ranks_apart, steps_apart, is_straight, is_diagonal, is_line, is_rank_ahead, is_within, lies_between}
-use Rattle.cha_board.specs.Board.{Board, IsValid, man_at, attacks_as, attacked, in_check, king_of, home_of}
+use Rattle.cha_board.specs.Board.{Board, IsValid, man_at, attacks_as, attacked, in_check, king_of, home_of, goal_of}
 use Rattle.cha_board.specs.SquareSets.{set_of, has_square, squares_in, set_common, set_without, set_placed}
 use Rattle.cha_board.proofs.SetLaws.{has-set_of, same_set, same_squares, length-set_of}
 use Rattle.cha_board.proofs.Sightings.{attacked_from, attacked_by_none}
 use Rattle.cha_moves.specs.Step.{Move}
-use Rattle.cha_moves.specs.Moves.{is_legal_in, is_en_passant, is_short_castling, is_long_castling, moves_between, moves_from, men_after}
+use Rattle.cha_moves.specs.Moves.{is_legal_in, is_en_passant, castles, moves_between, moves_from, men_after}
 use Rattle.cha_moves.specs.Ways.{is_way, is_promoted, legal_between}
 use Rattle.cha_moves.specs.Shields.{aims_as, men_less, AreShields, IsFree, some_move, goes_legally}
 use Rattle.cha_board.proofs.Identity.{two_kinds}
-use Rattle.cha_moves.proofs.Made.{Step, may_gives, put, put_other, men_moved, Plainly, Passing, Shortly, Longly, makes}
-use Rattle.cha_moves.proofs.Kept.{kings_kept, king_place, length_after, short_tests, long_tests}
+use Rattle.cha_moves.proofs.Made.{Step, may_gives, put, put_other, men_moved, Plainly, Passing, OnWing, makes}
+use Rattle.cha_moves.proofs.Kept.{kings_kept, king_place, length_after, castling_tests}
 use Rattle.cha_moves.proofs.Contained.{Contains-filter_parts, Contains-squares_small}
 use Rattle.cha_moves.proofs.Filling.{still_safe, filled_put}
 use Rattle.cha_moves.proofs.WayLaws.{no_way_between, no_ways, filter_in_set}
@@ -163,10 +165,12 @@ attacked_on c men t man inside other = elim (cases_Bool (attacked (slice_set men
   ]
 ]
 
-two_away : (c : Color) → (aims_at c King (home_of c) (home_of c + 2) ≡ false) × (aims_at c King (home_of c) (home_of c - 2) ≡ false)
+two_away : (c : Color) (w : Wing) → aims_at c King (home_of c) (goal_of c w) ≡ false
 unfolding aims_at steps_apart files_apart ranks_apart
-two_away White = (refl, refl)
-two_away Black = (refl, refl)
+two_away White Kingside = refl
+two_away White Queenside = refl
+two_away Black Kingside = refl
+two_away Black Queenside = refl
 
 -- the king moves as one man where it does not castle
 king_moves_one : (q : Board) (s t : ℕ) (man : Man) → man_at q.men s ≡ Some man → man.kind ≡ King → aims_at q.side King s t ≡ true
@@ -175,14 +179,11 @@ king_moves_one q s t man found king aims =
     let m : Move = record { from = s; to = t; promotion = None } in
     let no_pawn : is_man q.side Pawn (man_at q.men s) ≡ false = ap (is_man q.side Pawn) found ∙ two_kinds (same_color man.color q.side) (same_kind man.kind Pawn) (rw king refl) in
     elim (makes q m) [
-      | Plainly a b c e ↦ e
+      | Plainly a b e ↦ e
       | Passing h e ↦ absurd (both_ways (is_man q.side Pawn (man_at q.men s)) no_pawn (and_parts (is_man q.side Pawn (man_at q.men s)) (is_en_passant q s t) h).0)
-      | Shortly h e ↦ (
-          let tests = short_tests q s t (and_parts (is_man q.side King (man_at q.men s)) (is_short_castling q s t) h).1 in
-          absurd (both_ways (aims_at q.side King s t) (ap (λ x. aims_at q.side King x t) tests.from_home ∙ ap (aims_at q.side King (home_of q.side)) tests.two_files ∙ (two_away q.side).0) aims))
-      | Longly h e ↦ (
-          let tests = long_tests q s t (and_parts (is_man q.side King (man_at q.men s)) (is_long_castling q s t) h).1 in
-          absurd (both_ways (aims_at q.side King s t) (ap (λ x. aims_at q.side King x t) tests.from_home ∙ ap (aims_at q.side King (home_of q.side)) tests.two_files ∙ (two_away q.side).1) aims))
+      | OnWing w h e ↦ (
+          let tests = castling_tests q w s t (and_parts (is_man q.side King (man_at q.men s)) (castles q w s t) h).1 in
+          absurd (both_ways (aims_at q.side King s t) (ap (λ x. aims_at q.side King x t) tests.from_home ∙ ap (aims_at q.side King (home_of q.side)) tests.to_goal ∙ two_away q.side w) aims))
     ]
 
 -- a king goes legally to a square near it where it would not be attacked

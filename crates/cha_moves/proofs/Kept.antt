@@ -1,7 +1,7 @@
 -- What the man that moves becomes, the squares of a castling and of a capture en passant, and that each side keeps its king.
-use Rattle.std.proofs.Common.{◌≡◌, ◌≢◌, ℕ, ◌+◌, ◌-◌, ◌<◌, ◌≤◌, ◌==◌, Bool, true, false, not, ◌&&◌, cond, List, length, Option, Some, None, is_none, slice_set, ◌⊎◌, inl, inr, refl, sym, ◌∙◌, ap, arith}
+use Rattle.std.proofs.Common.{◌≡◌, ◌≢◌, ℕ, ◌+◌, ◌-◌, ◌<◌, ◌≤◌, ◌==◌, Bool, true, false, not, ◌&&◌, ◌||◌, cond, List, length, Option, Some, None, is_none, slice_set, ◌⊎◌, inl, inr, refl, sym, ◌∙◌, ap, arith}
 use Rattle.std.specs.List.{count_by}
-use Rattle.std.proofs.lemmas.Bool.{and_parts, both_ways, eqb-true, eq-eqb, not-true, cases_eq, false_from_ne_true}
+use Rattle.std.proofs.lemmas.Bool.{and_parts, or_cases, both_ways, eqb-true, eq-eqb, not-true, cases_eq, false_from_ne_true}
 use Rattle.std.proofs.lemmas.List.{length-set}
 use Rattle.std.proofs.lemmas.List.Sums.{sum_by-set}
 use Rattle.std.proofs.lemmas.Option.{same_Some}
@@ -10,14 +10,17 @@ use Rattle.cha_board.specs.declared.men.Color.TheVariants.{White, Black}
 use Rattle.cha_board.specs.declared.men.Kind.{Kind}
 use Rattle.cha_board.specs.declared.men.Kind.TheVariants.{Pawn, Knight, Bishop, Rook, Queen, King}
 use Rattle.cha_board.specs.declared.men.Man.{Man}
+use Rattle.cha_board.specs.declared.castling.Wing.{Wing}
+use Rattle.cha_board.specs.declared.castling.Wing.TheVariants.{Kingside, Queenside}
 use Rattle.cha_board.specs.Men.{other_color, same_color, same_kind, is_man}
-use Rattle.cha_board.specs.Squares.{rank_of, last_rank}
-use Rattle.cha_board.specs.Board.{Board, IsValid, man_at, is_empty, home_of, king_of, has_one_king, has_short_right, has_long_right, rights_fit, are_at_home, target_rank, target_fits, target_is_good}
+use Rattle.cha_board.specs.Squares.{rank_of, last_rank, files_apart, ranks_apart, is_straight, is_diagonal, is_within, lies_between, aims_at}
+use Rattle.cha_board.specs.Board.{Board, IsValid, man_at, is_empty, is_clear, attacked, home_of, corner_of, crossing_of, goal_of, king_of, has_one_king, has_right, right_fits, are_at_home, target_rank, target_fits, target_is_good}
 use Rattle.cha_board.proofs.Kings.{king_is}
 use Rattle.cha_moves.specs.Step.{Move}
-use Rattle.cha_moves.specs.Moves.{is_promotion, promotes_well, may_enter, arriving, is_target, is_en_passant, victim_of, is_short_castling, is_long_castling, moved, castles_short, castles_long, captures_en_passant, rook_of, men_after}
-use Rattle.cha_board.proofs.Identity.{same_color_equal, same_kind_equal, side_other, two_kinds, one_kind, empty_no_man, empty_is_none, none_some, on_board, man_of, five_of_eight, six_of_nine, all_four, if_at}
-use Rattle.cha_moves.proofs.Made.{Mover, Step, put_other, length-moved, moved_other, men_moved, Plainly, Passing, Shortly, Longly, makes}
+use Rattle.cha_moves.specs.Moves.{is_promotion, promotes_well, may_enter, arriving, is_target, is_en_passant, victim_of, castles, goes, moved, king_castles, captures_en_passant, rook_of, rook_castled, men_after}
+use Rattle.cha_board.proofs.Identity.{same_color_equal, same_kind_equal, side_other, two_kinds, one_kind, empty_no_man, empty_is_none, none_some, on_board, man_of, all_four, all_five, if_at}
+use Rattle.cha_moves.proofs.Made.{Mover, Step, put_other, length-moved, moved_other, men_moved, Plainly, Passing, OnWing, makes}
+use Rattle.cha_moves.proofs.Clearing.{clear_at}
 
 -- the mover's own man bars a square
 pub own_bars : (c : Color) (o : Option Man) (man : Man) → o ≡ Some man → same_color man.color c ≡ true → may_enter c o ≡ true → ⊥
@@ -200,51 +203,66 @@ victim_of_move q m man step h =
           none_some (man_at q.men m.to) k.man (empty_is_none (man_at q.men m.to) target.free) here);
     }
 
--- the tests of a castling on the king's side
-pub record CastlesShort (q : Board) (s t : ℕ) : Type 0 where
+-- the tests of a castling on a wing
+pub record CastlesOn (q : Board) (w : Wing) (s t : ℕ) : Type 0 where
   pub from_home : s ≡ home_of q.side
-  pub two_files : t ≡ home_of q.side + 2
-  pub right : has_short_right q.rights q.side ≡ true
-  pub free : is_empty q.men (home_of q.side + 1) ≡ true
-  pub free_to : is_empty q.men (home_of q.side + 2) ≡ true
+  pub to_goal : t ≡ goal_of q.side w
+  pub right : has_right q.rights q.side w ≡ true
+  pub clear : is_clear q.men (home_of q.side) (corner_of q.side w) ≡ true
+  pub safe : attacked q.men (other_color q.side) (goal_of q.side w) ≡ false
 
-pub short_tests : (q : Board) (s t : ℕ) → is_short_castling q s t ≡ true → CastlesShort q s t
-unfolding is_short_castling
-short_tests q s t h =
-    let all = five_of_eight _ _ _ _ _ _ _ _ h in
-    record { from_home = eqb-true s (home_of q.side) all.0; two_files = eqb-true t (home_of q.side + 2) all.1; right = all.2; free = all.3; free_to = all.4 }
+pub castling_tests : (q : Board) (w : Wing) (s t : ℕ) → castles q w s t ≡ true → CastlesOn q w s t
+unfolding castles
+castling_tests q w s t h =
+    let x = and_parts _ (not (attacked q.men (other_color q.side) (goal_of q.side w))) h in
+    let y = and_parts _ (not (attacked q.men (other_color q.side) (crossing_of q.side w))) x.0 in
+    let all = all_five _ _ _ _ _ y.0 in
+    record { from_home = eqb-true s (home_of q.side) all.0; to_goal = eqb-true t (goal_of q.side w) all.1; right = all.2; clear = all.3; safe = not-true _ x.1 }
 
--- the tests of a castling on the queen's side
-pub record CastlesLong (q : Board) (s t : ℕ) : Type 0 where
-  pub from_home : s ≡ home_of q.side
-  pub two_files : t ≡ home_of q.side - 2
-  pub right : has_long_right q.rights q.side ≡ true
-  pub free : is_empty q.men (home_of q.side - 1) ≡ true
-  pub free_to : is_empty q.men (home_of q.side - 2) ≡ true
-  pub free_way : is_empty q.men (home_of q.side - 3) ≡ true
-
-pub long_tests : (q : Board) (s t : ℕ) → is_long_castling q s t ≡ true → CastlesLong q s t
-unfolding is_long_castling
-long_tests q s t h =
-    let all = six_of_nine _ _ _ _ _ _ _ _ _ h in
-    record { from_home = eqb-true s (home_of q.side) all.0; two_files = eqb-true t (home_of q.side - 2) all.1; right = all.2; free = all.3; free_to = all.4; free_way = all.5 }
+-- a king goes where it aims, or castles on a wing
+pub king_way : (q : Board) (s t : ℕ) → goes q King s t ≡ true → (aims_at q.side King s t ≡ true) ⊎ ((w : Wing) × (castles q w s t ≡ true))
+unfolding goes
+king_way q s t h = elim (or_cases (aims_at q.side King s t || castles q Kingside s t) (castles q Queenside s t) h) [
+  | inl x ↦ elim (or_cases (aims_at q.side King s t) (castles q Kingside s t) x) [
+    | inl y ↦ inl y
+    | inr y ↦ inr (Kingside, y)
+  ]
+  | inr x ↦ inr (Queenside, x)
+]
 
 -- where c has a right, its king and that rook are at home
-pub short_homes : (q : Board) (c : Color) → IsValid q → has_short_right q.rights c ≡ true → (is_man c King (man_at q.men (home_of c)) ≡ true) × (is_man c Rook (man_at q.men (home_of c + 3)) ≡ true)
-unfolding rights_fit are_at_home
-short_homes q c valid right =
-    let both = and_parts _ _ (valid.rights c) in
-    and_parts _ _ (if_at (has_short_right q.rights c) _ both.0 right)
+pub homes_of : (q : Board) (c : Color) (w : Wing) → IsValid q → has_right q.rights c w ≡ true → (is_man c King (man_at q.men (home_of c)) ≡ true) × (is_man c Rook (man_at q.men (corner_of c w)) ≡ true)
+unfolding right_fits are_at_home
+homes_of q c w valid right = and_parts _ _ (if_at (has_right q.rights c w) _ (valid.rights c w) right)
 
-pub long_homes : (q : Board) (c : Color) → IsValid q → has_long_right q.rights c ≡ true → (is_man c King (man_at q.men (home_of c)) ≡ true) × (is_man c Rook (man_at q.men (home_of c - 4)) ≡ true)
-unfolding rights_fit are_at_home
-long_homes q c valid right =
-    let both = and_parts _ _ (valid.rights c) in
-    and_parts _ _ (if_at (has_long_right q.rights c) _ both.1 right)
+-- the squares of a castling
+pub record Squares (h g i j : ℕ) : Type 0 where
+  pub small_i : i < 64
+  pub small_j : j < 64
+  pub small_g : g < 64
+  pub i_h : i ≢ h
+  pub i_g : i ≢ g
+  pub j_h : j ≢ h
+  pub j_g : j ≢ g
+  pub i_j : i ≢ j
 
-pub home_small : (c : Color) → (4 ≤ home_of c) × (home_of c ≤ 60)
-home_small White = (omega arith, omega arith)
-home_small Black = (omega arith, omega arith)
+squares_by : (h g i j : ℕ) → ((i ≡ h + 3) × (j ≡ h + 1) × (g ≡ h + 2) × (h ≤ 60)) ⊎ ((h ≡ i + 4) × (h ≡ j + 1) × (h ≡ g + 2) × (h ≤ 60)) → Squares h g i j
+squares_by h g i j (inl x) = record { small_i = omega (arith, x); small_j = omega (arith, x); small_g = omega (arith, x); i_h = omega (arith, x); i_g = omega (arith, x); j_h = omega (arith, x); j_g = omega (arith, x); i_j = omega (arith, x) }
+squares_by h g i j (inr x) = record { small_i = omega (arith, x); small_j = omega (arith, x); small_g = omega (arith, x); i_h = omega (arith, x); i_g = omega (arith, x); j_h = omega (arith, x); j_g = omega (arith, x); i_j = omega (arith, x) }
+
+pub squares_of : (c : Color) (w : Wing) → Squares (home_of c) (goal_of c w) (corner_of c w) (crossing_of c w)
+squares_of White Kingside = squares_by 4 6 7 5 (inl (refl, refl, refl, omega arith))
+squares_of White Queenside = squares_by 4 2 0 3 (inr (refl, refl, refl, omega arith))
+squares_of Black Kingside = squares_by 60 62 63 61 (inl (refl, refl, refl, omega arith))
+squares_of Black Queenside = squares_by 60 58 56 59 (inr (refl, refl, refl, omega arith))
+
+-- between king and rook lie the square that the king crosses and the one where it arrives
+on_way : (c : Color) (w : Wing) → (lies_between (home_of c) (corner_of c w) (crossing_of c w) ≡ true) × (lies_between (home_of c) (corner_of c w) (goal_of c w) ≡ true)
+unfolding lies_between is_within is_straight is_diagonal files_apart ranks_apart
+on_way White Kingside = (refl, refl)
+on_way White Queenside = (refl, refl)
+on_way Black Kingside = (refl, refl)
+on_way Black Queenside = (refl, refl)
 
 -- a castling in which the rook goes from i to j
 pub record Castling (q : Board) (m : Move) (i j : ℕ) : Type 0 where
@@ -254,7 +272,9 @@ pub record Castling (q : Board) (m : Move) (i j : ℕ) : Type 0 where
   pub free : is_empty q.men j ≡ true
   pub free_to : is_empty q.men m.to ≡ true
   pub from_home : m.from ≡ home_of q.side
-  pub place : ((i ≡ home_of q.side + 3) × (j ≡ home_of q.side + 1)) ⊎ ((i ≡ home_of q.side - 4) × (j ≡ home_of q.side - 1))
+  pub wing : Wing
+  pub corner : i ≡ corner_of q.side wing
+  pub crossing : j ≡ crossing_of q.side wing
   pub small_i : i < 64
   pub small_j : j < 64
   pub i_from : i ≢ m.from
@@ -263,56 +283,32 @@ pub record Castling (q : Board) (m : Move) (i j : ℕ) : Type 0 where
   pub j_to : j ≢ m.to
   pub i_j : i ≢ j
 
-pub short_castling : (q : Board) (m : Move) → IsValid q → castles_short q (man_at q.men m.from) m.from m.to ≡ true
-    → men_after q m ≡ moved (men_moved q m) (home_of q.side + 3) (home_of q.side + 1) (rook_of q.side) → Castling q m (home_of q.side + 3) (home_of q.side + 1)
-short_castling q m valid h men =
-    let both = and_parts (is_man q.side King (man_at q.men m.from)) (is_short_castling q m.from m.to) h in
-    let tests = short_tests q m.from m.to both.1 in
-    let homes = short_homes q q.side valid tests.right in
-    let small = home_small q.side in
-    let at = tests.from_home in
-    let to = tests.two_files in
+pub castling_of : (q : Board) (m : Move) (w : Wing) → IsValid q → king_castles q w (man_at q.men m.from) m.from m.to ≡ true
+    → men_after q m ≡ rook_castled (men_moved q m) q.side w → Castling q m (corner_of q.side w) (crossing_of q.side w)
+castling_of q m w valid h men =
+    let both = and_parts (is_man q.side King (man_at q.men m.from)) (castles q w m.from m.to) h in
+    let tests = castling_tests q w m.from m.to both.1 in
+    let squares = squares_of q.side w in
+    let way = on_way q.side w in
+    let from = tests.from_home in
+    let to = tests.to_goal in
     record {
       men = men;
       king = both.0;
-      rook = homes.1;
-      free = tests.free;
-      free_to = rw to tests.free_to;
-      from_home = at;
-      place = inl (refl, refl);
-      small_i = omega arith;
-      small_j = omega arith;
-      i_from = omega arith;
-      i_to = omega arith;
-      j_from = omega arith;
-      j_to = omega arith;
-      i_j = omega arith;
-    }
-
-pub long_castling : (q : Board) (m : Move) → IsValid q → castles_long q (man_at q.men m.from) m.from m.to ≡ true
-    → men_after q m ≡ moved (men_moved q m) (home_of q.side - 4) (home_of q.side - 1) (rook_of q.side) → Castling q m (home_of q.side - 4) (home_of q.side - 1)
-long_castling q m valid h men =
-    let both = and_parts (is_man q.side King (man_at q.men m.from)) (is_long_castling q m.from m.to) h in
-    let tests = long_tests q m.from m.to both.1 in
-    let homes = long_homes q q.side valid tests.right in
-    let small = home_small q.side in
-    let at = tests.from_home in
-    let to = tests.two_files in
-    record {
-      men = men;
-      king = both.0;
-      rook = homes.1;
-      free = tests.free;
-      free_to = rw to tests.free_to;
-      from_home = at;
-      place = inr (refl, refl);
-      small_i = omega arith;
-      small_j = omega arith;
-      i_from = omega arith;
-      i_to = omega arith;
-      j_from = omega arith;
-      j_to = omega arith;
-      i_j = omega arith;
+      rook = (homes_of q q.side w valid tests.right).1;
+      free = clear_at q.men (home_of q.side) (corner_of q.side w) (crossing_of q.side w) tests.clear squares.small_j way.0;
+      free_to = rw to (clear_at q.men (home_of q.side) (corner_of q.side w) (goal_of q.side w) tests.clear squares.small_g way.1);
+      from_home = from;
+      wing = w;
+      corner = refl;
+      crossing = refl;
+      small_i = squares.small_i;
+      small_j = squares.small_j;
+      i_from = λ e. squares.i_h (e ∙ from);
+      i_to = λ e. squares.i_g (e ∙ to);
+      j_from = λ e. squares.j_h (e ∙ from);
+      j_to = λ e. squares.j_g (e ∙ to);
+      i_j = squares.i_j;
     }
 
 -- the men are 64 after a move
@@ -320,10 +316,9 @@ pub length_after : (q : Board) (m : Move) → length (men_after q m) ≡ length 
 length_after q m =
     let one = length-moved q.men m.from m.to (arriving (man_at q.men m.from) m.promotion) in
     elim (makes q m) [
-      | Plainly a b c e ↦ rw e one
+      | Plainly a b e ↦ rw e one
       | Passing t e ↦ rw e (length-set (men_moved q m) (victim_of q.side m.to) None ∙ one)
-      | Shortly t e ↦ rw e (length-moved (men_moved q m) (home_of q.side + 3) (home_of q.side + 1) (rook_of q.side) ∙ one)
-      | Longly t e ↦ rw e (length-moved (men_moved q m) (home_of q.side - 4) (home_of q.side - 1) (rook_of q.side) ∙ one)
+      | OnWing w t e ↦ rw e (length-moved (men_moved q m) (corner_of q.side w) (crossing_of q.side w) (rook_of q.side) ∙ one)
     ]
 
 kings_passing : (q : Board) (m : Move) (man : Man) → Step q m man → Victim q m → (c : Color) → kings_in (slice_set (men_moved q m) (victim_of q.side m.to) None) c ≡ kings_in q.men c
@@ -350,10 +345,9 @@ kings_castling q m man i j step castling c =
 
 kings_after : (q : Board) (m : Move) (man : Man) → Step q m man → (c : Color) → kings_in (men_after q m) c ≡ kings_in q.men c
 kings_after q m man step c = elim (makes q m) [
-  | Plainly a b d e ↦ rw e (kings_one_move q m man step c)
+  | Plainly a b e ↦ rw e (kings_one_move q m man step c)
   | Passing t e ↦ rw e (kings_passing q m man step (victim_of_move q m man step t) c)
-  | Shortly t e ↦ rw e (kings_castling q m man _ _ step (short_castling q m step.valid t e) c)
-  | Longly t e ↦ rw e (kings_castling q m man _ _ step (long_castling q m step.valid t e) c)
+  | OnWing w t e ↦ rw e (kings_castling q m man _ _ step (castling_of q m w step.valid t e) c)
 ]
 
 -- each side has one king after a move

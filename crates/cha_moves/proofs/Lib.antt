@@ -8,7 +8,7 @@ pub mod Near
 pub mod Filling
 pub mod KingSquare
 pub mod Sureness
-mod Touched
+pub mod Touched
 pub mod WayLaws
 mod SomeFrom
 pub mod Arriving

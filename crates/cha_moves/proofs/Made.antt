@@ -1,11 +1,13 @@
 -- What a move does to the men: which man stands where afterwards.
-use Rattle.std.proofs.Common.{◌≡◌, ◌≢◌, ℕ, ◌+◌, ◌-◌, ◌<◌, Bool, true, false, cond, List, length, Option, Some, None, slice_set, refl, ◌∙◌, get_or-set_other, get_or-set_same}
+use Rattle.std.proofs.Common.{◌≡◌, ◌≢◌, ℕ, ◌<◌, Bool, true, false, cond, List, length, Option, Some, None, slice_set, refl, ◌∙◌, get_or-set_other, get_or-set_same}
 use Rattle.std.proofs.lemmas.List.{length-set}
 use Rattle.cha_board.specs.declared.men.Man.{Man}
+use Rattle.cha_board.specs.declared.castling.Wing.{Wing}
+use Rattle.cha_board.specs.declared.castling.Wing.TheVariants.{Kingside, Queenside}
 use Rattle.cha_board.specs.Men.{same_color}
-use Rattle.cha_board.specs.Board.{Board, IsValid, man_at, home_of}
+use Rattle.cha_board.specs.Board.{Board, IsValid, man_at}
 use Rattle.cha_moves.specs.Step.{Move}
-use Rattle.cha_moves.specs.Moves.{goes, promotes_well, may_enter, is_pseudo_legal, is_pseudo_legal_as, arriving, victim_of, moved, castles_short, castles_long, captures_en_passant, rook_of, men_after}
+use Rattle.cha_moves.specs.Moves.{goes, promotes_well, may_enter, is_pseudo_legal, is_pseudo_legal_as, arriving, victim_of, moved, king_castles, captures_en_passant, rook_castled, men_after}
 use Rattle.cha_board.proofs.Identity.{all_four}
 
 -- what is known of the man that may make a move
@@ -57,13 +59,15 @@ moved_other men s t man u from to = put_other (slice_set men s None) t man u to 
 abbrev pub men_moved : Board → Move → List (Option Man)
 men_moved q m = moved q.men m.from m.to (arriving (man_at q.men m.from) m.promotion)
 
--- how a move changes the men: as one man's move, as a capture en passant, or as one of the two castlings
+-- how a move changes the men: as one man's move, as a capture en passant, or as castling on a wing
 pub data Makes (q : Board) (m : Move) : Type 0 where
-  Plainly : captures_en_passant q (man_at q.men m.from) m.from m.to ≡ false → castles_short q (man_at q.men m.from) m.from m.to ≡ false → castles_long q (man_at q.men m.from) m.from m.to ≡ false
-      → men_after q m ≡ men_moved q m → Makes q m
+  Plainly : captures_en_passant q (man_at q.men m.from) m.from m.to ≡ false → ((w : Wing) → king_castles q w (man_at q.men m.from) m.from m.to ≡ false) → men_after q m ≡ men_moved q m → Makes q m
   Passing : captures_en_passant q (man_at q.men m.from) m.from m.to ≡ true → men_after q m ≡ slice_set (men_moved q m) (victim_of q.side m.to) None → Makes q m
-  Shortly : castles_short q (man_at q.men m.from) m.from m.to ≡ true → men_after q m ≡ moved (men_moved q m) (home_of q.side + 3) (home_of q.side + 1) (rook_of q.side) → Makes q m
-  Longly : castles_long q (man_at q.men m.from) m.from m.to ≡ true → men_after q m ≡ moved (men_moved q m) (home_of q.side - 4) (home_of q.side - 1) (rook_of q.side) → Makes q m
+  OnWing : (w : Wing) → king_castles q w (man_at q.men m.from) m.from m.to ≡ true → men_after q m ≡ rook_castled (men_moved q m) q.side w → Makes q m
+
+each_wing : (P : Wing → Type 0) → P Kingside → P Queenside → (w : Wing) → P w
+each_wing P a b Kingside = a
+each_wing P a b Queenside = b
 
 choose : {X : Type 0} (a b c : Bool) (all w x y z : X) → all ≡ cond a w (cond b x (cond c y z)) → (P : Type 0)
     → (a ≡ true → all ≡ w → P) → (b ≡ true → all ≡ x → P) → (c ≡ true → all ≡ y → P) → (a ≡ false → b ≡ false → c ≡ false → all ≡ z → P) → P
@@ -77,7 +81,6 @@ unfolding men_after
 makes q m =
     let man = man_at q.men m.from in
     let men = men_moved q m in
-    let h = home_of q.side in
-    choose (captures_en_passant q man m.from m.to) (castles_short q man m.from m.to) (castles_long q man m.from m.to)
-    (men_after q m) (slice_set men (victim_of q.side m.to) None) (moved men (h + 3) (h + 1) (rook_of q.side)) (moved men (h - 4) (h - 1) (rook_of q.side)) men
-    refl (Makes q m) (λ t e. Passing t e) (λ t e. Shortly t e) (λ t e. Longly t e) (λ a b c e. Plainly a b c e)
+    choose (captures_en_passant q man m.from m.to) (king_castles q Kingside man m.from m.to) (king_castles q Queenside man m.from m.to)
+    (men_after q m) (slice_set men (victim_of q.side m.to) None) (rook_castled men q.side Kingside) (rook_castled men q.side Queenside) men
+    refl (Makes q m) (λ t e. Passing t e) (λ t e. OnWing Kingside t e) (λ t e. OnWing Queenside t e) (λ a b c e. Plainly a (each_wing (λ w. king_castles q w man m.from m.to ≡ false) b c) e)

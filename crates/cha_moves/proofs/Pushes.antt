@@ -8,16 +8,18 @@ use Rattle.cha_board.specs.declared.men.Color.TheVariants.{White, Black}
 use Rattle.cha_board.specs.declared.men.Kind.{Kind}
 use Rattle.cha_board.specs.declared.men.Kind.TheVariants.{Pawn, Knight, Bishop, Rook, Queen, King}
 use Rattle.cha_board.specs.declared.men.Man.{Man}
+use Rattle.cha_board.specs.declared.castling.Wing.{Wing}
+use Rattle.cha_board.specs.declared.castling.Wing.TheVariants.{Kingside, Queenside}
 use Rattle.cha_board.specs.Men.{same_color, same_kind}
 use Rattle.cha_board.specs.Squares.{squares, rank_of, last_rank, ahead_of, files_apart, is_rank_ahead, aims_at}
-use Rattle.cha_board.specs.Board.{Board, man_at, is_empty, home_of}
-use Rattle.cha_board.specs.SquareSets.{set_of, set_joined, set_minus}
-use Rattle.cha_board.proofs.SetLaws.{same_set}
+use Rattle.cha_board.specs.Board.{Board, man_at, is_empty, goal_of}
+use Rattle.cha_board.specs.SquareSets.{set_of, has_square, set_joined, set_minus}
+use Rattle.cha_board.proofs.SetLaws.{has-set_of, same_set}
 use Rattle.cha_board.specs.Aims.{aimed}
 use Rattle.cha_board.proofs.Scans.{pair_at}
-use Rattle.cha_moves.specs.Moves.{second_rank, fourth_rank, middle, is_step, is_double_step, is_pawn_capture, is_en_passant, is_short_castling, is_long_castling, goes, goes_as, may_enter}
+use Rattle.cha_moves.specs.Moves.{second_rank, fourth_rank, middle, is_step, is_double_step, is_pawn_capture, is_en_passant, castles, goes, goes_as, may_enter}
 use Rattle.cha_moves.specs.Ways.{is_way}
-use Rattle.cha_moves.proofs.Kept.{short_tests, long_tests}
+use Rattle.cha_moves.proofs.Kept.{castling_tests}
 use Rattle.cha_moves.proofs.Goings.{joined_of, minus_of, occupied_in, aims_seen, at_one}
 
 same_bool : Bool → Bool → Bool
@@ -152,17 +154,14 @@ and_true true b h = h
 and_true false b h = refl
 
 -- castling leads to one square
-short_is : (q : Board) (s t : ℕ) → is_short_castling q s t ≡ (is_short_castling q s (home_of q.side + 2) && (t == home_of q.side + 2))
-short_is q s t = elim (cases_eq t (home_of q.side + 2)) [
-  | inl e ↦ ap (is_short_castling q s) e ∙ sym (and_true (is_short_castling q s (home_of q.side + 2)) (t == home_of q.side + 2) (eq-eqb t (home_of q.side + 2) e))
-  | inr ne ↦ false_from_ne_true (is_short_castling q s t) (λ h. ne (short_tests q s t h).two_files) ∙ sym (and_right (is_short_castling q s (home_of q.side + 2)) (t == home_of q.side + 2) (ne_eqb t (home_of q.side + 2) ne))
+castling_is : (q : Board) (w : Wing) (s t : ℕ) → castles q w s t ≡ (castles q w s (goal_of q.side w) && (t == goal_of q.side w))
+castling_is q w s t = elim (cases_eq t (goal_of q.side w)) [
+  | inl e ↦ ap (castles q w s) e ∙ sym (and_true (castles q w s (goal_of q.side w)) (t == goal_of q.side w) (eq-eqb t (goal_of q.side w) e))
+  | inr ne ↦ false_from_ne_true (castles q w s t) (λ h. ne (castling_tests q w s t h).to_goal) ∙ sym (and_right (castles q w s (goal_of q.side w)) (t == goal_of q.side w) (ne_eqb t (goal_of q.side w) ne))
 ]
 
-long_is : (q : Board) (s t : ℕ) → is_long_castling q s t ≡ (is_long_castling q s (home_of q.side - 2) && (t == home_of q.side - 2))
-long_is q s t = elim (cases_eq t (home_of q.side - 2)) [
-  | inl e ↦ ap (is_long_castling q s) e ∙ sym (and_true (is_long_castling q s (home_of q.side - 2)) (t == home_of q.side - 2) (eq-eqb t (home_of q.side - 2) e))
-  | inr ne ↦ false_from_ne_true (is_long_castling q s t) (λ h. ne (long_tests q s t h).two_files) ∙ sym (and_right (is_long_castling q s (home_of q.side - 2)) (t == home_of q.side - 2) (ne_eqb t (home_of q.side - 2) ne))
-]
+pub with_castling_is : (q : Board) (w : Wing) (s : ℕ) (set : List Bool) → set_of (λ t. (castles q w s (goal_of q.side w) && (t == goal_of q.side w)) || has_square set t) ≡ set_of (λ t. castles q w s t || has_square set t)
+with_castling_is q w s set = same_set (λ t. (castles q w s (goal_of q.side w) && (t == goal_of q.side w)) || has_square set t) (λ t. castles q w s t || has_square set t) (λ t small. ap (λ b. b || has_square set t) (sym (castling_is q w s t)))
 
 turned : (a b c : Bool) → (c || (b || a)) ≡ (a || b || c)
 turned true true true = refl
@@ -175,15 +174,14 @@ turned false false true = refl
 turned false false false = refl
 
 -- where a king may go
-pub king_goes : (q : Board) (s : ℕ)
-    → set_of (λ t. (is_long_castling q s (home_of q.side - 2) && (t == home_of q.side - 2)) || ((is_short_castling q s (home_of q.side + 2) && (t == home_of q.side + 2)) || aims_at q.side King s t)) ≡ set_of (goes q King s)
+pub king_goes : (q : Board) (s : ℕ) (near kingside : List Bool) → near ≡ set_of (aims_at q.side King s) → kingside ≡ set_of (λ t. castles q Kingside s t || has_square near t)
+    → set_of (λ t. castles q Queenside s t || has_square kingside t) ≡ set_of (goes q King s)
 unfolding goes
-king_goes q s =
-    same_set (λ t. (is_long_castling q s (home_of q.side - 2) && (t == home_of q.side - 2)) || ((is_short_castling q s (home_of q.side + 2) && (t == home_of q.side + 2)) || aims_at q.side King s t))
-    (λ t. aims_at q.side King s t || is_short_castling q s t || is_long_castling q s t) (λ t small.
-    ap (λ b. b || ((is_short_castling q s (home_of q.side + 2) && (t == home_of q.side + 2)) || aims_at q.side King s t)) (sym (long_is q s t))
-    ∙ ap (λ b. is_long_castling q s t || (b || aims_at q.side King s t)) (sym (short_is q s t))
-    ∙ turned (aims_at q.side King s t) (is_short_castling q s t) (is_long_castling q s t))
+king_goes q s near kingside is also =
+    same_set (λ t. castles q Queenside s t || has_square kingside t) (λ t. aims_at q.side King s t || castles q Kingside s t || castles q Queenside s t) (λ t small.
+    let aimed = ap (λ (x : List Bool). has_square x t) is ∙ has-set_of (aims_at q.side King s) t small in
+    let castled = ap (λ (x : List Bool). has_square x t) also ∙ has-set_of (λ t. castles q Kingside s t || has_square near t) t small ∙ ap (λ b. castles q Kingside s t || b) aimed in
+    ap (λ b. castles q Queenside s t || b) castled ∙ turned (aims_at q.side King s t) (castles q Kingside s t) (castles q Queenside s t))
 
 -- where a man that is neither pawn nor king may go
 pub others_go : (q : Board) (k : Kind) (s : ℕ) → same_kind k Pawn ≡ false → same_kind k King ≡ false → aimed q.side k s (occupied_in q.men) ≡ set_of (goes q k s)

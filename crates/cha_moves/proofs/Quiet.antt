@@ -3,27 +3,28 @@ use Rattle.std.proofs.Common.{◌≡◌, ℕ, ◌<◌, ◌==◌, Bool, true, fal
 use Rattle.std.specs.List.{Contains}
 use Rattle.std.proofs.lemmas.Bool.{and_parts, or_cases, cases_Bool, false_from_ne_true, both_ways, eqb-true, not-true}
 use Rattle.cha_board.specs.declared.men.Color.{Color}
-use Rattle.cha_board.specs.declared.men.Color.TheVariants.{White, Black}
 use Rattle.cha_board.specs.declared.men.Man.{Man}
 use Rattle.cha_board.specs.declared.men.Kind.{Kind}
 use Rattle.cha_board.specs.declared.men.Kind.TheVariants.{Pawn, Knight, Bishop, Rook, Queen, King}
 use Rattle.cha_board.specs.declared.position.Rights.{Rights}
 use Rattle.cha_board.specs.Men.{same_color, same_kind, is_man}
 use Rattle.cha_board.specs.Squares.{files_apart, aims_at}
-use Rattle.cha_board.specs.Board.{Board, IsValid, man_at, is_empty, is_home}
+use Rattle.cha_board.specs.Board.{Board, IsValid, man_at, is_empty, is_home, home_of, corner_of, has_right, rights_where}
 use Rattle.cha_board.specs.SquareSets.{set_of, has_square, set_common, set_minus, set_joined}
 use Rattle.cha_board.proofs.Identity.{two_kinds}
+use Rattle.cha_board.proofs.RightLaws.{has-where, same_rights}
 use Rattle.cha_board.proofs.SetLaws.{has-set_of, length-set_of, same_set}
 use Rattle.cha_moves.specs.Step.{Move}
-use Rattle.cha_moves.specs.Moves.{is_step, is_double_step, is_target, is_en_passant, moved, touches, men_after, rights_after, legal}
+use Rattle.cha_moves.specs.Moves.{is_step, is_double_step, is_target, is_en_passant, moved, touches, men_after, keeps_right, rights_after, legal}
 use Rattle.cha_moves.specs.Ways.{is_way, is_free, is_quiet, is_promoted}
 use Rattle.cha_moves.proofs.Alone.{near_files, king_alone, pawn_alone, piece_alone}
 use Rattle.cha_moves.proofs.Arriving.{Going}
 use Rattle.cha_moves.proofs.Goings.{joined_of}
 use Rattle.cha_moves.proofs.GoingLegally.{Sifted, goes_nowhere}
-use Rattle.cha_moves.proofs.Kept.{short_homes, long_homes}
+use Rattle.cha_moves.proofs.Kept.{homes_of}
 use Rattle.cha_moves.proofs.Near.{king_aims}
 use Rattle.cha_moves.proofs.SafeCastling.{castling_goes}
+use Rattle.cha_moves.proofs.Touched.{home_is, corner_is}
 use Rattle.cha_moves.proofs.Validity.{pawn_ahead, step_tests, double_step}
 
 free_test : (a e h : Bool) → a ≡ true → (a && not (not e || h)) ≡ (e && not h)
@@ -136,12 +137,7 @@ pub rights_alike : (r : Rights) (m n : Move) → n.from ≡ m.from → n.to ≡ 
 unfolding rights_after
 rights_alike r m n from to away =
     let at = λ (h : ℕ) (home : is_home h ≡ true). touches_alike m n h from to away home in
-    λ i. record {
-      white_king = r.white_king && not (at 4 refl i) && not (at 7 refl i);
-      white_queen = r.white_queen && not (at 4 refl i) && not (at 0 refl i);
-      black_king = r.black_king && not (at 60 refl i) && not (at 63 refl i);
-      black_queen = r.black_queen && not (at 60 refl i) && not (at 56 refl i);
-    }
+    λ i. rights_where (λ c w. has_right r c w && not (at (home_of c) (home_is c) i) && not (at (corner_of c w) (corner_is c w) i))
 
 -- a man of another kind leaves no square on which a king or a rook is at home
 not_left : (q : Board) (m : Move) (man : Man) (c : Color) (k : Kind) (h : ℕ) → man_at q.men m.from ≡ Some man → same_kind man.kind k ≡ false → is_home m.to ≡ false → is_home h ≡ true
@@ -160,15 +156,11 @@ right_unused false x y h = refl
 pub rights_unused : (q : Board) (m : Move) (man : Man) → IsValid q → man_at q.men m.from ≡ Some man → same_kind man.kind King ≡ false → same_kind man.kind Rook ≡ false → is_home m.to ≡ false
     → q.rights ≡ rights_after q.rights m
 unfolding rights_after
-rights_unused q m man valid found no_king no_rook away =
-    let king = λ (c : Color) (h : ℕ) (home : is_home h ≡ true) (here : is_man c King (man_at q.men h) ≡ true). not_left q m man c King h found no_king away home here in
-    let rook = λ (c : Color) (h : ℕ) (home : is_home h ≡ true) (here : is_man c Rook (man_at q.men h) ≡ true). not_left q m man c Rook h found no_rook away home here in
-    λ i. record {
-      white_king = right_unused q.rights.white_king (touches m 4) (touches m 7) (λ h. (let x = short_homes q White valid h in (king White 4 refl x.0, rook White 7 refl x.1))) i;
-      white_queen = right_unused q.rights.white_queen (touches m 4) (touches m 0) (λ h. (let x = long_homes q White valid h in (king White 4 refl x.0, rook White 0 refl x.1))) i;
-      black_king = right_unused q.rights.black_king (touches m 60) (touches m 63) (λ h. (let x = short_homes q Black valid h in (king Black 60 refl x.0, rook Black 63 refl x.1))) i;
-      black_queen = right_unused q.rights.black_queen (touches m 60) (touches m 56) (λ h. (let x = long_homes q Black valid h in (king Black 60 refl x.0, rook Black 56 refl x.1))) i;
-    }
+rights_unused q m man valid found no_king no_rook away = same_rights q.rights (rights_after q.rights m) (λ c w.
+    right_unused (has_right q.rights c w) (touches m (home_of c)) (touches m (corner_of c w)) (λ h. (
+    let x = homes_of q c w valid h in
+    (not_left q m man c King (home_of c) found no_king away (home_is c) x.0, not_left q m man c Rook (corner_of c w) found no_rook away (corner_is c w) x.1)))
+    ∙ sym (has-where (keeps_right q.rights m) c w))
 
 -- the ways of a king of which only its steps are to be asked
 pub castling_told : (q : Board) (s : ℕ) (man : Man) (ways near : List Bool) → IsValid q → s < 64 → man_at q.men s ≡ Some man → man.kind ≡ King → ways ≡ set_of (is_way q s) → near ≡ set_of (aims_at q.side King s)

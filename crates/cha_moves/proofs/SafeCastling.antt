@@ -7,18 +7,20 @@ use Rattle.cha_board.specs.declared.men.Color.{Color}
 use Rattle.cha_board.specs.declared.men.Color.TheVariants.{White, Black}
 use Rattle.cha_board.specs.declared.men.Kind.TheVariants.{Pawn, Rook, King}
 use Rattle.cha_board.specs.declared.men.Man.{Man}
+use Rattle.cha_board.specs.declared.castling.Wing.{Wing}
+use Rattle.cha_board.specs.declared.castling.Wing.TheVariants.{Kingside, Queenside}
 use Rattle.cha_board.specs.Men.{other_color, same_color, is_vacant, is_man}
 use Rattle.cha_board.specs.Squares.{squares, aims_at, files_apart, ranks_apart, is_straight, is_diagonal, is_within, lies_between}
-use Rattle.cha_board.specs.Board.{Board, man_at, is_empty, attacks_as, attacked, in_check, king_of, home_of}
+use Rattle.cha_board.specs.Board.{Board, man_at, is_empty, attacks_as, attacked, in_check, king_of, home_of, corner_of, crossing_of, goal_of}
 use Rattle.cha_board.proofs.Scans.{all_squares_at}
 use Rattle.cha_board.proofs.Sightings.{attacked_from, attacked_by_none}
 use Rattle.cha_moves.specs.Step.{Move}
-use Rattle.cha_moves.specs.Moves.{goes, goes_as, may_enter, is_en_passant, is_short_castling, is_long_castling, castles_short, castles_long, moved, rook_of, men_after, arriving}
+use Rattle.cha_moves.specs.Moves.{goes, goes_as, may_enter, is_en_passant, castles, king_castles, moved, rook_of, men_after, arriving}
 use Rattle.cha_moves.specs.Ways.{is_way, is_promoted}
 use Rattle.cha_moves.specs.Shields.{aims_as, goes_legally}
 use Rattle.cha_board.proofs.Identity.{same_color_self, one_color, one_kind, if_at}
-use Rattle.cha_moves.proofs.Made.{Step, may_gives, length-moved, moved_to, moved_from, moved_other, men_moved, Plainly, Passing, Shortly, Longly, makes}
-use Rattle.cha_moves.proofs.Kept.{from_to, Castling, short_castling, long_castling, short_tests, long_tests, kings_kept, king_place, length_after}
+use Rattle.cha_moves.proofs.Made.{Step, may_gives, length-moved, moved_to, moved_from, moved_other, men_moved, Plainly, Passing, OnWing, makes}
+use Rattle.cha_moves.proofs.Kept.{from_to, Castling, castling_of, castling_tests, king_way, kings_kept, king_place, length_after}
 use Rattle.cha_moves.proofs.Sureness.{legal_if}
 use Rattle.cha_moves.proofs.Arriving.{Going, going_plain}
 use Rattle.cha_moves.proofs.Clearing.{clear_at, clear_from, attack_parts, attack_from}
@@ -40,15 +42,12 @@ bars_by s t i j h =
       left = λ u small lies. both_ways (lies_between u t i) (not-true (lies_between u t i) (and_parts (not (lies_between u t s) || lies_between u t j) (not (lies_between u t i)) (all_squares_at (bar_test s t i j) u h small)).1) lies;
     }
 
-bars_short : (c : Color) → list_all (bar_test (home_of c) (home_of c + 2) (home_of c + 3) (home_of c + 1)) squares ≡ true
+bars_of : (c : Color) (w : Wing) → list_all (bar_test (home_of c) (goal_of c w) (corner_of c w) (crossing_of c w)) squares ≡ true
 unfolding bar_test lies_between is_within is_straight is_diagonal files_apart ranks_apart squares
-bars_short White = refl
-bars_short Black = refl
-
-bars_long : (c : Color) → list_all (bar_test (home_of c) (home_of c - 2) (home_of c - 4) (home_of c - 1)) squares ≡ true
-unfolding bar_test lies_between is_within is_straight is_diagonal files_apart ranks_apart squares
-bars_long White = refl
-bars_long Black = refl
+bars_of White Kingside = refl
+bars_of White Queenside = refl
+bars_of Black Kingside = refl
+bars_of Black Queenside = refl
 
 own_idle : (c : Color) (k u : ℕ) (man : Man) → same_color man.color c ≡ true → aims_as (other_color c) k u (Some man) ≡ true → ⊥
 own_idle c k u man own aims = one_color man.color c own (and_parts (same_color man.color (other_color c)) (aims_at (other_color c) man.kind u k) aims).0
@@ -121,22 +120,17 @@ castling_legal q s t i j man g king apart castling bars safe =
     let at : king_of (men_after q m) q.side ≡ t = king_place (men_after q m) q.side t (kings_kept q m mover.0 step q.side) (omega (arith, long, size, g.to)) here in
     goes_plain q s t man g plain ∙ legal_if q m may ∙ ap not (ap (λ k. attacked (men_after q m) e k) at ∙ castled_safe q m i j size g.from apart castling bars safe)
 
-short_arrives : (q : Board) (s t : ℕ) → is_short_castling q s t ≡ true → attacked q.men (other_color q.side) (home_of q.side + 2) ≡ false
-unfolding is_short_castling
-short_arrives q s t h = not-true _ (and_parts _ (not (attacked q.men (other_color q.side) (home_of q.side + 2))) h).1
-
-long_arrives : (q : Board) (s t : ℕ) → is_long_castling q s t ≡ true → attacked q.men (other_color q.side) (home_of q.side - 2) ≡ false
-unfolding is_long_castling
-long_arrives q s t h = not-true _ (and_parts _ (not (attacked q.men (other_color q.side) (home_of q.side - 2))) h).1
-
 -- a king goes to a square that is not near it by castling alone
-far_castles : (q : Board) (s t : ℕ) (man : Man) → man_at q.men s ≡ Some man → man.kind ≡ King → is_way q s t ≡ true → aims_at q.side King s t ≡ false → (is_short_castling q s t || is_long_castling q s t) ≡ true
-unfolding is_way goes_as goes
+far_castles : (q : Board) (s t : ℕ) (man : Man) → man_at q.men s ≡ Some man → man.kind ≡ King → is_way q s t ≡ true → aims_at q.side King s t ≡ false → (w : Wing) × (castles q w s t ≡ true)
+unfolding is_way goes_as
 far_castles q s t man found king way far =
     let goes' : goes_as q s t (Some man) ≡ true = ap (goes_as q s t) (sym found) ∙ (and_parts (goes_as q s t (man_at q.men s)) (may_enter q.side (man_at q.men t)) way).0 in
     let both = and_parts (same_color man.color q.side) (goes q man.kind s t) goes' in
     let all : goes q King s t ≡ true = ap (λ k. goes q k s t) (sym king) ∙ both.1 in
-    ap (λ b. (b || is_short_castling q s t) || is_long_castling q s t) (sym far) ∙ all
+    elim (king_way q s t all) [
+      | inl near ↦ absurd (both_ways (aims_at q.side King s t) far near)
+      | inr castling ↦ castling
+    ]
 
 pub castling_goes : (q : Board) (s t : ℕ) (man : Man) → Going q s t man → man.kind ≡ King → aims_at q.side King s t ≡ false → goes_legally q s t ≡ true
 castling_goes q s t man g king far =
@@ -146,22 +140,13 @@ castling_goes q s t man g king far =
     let own : same_color man.color q.side ≡ true = ap (λ (x : Man). same_color x.color q.side) (same_Some man mover.0 (sym g.found ∙ mover.1.found)) ∙ mover.1.own in
     let is_king : is_man q.side King (man_at q.men s) ≡ true = ap (is_man q.side King) g.found ∙ rw (own, king) refl in
     let no_pawn : is_man q.side Pawn (man_at q.men s) ≡ false = one_kind q.side q.side King Pawn (man_at q.men s) refl is_king in
-    let h = home_of q.side in
-    let e = other_color q.side in
     elim (makes q m) [
-      | Plainly a b c same ↦ elim (or_cases (is_short_castling q s t) (is_long_castling q s t) (far_castles q s t man g.found king g.way far)) [
-        | inl short ↦ absurd (both_ways (castles_short q (man_at q.men s) s t) b (and_from (is_man q.side King (man_at q.men s)) (is_short_castling q s t) is_king short))
-        | inr long ↦ absurd (both_ways (castles_long q (man_at q.men s) s t) c (and_from (is_man q.side King (man_at q.men s)) (is_long_castling q s t) is_king long))
-      ]
+      | Plainly a b same ↦ (
+          let on = far_castles q s t man g.found king g.way far in
+          absurd (both_ways (king_castles q on.0 (man_at q.men s) s t) (b on.0) (and_from (is_man q.side King (man_at q.men s)) (castles q on.0 s t) is_king on.1)))
       | Passing x same ↦ absurd (both_ways (is_man q.side Pawn (man_at q.men s)) no_pawn (and_parts (is_man q.side Pawn (man_at q.men s)) (is_en_passant q s t) x).0)
-      | Shortly x same ↦ (
-          let short = (and_parts (is_man q.side King (man_at q.men s)) (is_short_castling q s t) x).1 in
-          let tests = short_tests q s t short in
-          castling_legal q s t (h + 3) (h + 1) man g king (from_to q m mover.0 mover.1) (short_castling q m g.valid x same)
-          (rw (tests.from_home, tests.two_files) (bars_by h (h + 2) (h + 3) (h + 1) (bars_short q.side))) (ap (attacked q.men e) tests.two_files ∙ short_arrives q s t short))
-      | Longly x same ↦ (
-          let long = (and_parts (is_man q.side King (man_at q.men s)) (is_long_castling q s t) x).1 in
-          let tests = long_tests q s t long in
-          castling_legal q s t (h - 4) (h - 1) man g king (from_to q m mover.0 mover.1) (long_castling q m g.valid x same)
-          (rw (tests.from_home, tests.two_files) (bars_by h (h - 2) (h - 4) (h - 1) (bars_long q.side))) (ap (attacked q.men e) tests.two_files ∙ long_arrives q s t long))
+      | OnWing w x same ↦ (
+          let tests = castling_tests q w s t (and_parts (is_man q.side King (man_at q.men s)) (castles q w s t) x).1 in
+          castling_legal q s t (corner_of q.side w) (crossing_of q.side w) man g king (from_to q m mover.0 mover.1) (castling_of q m w g.valid x same)
+          (rw (tests.from_home, tests.to_goal) (bars_by (home_of q.side) (goal_of q.side w) (corner_of q.side w) (crossing_of q.side w) (bars_of q.side w))) (ap (attacked q.men (other_color q.side)) tests.to_goal ∙ tests.safe))
     ]

@@ -4,10 +4,11 @@ use Rattle.std.proofs.Math.Bool.{or_comm, or-true}
 use Rattle.cha_board.specs.declared.men.Color.{Color}
 use Rattle.cha_board.specs.declared.men.Kind.{Kind}
 use Rattle.cha_board.specs.declared.men.Kind.TheVariants.{Pawn, Knight, Bishop, Rook, Queen, King}
+use Rattle.cha_board.specs.declared.castling.Wing.TheVariants.{Kingside, Queenside}
 use Rattle.cha_board.specs.Men.{other_color}
 use Rattle.cha_board.specs.Squares.{rank_of, last_rank}
 use Rattle.cha_board.specs.Aims.{aims_over, aimed}
-use Rattle.cha_board.specs.Board.{Board, king_of, home_of}
+use Rattle.cha_board.specs.Board.{Board, king_of, goal_of}
 use Rattle.cha_board.specs.SquareSets.{set_of, has_square, set_joined, set_with, empty_set}
 use Rattle.cha_board.proofs.SetLaws.{has-set_of, same_set}
 use Rattle.cha_moves.specs.Moves.{is_target}
@@ -37,7 +38,7 @@ special_target q last set u some is with_is =
     ∙ turned_or t u (rank_of t == last_rank q.side)
     ∙ ap (λ (o : Option ℕ). (rank_of t == last_rank q.side) || is_target o t) (sym some))
 
-pub special_castling : (q : Board) (one set : List Bool) (a b : ℕ) → a ≡ home_of q.side - 2 → b ≡ home_of q.side + 2 → one ≡ set_with empty_set a → set ≡ set_with one b → set ≡ set_of (is_special_check q King)
+pub special_castling : (q : Board) (one set : List Bool) (a b : ℕ) → a ≡ goal_of q.side Queenside → b ≡ goal_of q.side Kingside → one ≡ set_with empty_set a → set ≡ set_with one b → set ≡ set_of (is_special_check q King)
 unfolding is_special_check set_with
 special_castling q one set a b left right one_is set_is =
     set_is ∙ same_set (λ s. (s == b) || has_square one s) (is_special_check q King) (λ t small.
@@ -45,7 +46,7 @@ special_castling q one set a b left right one_is set_is =
     ∙ ap (λ x. (t == b) || x) (sym (or-false (t == a)))
     ∙ or_comm (t == b) (t == a)
     ∙ ap (λ x. (t == x) || (t == b)) left
-    ∙ ap (λ x. (t == home_of q.side - 2) || (t == x)) right)
+    ∙ ap (λ x. (t == goal_of q.side Queenside) || (t == x)) right)
 
 pub special_none : (q : Board) (k : Kind) → (k ≡ Pawn → ⊥) → (k ≡ King → ⊥) → empty_set ≡ set_of (is_special_check q k)
 unfolding is_special_check

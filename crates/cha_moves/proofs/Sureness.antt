@@ -9,11 +9,11 @@ use Rattle.cha_board.specs.declared.men.Man.{Man}
 use Rattle.cha_board.specs.Men.{other_color, same_color, is_man}
 use Rattle.cha_board.specs.Board.{Board, IsValid, man_at, attacked, in_check, king_of}
 use Rattle.cha_moves.specs.Step.{Move}
-use Rattle.cha_moves.specs.Moves.{is_pseudo_legal, arriving, captures_en_passant, is_short_castling, is_long_castling, men_after, is_legal_in}
+use Rattle.cha_moves.specs.Moves.{is_pseudo_legal, arriving, captures_en_passant, castles, men_after, is_legal_in}
 use Rattle.cha_moves.specs.Shields.{men_less}
 use Rattle.cha_moves.proofs.KingSquare.{king_stands}
 use Rattle.cha_board.proofs.Identity.{one_color, man_of, on_board}
-use Rattle.cha_moves.proofs.Made.{Step, may_gives, men_moved, moved_other, Plainly, Passing, Shortly, Longly, makes}
+use Rattle.cha_moves.proofs.Made.{Step, may_gives, men_moved, moved_other, Plainly, Passing, OnWing, makes}
 use Rattle.cha_moves.proofs.Kept.{own_bars, length_after, kings_kept, king_place}
 use Rattle.cha_moves.proofs.Filling.{same_attacks, filled_either}
 
@@ -29,10 +29,9 @@ pub record Ordinary (q : Board) (m : Move) : Type 0 where
 -- it moves one man
 moves_one : (q : Board) (m : Move) → Ordinary q m → men_after q m ≡ men_moved q m
 moves_one q m o = elim (makes q m) [
-  | Plainly a b c e ↦ e
+  | Plainly a b e ↦ e
   | Passing t e ↦ absurd (both_ways (captures_en_passant q (man_at q.men m.from) m.from m.to) o.not_passing t)
-  | Shortly t e ↦ absurd (both_ways (is_man q.side King (man_at q.men m.from)) o.no_king (and_parts (is_man q.side King (man_at q.men m.from)) (is_short_castling q m.from m.to) t).0)
-  | Longly t e ↦ absurd (both_ways (is_man q.side King (man_at q.men m.from)) o.no_king (and_parts (is_man q.side King (man_at q.men m.from)) (is_long_castling q m.from m.to) t).0)
+  | OnWing w t e ↦ absurd (both_ways (is_man q.side King (man_at q.men m.from)) o.no_king (and_parts (is_man q.side King (man_at q.men m.from)) (castles q w m.from m.to) t).0)
 ]
 
 -- the king stays where it is

@@ -2,16 +2,21 @@
 use Rattle.std.proofs.Common.{◌≡◌, ℕ, ◌<◌, ◌==◌, Bool, true, false, not, ◌&&◌, ◌||◌, List, Option, refl, sym, ap, ◌∙◌, arith}
 use Rattle.std.proofs.lemmas.Bool.{both_ways, false_from_ne_true, not-true, and_from, eqb-true, eq-eqb, ne_eqb}
 use Rattle.cha_board.specs.declared.men.Color.{Color}
+use Rattle.cha_board.specs.declared.men.Color.TheVariants.{White, Black}
+use Rattle.cha_board.specs.declared.castling.Wing.{Wing}
+use Rattle.cha_board.specs.declared.castling.Wing.TheVariants.{Kingside, Queenside}
 use Rattle.cha_board.specs.declared.men.Kind.{Kind}
 use Rattle.cha_board.specs.declared.men.Man.{Man}
 use Rattle.cha_board.specs.Men.{is_man}
-use Rattle.cha_board.specs.Board.{man_at, is_home}
+use Rattle.cha_board.specs.Board.{man_at, is_home, home_of, corner_of, has_right, rights_where}
 use Rattle.cha_board.specs.declared.position.Rights.{Rights}
 use Rattle.cha_board.specs.SquareSets.{set_of, has_square, empty_set, set_with, set_common, has_no_square}
+use Rattle.cha_board.proofs.RightLaws.{has-where, same_rights}
 use Rattle.cha_board.proofs.SetLaws.{has-set_of, same_set}
 use Rattle.cha_board.proofs.Scans.{any_square_at}
 use Rattle.cha_moves.specs.Step.{Move}
-use Rattle.cha_moves.specs.Moves.{touches, rights_after}
+use Rattle.cha_moves.specs.Moves.{touches, keeps_right, rights_after}
+use Rattle.cha_moves.proofs.Kept.{squares_of}
 
 turned : (a b : ℕ) (x : Bool) → (a == b) ≡ x → x ≡ (b == a)
 turned a b true e = sym (eq-eqb b a (sym (eqb-true a b e)))
@@ -57,31 +62,32 @@ stays false false false e f = refl
 stays b true y e f = cc
 stays b x true e f = cc
 
+-- the homes of kings and rooks are homes
+pub home_is : (c : Color) → is_home (home_of c) ≡ true
+home_is White = refl
+home_is Black = refl
+
+pub corner_is : (c : Color) (w : Wing) → is_home (corner_of c w) ≡ true
+corner_is White Kingside = refl
+corner_is White Queenside = refl
+corner_is Black Kingside = refl
+corner_is Black Queenside = refl
+
+home_small : (c : Color) → home_of c < 64
+home_small White = omega arith
+home_small Black = omega arith
+
 -- a move that touches no home of a king or a rook changes no right
 pub rights_stay : (r : Rights) (m : Move) → has_no_square (set_common (set_of (touches m)) (set_of is_home)) ≡ true → r ≡ rights_after r m
 unfolding rights_after
-rights_stay r m none =
-    let a1 = untouched m is_home 0 none (omega arith) refl in
-    let e1 = untouched m is_home 4 none (omega arith) refl in
-    let h1 = untouched m is_home 7 none (omega arith) refl in
-    let a8 = untouched m is_home 56 none (omega arith) refl in
-    let e8 = untouched m is_home 60 none (omega arith) refl in
-    let h8 = untouched m is_home 63 none (omega arith) refl in
-    λ i. record {
-      white_king = stays r.white_king (touches m 4) (touches m 7) e1 h1 i;
-      white_queen = stays r.white_queen (touches m 4) (touches m 0) e1 a1 i;
-      black_king = stays r.black_king (touches m 60) (touches m 63) e8 h8 i;
-      black_queen = stays r.black_queen (touches m 60) (touches m 56) e8 a8 i;
-    }
+rights_stay r m none = same_rights r (rights_after r m) (λ c w.
+    stays (has_right r c w) (touches m (home_of c)) (touches m (corner_of c w)) (untouched m is_home (home_of c) none (home_small c) (home_is c)) (untouched m is_home (corner_of c w) none (squares_of c w).small_i (corner_is c w))
+    ∙ sym (has-where (keeps_right r m) c w))
 
-all_three : (a b c : Bool) → (a && (b && c)) ≡ (a && b && c)
-all_three true b c = refl
-all_three false b c = refl
-
--- a right that is left where a set of the squares which the move touches lacks two squares
-pub right_left : (b x : Bool) (set : List Bool) (m : Move) (s t u : ℕ) → s < 64 → t < 64 → u ≡ t → set ≡ set_of (touches m) → x ≡ (not (has_square set s) && not (has_square set u)) → (b && x) ≡ (b && not (touches m s) && not (touches m t))
-right_left b x set m s t u small small' at are lacks =
-    let first = ap (λ (z : List Bool). has_square z s) are ∙ touched_at m s small in
-    let second = ap (λ (z : List Bool). has_square z t) are ∙ touched_at m t small' in
-    ap (λ y. b && y) (lacks ∙ ap (λ v. not (has_square set s) && not (has_square set v)) at ∙ ap (λ y. not y && not (has_square set t)) first ∙ ap (λ y. not (touches m s) && not y) second)
-    ∙ all_three b (not (touches m s)) (not (touches m t))
+-- the rights whose homes are in no set of the squares that a move touches
+pub rights_lacking : (r : Rights) (m : Move) (set : List Bool) → set ≡ set_of (touches m)
+    → rights_where (λ c w. has_right r c w && not (has_square set (home_of c)) && not (has_square set (corner_of c w))) ≡ rights_after r m
+unfolding rights_after
+rights_lacking r m set are =
+    let at = λ (s : ℕ) (small : s < 64). ap (λ (x : List Bool). has_square x s) are ∙ touched_at m s small in
+    λ i. rights_where (λ c w. has_right r c w && not (at (home_of c) (home_small c) i) && not (at (corner_of c w) (squares_of c w).small_i i))

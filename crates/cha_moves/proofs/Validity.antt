@@ -1,5 +1,5 @@
 -- The position after a legal move is valid.
-use Rattle.std.proofs.Common.{◌≡◌, ◌≢◌, ℕ, ◌+◌, ◌-◌, ◌%◌, ◌<◌, ◌==◌, true, false, not, ◌&&◌, ◌||◌, List, length, Option, Some, None, slice_set, ◌⊎◌, inl, inr, refl, sym, ◌∙◌, ap, subst, arith}
+use Rattle.std.proofs.Common.{◌≡◌, ◌≢◌, ℕ, ◌+◌, ◌-◌, ◌%◌, ◌<◌, ◌≤◌, ◌==◌, true, false, not, ◌&&◌, ◌||◌, List, length, Option, Some, None, slice_set, ◌⊎◌, inl, inr, refl, sym, ◌∙◌, ap, subst, arith}
 use Rattle.std.proofs.lemmas.Bool.{and_parts, and_from, or_cases, or_parts, both_ways, eqb-true, eqb-false, eq-eqb, not-true, ne_eqb, cases_eq, cases_Bool, false_from_ne_true, or_left, or_right}
 use Rattle.std.proofs.lemmas.Option.{same_Some}
 use Rattle.cha_board.specs.declared.men.Color.{Color}
@@ -7,16 +7,19 @@ use Rattle.cha_board.specs.declared.men.Color.TheVariants.{White, Black}
 use Rattle.cha_board.specs.declared.men.Kind.{Kind}
 use Rattle.cha_board.specs.declared.men.Kind.TheVariants.{Pawn, Rook, King}
 use Rattle.cha_board.specs.declared.men.Man.{Man}
+use Rattle.cha_board.specs.declared.castling.Wing.{Wing}
+use Rattle.cha_board.specs.declared.castling.Wing.TheVariants.{Kingside, Queenside}
 use Rattle.cha_board.specs.declared.position.Rights.{Rights}
 use Rattle.cha_board.specs.Men.{other_color, same_color, same_kind, is_vacant, is_man, is_pawn}
 use Rattle.cha_board.specs.Squares.{rank_of, last_rank, files_apart, is_rank_ahead, aims_at}
-use Rattle.cha_board.specs.Board.{Board, IsValid, man_at, is_empty, home_of, in_check, is_pawn_at_end, has_pawn_at_end, has_short_right, has_long_right, rights_fit, are_at_home, target_fits, target_is_good}
+use Rattle.cha_board.specs.Board.{Board, IsValid, man_at, is_empty, home_of, in_check, is_pawn_at_end, has_pawn_at_end, corner_of, crossing_of, has_right, right_fits, are_at_home, target_fits, target_is_good}
 use Rattle.cha_board.proofs.Builds.{pawn_at, pawn_nowhere}
+use Rattle.cha_board.proofs.RightLaws.{has-where}
 use Rattle.cha_moves.specs.Step.{Move}
-use Rattle.cha_moves.specs.Moves.{second_rank, fourth_rank, middle, is_step, is_double_step, is_pawn_capture, is_en_passant, is_short_castling, is_long_castling, goes, is_promotion, is_target, arriving, victim_of, moved, rook_of, men_after, touches, rights_after, target_after, after, is_pseudo_legal, is_legal_in}
+use Rattle.cha_moves.specs.Moves.{second_rank, fourth_rank, middle, is_step, is_double_step, is_pawn_capture, is_en_passant, castles, goes, is_promotion, is_target, arriving, victim_of, moved, rook_of, men_after, touches, keeps_right, rights_after, target_after, after, is_pseudo_legal, is_legal_in}
 use Rattle.cha_board.proofs.Identity.{all_five, same_color_equal, same_kind_equal, other_other, one_kind, none_some, man_of, is_man_from, pawn_of, if_from}
-use Rattle.cha_moves.proofs.Made.{may_gives, Step, put, put_other, length-moved, moved_to, moved_from, moved_other, men_moved, Plainly, Passing, Shortly, Longly, makes}
-use Rattle.cha_moves.proofs.Kept.{from_to, promoted, arrived_is, Victim, victim_of_move, short_homes, long_homes, Castling, short_castling, long_castling, length_after, kings_kept}
+use Rattle.cha_moves.proofs.Made.{may_gives, Step, put, put_other, length-moved, moved_to, moved_from, moved_other, men_moved, Plainly, Passing, OnWing, makes}
+use Rattle.cha_moves.proofs.Kept.{from_to, promoted, arrived_is, Victim, victim_of_move, homes_of, Castling, castling_of, length_after, kings_kept}
 
 -- the man that stands on u after a move: the one that moved, the rook of a castling, or one that stayed
 pub data Stands (q : Board) (m : Move) (man : Man) (u : ℕ) (new : Man) : Type 0 where
@@ -90,10 +93,9 @@ passing_stands q m man step victim u new found =
 
 pub stands : (q : Board) (m : Move) (man : Man) → Step q m man → (u : ℕ) (new : Man) → man_at (men_after q m) u ≡ Some new → Stands q m man u new
 stands q m man step u new found = elim (makes q m) [
-  | Plainly a b c e ↦ one_man_stands q m man step u new (ap (λ (xs : List (Option Man)). man_at xs u) (sym e) ∙ found)
+  | Plainly a b e ↦ one_man_stands q m man step u new (ap (λ (xs : List (Option Man)). man_at xs u) (sym e) ∙ found)
   | Passing t e ↦ passing_stands q m man step (victim_of_move q m man step t) u new (ap (λ (xs : List (Option Man)). man_at xs u) (sym e) ∙ found)
-  | Shortly t e ↦ (let k = short_castling q m step.valid t e in castled_stands q m man _ _ u new k (castled q m man _ _ step k u new found))
-  | Longly t e ↦ (let k = long_castling q m step.valid t e in castled_stands q m man _ _ u new k (castled q m man _ _ step k u new found))
+  | OnWing w t e ↦ (let k = castling_of q m w step.valid t e in castled_stands q m man _ _ u new k (castled q m man _ _ step k u new found))
 ]
 
 -- a pawn that aims at a square is one rank behind it
@@ -274,44 +276,34 @@ not_touched m s h =
     (eqb-false m.from s both.0, eqb-false m.to s both.1)
 
 -- a right that is left was there before, and the move has touched neither its king's home nor its rook's
-pub short_after : (r : Rights) (m : Move) (c : Color) → has_short_right (rights_after r m) c ≡ true → (has_short_right r c ≡ true) × NotTouched m (home_of c) × NotTouched m (home_of c + 3)
+pub right_after : (r : Rights) (m : Move) (c : Color) (w : Wing) → has_right (rights_after r m) c w ≡ true → (has_right r c w ≡ true) × NotTouched m (home_of c) × NotTouched m (corner_of c w)
 unfolding rights_after
-short_after r m White h =
-    let x = and_parts (r.white_king && not (touches m 4)) (not (touches m 7)) h in
-    let y = and_parts r.white_king (not (touches m 4)) x.0 in
-    (y.0, not_touched m 4 y.1, not_touched m 7 x.1)
-short_after r m Black h =
-    let x = and_parts (r.black_king && not (touches m 60)) (not (touches m 63)) h in
-    let y = and_parts r.black_king (not (touches m 60)) x.0 in
-    (y.0, not_touched m 60 y.1, not_touched m 63 x.1)
-
-pub long_after : (r : Rights) (m : Move) (c : Color) → has_long_right (rights_after r m) c ≡ true → (has_long_right r c ≡ true) × NotTouched m (home_of c) × NotTouched m (home_of c - 4)
-unfolding rights_after
-long_after r m White h =
-    let x = and_parts (r.white_queen && not (touches m 4)) (not (touches m 0)) h in
-    let y = and_parts r.white_queen (not (touches m 4)) x.0 in
-    (y.0, not_touched m 4 y.1, not_touched m 0 x.1)
-long_after r m Black h =
-    let x = and_parts (r.black_queen && not (touches m 60)) (not (touches m 56)) h in
-    let y = and_parts r.black_queen (not (touches m 60)) x.0 in
-    (y.0, not_touched m 60 y.1, not_touched m 56 x.1)
+right_after r m c w h =
+    let x = and_parts (has_right r c w && not (touches m (home_of c))) (not (touches m (corner_of c w))) (sym (has-where (keeps_right r m) c w) ∙ h) in
+    let y = and_parts (has_right r c w) (not (touches m (home_of c))) x.0 in
+    (y.0, not_touched m (home_of c) y.1, not_touched m (corner_of c w) x.1)
 
 -- none of the squares that the rooks of c leave or enter in a castling
 abbrev pub Away : Color → ℕ → Type 0
-Away c u = (u ≢ home_of c + 3) × (u ≢ home_of c + 1) × (u ≢ home_of c - 4) × (u ≢ home_of c - 1)
+Away c u = (w : Wing) → (u ≢ corner_of c w) × (u ≢ crossing_of c w)
+
+white_squares : (w : Wing) → (corner_of White w ≤ 7) × (crossing_of White w ≤ 7)
+white_squares Kingside = (omega arith, omega arith)
+white_squares Queenside = (omega arith, omega arith)
+
+black_squares : (w : Wing) → (56 ≤ corner_of Black w) × (56 ≤ crossing_of Black w)
+black_squares Kingside = (omega arith, omega arith)
+black_squares Queenside = (omega arith, omega arith)
 
 -- the homes of one side are away from the castlings of the other
-pub homes_away : (c d : Color) → home_of c ≢ home_of d → Away d (home_of c) × Away d (home_of c + 3) × Away d (home_of c - 4)
+pub homes_away : (c d : Color) → home_of c ≢ home_of d → Away d (home_of c) × ((w : Wing) → Away d (corner_of c w))
 homes_away White White ne = absurd (ne refl)
-homes_away White Black ne = ((omega arith, omega arith, omega arith, omega arith), (omega arith, omega arith, omega arith, omega arith), (omega arith, omega arith, omega arith, omega arith))
-homes_away Black White ne = ((omega arith, omega arith, omega arith, omega arith), (omega arith, omega arith, omega arith, omega arith), (omega arith, omega arith, omega arith, omega arith))
+homes_away White Black ne = (λ w. (let b = black_squares w in (omega (arith, b), omega (arith, b))), λ v w. (let a = white_squares v in let b = black_squares w in (omega (arith, a, b), omega (arith, a, b))))
+homes_away Black White ne = (λ w. (let a = white_squares w in (omega (arith, a), omega (arith, a))), λ v w. (let b = black_squares v in let a = white_squares w in (omega (arith, a, b), omega (arith, a, b))))
 homes_away Black Black ne = absurd (ne refl)
 
 aside : (q : Board) (m : Move) (i j : ℕ) → Castling q m i j → (u : ℕ) → Away q.side u → (u ≢ i) × (u ≢ j)
-aside q m i j castling u away = elim castling.place [
-  | inl x ↦ (λ e. away.0 (e ∙ x.0), λ e. away.1 (e ∙ x.1))
-  | inr x ↦ (λ e. away.2 (e ∙ x.0), λ e. away.3 (e ∙ x.1))
-]
+aside q m i j castling u away = (let x = away castling.wing in (λ e. x.0 (e ∙ castling.corner), λ e. x.1 (e ∙ castling.crossing)))
 
 castling_keeps : (q : Board) (m : Move) (i j u : ℕ) → Castling q m i j → u ≢ m.from → u ≢ m.to → (m.from ≡ home_of q.side → Away q.side u) → man_at (men_after q m) u ≡ man_at q.men u
 castling_keeps q m i j u castling from to away =
@@ -324,7 +316,7 @@ pub stays_there : (q : Board) (m : Move) (man : Man) → Step q m man → (c : C
 stays_there q m man step c k u here other from to away =
     let stayed = moved_other q.men m.from m.to (arriving (man_at q.men m.from) m.promotion) u from to in
     elim (makes q m) [
-      | Plainly a b d e ↦ ap (λ (xs : List (Option Man)). man_at xs u) e ∙ stayed
+      | Plainly a b e ↦ ap (λ (xs : List (Option Man)). man_at xs u) e ∙ stayed
       | Passing t e ↦ (
           let v = victim_of q.side m.to in
           let victim = victim_of_move q m man step t in
@@ -332,34 +324,27 @@ stays_there q m man step c k u here other from to away =
           let no_pawn = one_kind c (other_color q.side) k Pawn (man_at q.men u) other here in
           both_ways (is_man (other_color q.side) Pawn (man_at q.men v)) (ap (λ s. is_man (other_color q.side) Pawn (man_at q.men s)) (sym f) ∙ no_pawn) victim.pawn) in
           ap (λ (xs : List (Option Man)). man_at xs u) e ∙ put_other (men_moved q m) v None u ne ∙ stayed)
-      | Shortly t e ↦ castling_keeps q m _ _ u (short_castling q m step.valid t e) from to away
-      | Longly t e ↦ castling_keeps q m _ _ u (long_castling q m step.valid t e) from to away
+      | OnWing w t e ↦ castling_keeps q m _ _ u (castling_of q m w step.valid t e) from to away
     ]
 
 -- a king and a rook at home stay there where their right is left
-homes_kept : (q : Board) (m : Move) (man : Man) → Step q m man → (c : Color) (r : ℕ) → is_man c King (man_at q.men (home_of c)) ≡ true → is_man c Rook (man_at q.men r) ≡ true
-    → NotTouched m (home_of c) → NotTouched m r → (home_of c ≢ home_of q.side → Away q.side (home_of c) × Away q.side r) → are_at_home (men_after q m) c r ≡ true
+homes_kept : (q : Board) (m : Move) (man : Man) → Step q m man → (c : Color) (w : Wing) → is_man c King (man_at q.men (home_of c)) ≡ true → is_man c Rook (man_at q.men (corner_of c w)) ≡ true
+    → NotTouched m (home_of c) → NotTouched m (corner_of c w) → are_at_home (men_after q m) c w ≡ true
 unfolding are_at_home
-homes_kept q m man step c r king rook not_home not_rook away =
-    let apart = λ (e : m.from ≡ home_of q.side). away (λ f. not_home.0 (e ∙ sym f)) in
+homes_kept q m man step c w king rook not_home not_rook =
+    let apart = λ (e : m.from ≡ home_of q.side). homes_away c q.side (λ f. not_home.0 (e ∙ sym f)) in
     let h = stays_there q m man step c King (home_of c) king refl (λ e. not_home.0 (sym e)) (λ e. not_home.1 (sym e)) (λ e. (apart e).0) in
-    let k = stays_there q m man step c Rook r rook refl (λ e. not_rook.0 (sym e)) (λ e. not_rook.1 (sym e)) (λ e. (apart e).1) in
-    and_from (is_man c King (man_at (men_after q m) (home_of c))) (is_man c Rook (man_at (men_after q m) r)) (ap (is_man c King) h ∙ king) (ap (is_man c Rook) k ∙ rook)
+    let k = stays_there q m man step c Rook (corner_of c w) rook refl (λ e. not_rook.0 (sym e)) (λ e. not_rook.1 (sym e)) (λ e. (apart e).1 w) in
+    and_from (is_man c King (man_at (men_after q m) (home_of c))) (is_man c Rook (man_at (men_after q m) (corner_of c w))) (ap (is_man c King) h ∙ king) (ap (is_man c Rook) k ∙ rook)
 
 -- the rights that are left fit the men
-pub rights_kept : (q : Board) (m : Move) (man : Man) → Step q m man → (c : Color) → rights_fit (men_after q m) (rights_after q.rights m) c ≡ true
-unfolding rights_fit
-rights_kept q m man step c =
-    let left = rights_after q.rights m in
-    and_from (not (has_short_right left c) || are_at_home (men_after q m) c (home_of c + 3)) (not (has_long_right left c) || are_at_home (men_after q m) c (home_of c - 4))
-    (if_from (has_short_right left c) (are_at_home (men_after q m) c (home_of c + 3)) (λ h. (
-    let x = short_after q.rights m c h in
-    let homes = short_homes q c step.valid x.0 in
-    homes_kept q m man step c (home_of c + 3) homes.0 homes.1 x.1 x.2 (λ ne. (let far = homes_away c q.side ne in (far.0, far.1))))))
-    (if_from (has_long_right left c) (are_at_home (men_after q m) c (home_of c - 4)) (λ h. (
-    let x = long_after q.rights m c h in
-    let homes = long_homes q c step.valid x.0 in
-    homes_kept q m man step c (home_of c - 4) homes.0 homes.1 x.1 x.2 (λ ne. (let far = homes_away c q.side ne in (far.0, far.2))))))
+pub rights_kept : (q : Board) (m : Move) (man : Man) → Step q m man → (c : Color) (w : Wing) → right_fits (men_after q m) (rights_after q.rights m) c w ≡ true
+unfolding right_fits
+rights_kept q m man step c w =
+    if_from (has_right (rights_after q.rights m) c w) (are_at_home (men_after q m) c w) (λ h.
+    let x = right_after q.rights m c w h in
+    let homes = homes_of q c w step.valid x.0 in
+    homes_kept q m man step c w homes.0 homes.1 x.1 x.2)
 
 -- a double step moves one man
 pub double_plain : (q : Board) (m : Move) → is_man q.side Pawn (man_at q.men m.from) ≡ true → is_double_step q m.from m.to ≡ true → men_after q m ≡ men_moved q m
@@ -369,15 +354,14 @@ double_plain q m pawn double =
     let none : is_man q.side King o ≡ false = one_kind q.side q.side Pawn King o refl pawn in
     let straight = (all_five (files_apart m.from m.to == 0) (rank_of m.from == second_rank q.side) (rank_of m.to == fourth_rank q.side) (is_empty q.men (middle m.from m.to)) (is_empty q.men m.to) double).0 in
     elim (makes q m) [
-      | Plainly a b c e ↦ e
+      | Plainly a b e ↦ e
       | Passing t e ↦ (
           let passes = and_parts (is_man q.side Pawn o) (aims_at q.side Pawn m.from m.to && is_target q.target m.to) t in
           let aims = pawn_ahead q.side m.from m.to (and_parts (aims_at q.side Pawn m.from m.to) (is_target q.target m.to) passes.1).0 in
           let zero = eqb-true (files_apart m.from m.to) 0 straight in
           let one = aims.1 in
           absurd (omega (arith, zero, one)))
-      | Shortly t e ↦ absurd (both_ways (is_man q.side King o) none (and_parts (is_man q.side King o) (is_short_castling q m.from m.to) t).0)
-      | Longly t e ↦ absurd (both_ways (is_man q.side King o) none (and_parts (is_man q.side King o) (is_long_castling q m.from m.to) t).0)
+      | OnWing w t e ↦ absurd (both_ways (is_man q.side King o) none (and_parts (is_man q.side King o) (castles q w m.from m.to) t).0)
     ]
 
 -- a double step passes over the square between, which is one step ahead
@@ -469,6 +453,6 @@ after_is_valid q m valid from to legal =
       kings = λ c. kings_kept q m mover.0 step c;
       pawns = ap not (pawns_kept q m mover.0 step);
       opponent = ap (λ c. not (in_check (men_after q m) c)) (other_other q.side) ∙ both.1;
-      rights = λ c. rights_kept q m mover.0 step c;
+      rights = rights_kept q m mover.0 step;
       target = target_kept q m mover.0 step;
     }

@@ -3,18 +3,19 @@ use Rattle.std.specs.Prelude.{◌≡◌, ℕ, ◌<◌, ◌==◌, Bool, true, fal
 use Rattle.cha_board.specs.declared.men.Kind.{Kind}
 use Rattle.cha_board.specs.declared.men.Kind.TheVariants.{Pawn, King}
 use Rattle.cha_board.specs.declared.men.Man.{Man}
+use Rattle.cha_board.specs.declared.castling.Wing.TheVariants.{Kingside, Queenside}
 use Rattle.cha_board.specs.Men.{other_color}
 use Rattle.cha_board.specs.Squares.{rank_of, last_rank, lies_between}
 use Rattle.cha_board.specs.SquareSets.{set_of, has_square, set_without}
 use Rattle.cha_board.specs.Aims.{aims_over}
-use Rattle.cha_board.specs.Board.{Board, man_at, is_empty, king_of, short_goal_of, long_goal_of}
+use Rattle.cha_board.specs.Board.{Board, man_at, is_empty, king_of, goal_of}
 use Rattle.cha_moves.specs.Moves.{is_target}
 use Rattle.cha_moves.specs.Shields.{aims_as}
 
 -- a pawn becomes another man on t or captures in passing onto t, or a king castles to t
 unfoldable pub is_special_check : Board → Kind → ℕ → Bool
 is_special_check q Pawn t = (rank_of t == last_rank q.side) || is_target q.target t
-is_special_check q King t = (t == long_goal_of q.side) || (t == short_goal_of q.side)
+is_special_check q King t = (t == goal_of q.side Queenside) || (t == goal_of q.side Kingside)
 is_special_check q k t = false
 
 -- of the men between u and k, one on s is the only one

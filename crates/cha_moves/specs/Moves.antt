@@ -7,9 +7,11 @@ use Rattle.cha_board.specs.declared.men.Kind.{Kind}
 use Rattle.cha_board.specs.declared.men.Kind.TheVariants.{Pawn, Knight, Bishop, Rook, Queen, King}
 use Rattle.cha_board.specs.declared.men.Man.{Man}
 use Rattle.cha_board.specs.declared.position.Rights.{Rights}
+use Rattle.cha_board.specs.declared.castling.Wing.{Wing}
+use Rattle.cha_board.specs.declared.castling.Wing.TheVariants.{Kingside, Queenside}
 use Rattle.cha_board.specs.Men.{other_color, same_color, same_kind, is_man}
 use Rattle.cha_board.specs.Squares.{squares, rank_of, last_rank, ahead_of, files_apart, is_rank_ahead, aims_at}
-use Rattle.cha_board.specs.Board.{Board, man_at, is_empty, is_clear, attacked, in_check, home_of, short_home_of, long_home_of, has_short_right, has_long_right}
+use Rattle.cha_board.specs.Board.{Board, man_at, is_empty, is_clear, attacked, in_check, home_of, corner_of, crossing_of, goal_of, has_right, rights_where}
 use Rattle.cha_moves.specs.Step.{Move}
 
 -- the rank on which c's pawns begin, and the rank that a double step reaches
@@ -47,29 +49,20 @@ is_target (Some u) t = u == t
 unfoldable pub is_en_passant : Board → ℕ → ℕ → Bool
 is_en_passant q s t = aims_at q.side Pawn s t && is_target q.target t
 
--- castling on the king's side: the squares between king and rook are empty, and the king is not attacked where it stands,
--- passes and arrives (Article 3.8.2)
-unfoldable pub is_short_castling : Board → ℕ → ℕ → Bool
-is_short_castling q s t =
-    let h = home_of q.side in
+-- castling on a wing: the squares between king and rook are empty, and the king is not attacked where it stands, crosses and
+-- arrives (Article 3.8.2)
+unfoldable pub castles : Board → Wing → ℕ → ℕ → Bool
+castles q w s t =
+    let home = home_of q.side in
+    let goal = goal_of q.side w in
     let enemy = other_color q.side in
-    (s == h) && (t == h + 2) && has_short_right q.rights q.side
-    && is_empty q.men (h + 1) && is_empty q.men (h + 2)
-    && not (attacked q.men enemy h) && not (attacked q.men enemy (h + 1)) && not (attacked q.men enemy (h + 2))
-
--- castling on the queen's side: the same
-unfoldable pub is_long_castling : Board → ℕ → ℕ → Bool
-is_long_castling q s t =
-    let h = home_of q.side in
-    let enemy = other_color q.side in
-    (s == h) && (t == h - 2) && has_long_right q.rights q.side
-    && is_empty q.men (h - 1) && is_empty q.men (h - 2) && is_empty q.men (h - 3)
-    && not (attacked q.men enemy h) && not (attacked q.men enemy (h - 1)) && not (attacked q.men enemy (h - 2))
+    (s == home) && (t == goal) && has_right q.rights q.side w && is_clear q.men home (corner_of q.side w)
+    && not (attacked q.men enemy home) && not (attacked q.men enemy (crossing_of q.side w)) && not (attacked q.men enemy goal)
 
 -- a man of the side to move, of kind k on s, may go to t, as far as the way there is concerned (Articles 3.2 to 3.8)
 unfoldable pub goes : Board → Kind → ℕ → ℕ → Bool
 goes q Pawn s t = is_step q s t || is_double_step q s t || is_pawn_capture q s t || is_en_passant q s t
-goes q King s t = aims_at q.side King s t || is_short_castling q s t || is_long_castling q s t
+goes q King s t = aims_at q.side King s t || castles q Kingside s t || castles q Queenside s t
 goes q k s t = aims_at q.side k s t && is_clear q.men s t
 
 -- what stands on s is of the side to move and may go to t, whatever it becomes there
@@ -121,12 +114,9 @@ victim_of c t = ahead_of (other_color c) t
 abbrev pub moved : List (Option Man) → ℕ → ℕ → Option Man → List (Option Man)
 moved men s t man = slice_set (slice_set men s None) t man
 
--- the king of the side to move castles
-abbrev pub castles_short : Board → Option Man → ℕ → ℕ → Bool
-castles_short q man s t = is_man q.side King man && is_short_castling q s t
-
-abbrev pub castles_long : Board → Option Man → ℕ → ℕ → Bool
-castles_long q man s t = is_man q.side King man && is_long_castling q s t
+-- the king of the side to move castles on a wing
+abbrev pub king_castles : Board → Wing → Option Man → ℕ → ℕ → Bool
+king_castles q w man s t = is_man q.side King man && castles q w s t
 
 -- a pawn of the side to move captures en passant
 abbrev pub captures_en_passant : Board → Option Man → ℕ → ℕ → Bool
@@ -135,15 +125,18 @@ captures_en_passant q man s t = is_man q.side Pawn man && is_en_passant q s t
 abbrev pub rook_of : Color → Option Man
 rook_of c = Some (record { color = c; kind = Rook })
 
+-- the men once the rook of c has castled on a wing
+abbrev pub rook_castled : List (Option Man) → Color → Wing → List (Option Man)
+rook_castled men c w = moved men (corner_of c w) (crossing_of c w) (rook_of c)
+
 -- the men after a move
 unfoldable pub men_after : Board → Move → List (Option Man)
 men_after q m =
     let man = man_at q.men m.from in
     let men = moved q.men m.from m.to (arriving man m.promotion) in
-    let h = home_of q.side in
     if captures_en_passant q man m.from m.to then slice_set men (victim_of q.side m.to) None
-    else (if castles_short q man m.from m.to then moved men (short_home_of q.side) (h + 1) (rook_of q.side)
-    else (if castles_long q man m.from m.to then moved men (long_home_of q.side) (h - 1) (rook_of q.side)
+    else (if king_castles q Kingside man m.from m.to then rook_castled men q.side Kingside
+    else (if king_castles q Queenside man m.from m.to then rook_castled men q.side Queenside
     else men))
 
 -- a move leaves or enters a square
@@ -151,13 +144,11 @@ abbrev pub touches : Move → ℕ → Bool
 touches m s = (m.from == s) || (m.to == s)
 
 -- a right stays until its king moves, or a move leaves or enters its rook's home (Article 3.8.2.1)
+abbrev pub keeps_right : Rights → Move → Color → Wing → Bool
+keeps_right r m c w = has_right r c w && not (touches m (home_of c)) && not (touches m (corner_of c w))
+
 unfoldable pub rights_after : Rights → Move → Rights
-rights_after r m = record {
-  white_king = r.white_king && not (touches m (home_of White)) && not (touches m (short_home_of White));
-  white_queen = r.white_queen && not (touches m (home_of White)) && not (touches m (long_home_of White));
-  black_king = r.black_king && not (touches m (home_of Black)) && not (touches m (short_home_of Black));
-  black_queen = r.black_queen && not (touches m (home_of Black)) && not (touches m (long_home_of Black));
-}
+rights_after r m = rights_where (keeps_right r m)
 
 -- a double step sets the target to the square passed over, and every other move clears it
 unfoldable pub target_after : Board → Move → Option ℕ

@@ -4,19 +4,17 @@ ghost use Rattle.std.specs.Prelude.{◌≡◌, ◌≢◌, ◌+◌, false, Some, 
 ghost use Rattle.cha_board.specs.Men.{same_kind, is_man};
 ghost use Rattle.cha_board.specs.Board.{Board, man_at};
 ghost use Rattle.cha_board.specs.SquareSets.{set_of};
-ghost use Rattle.cha_moves.specs.Moves.{moved, rook_of, is_en_passant, men_after, rights_after, target_after, legal as legal_moves, after as position_after};
+ghost use Rattle.cha_moves.specs.Moves.{moved, rook_castled, is_en_passant, men_after, rights_after, target_after, legal as legal_moves, after as position_after};
 ghost use Rattle.cha_moves.specs.Ways.{is_quiet};
 
 use crate::goes::goes_en_passant;
 use crate::list::promoting;
 use crate::makes::{men_made, rights_made, target_made};
 use crate::passing::captured_on;
-use crate::sides::{long_crossing, short_crossing};
 use crate::step::Move;
 use crate::ways::pawn_steps;
 use cha_board::{
-    Color, Kind, Man, Position, Rights, Square, SquareSet, aims_alone, files_between, homes,
-    long_home, short_home,
+    Color, Kind, Man, Position, Rights, Square, SquareSet, Wing, aims_alone, files_between, homes,
 };
 
 /// The position after a legal move.
@@ -149,26 +147,21 @@ fn after_king(position: &Position, side: Color, m: Move) -> Position
     if files_between(m.from, m.to) <= 1 {
         return after_one(position, side, m, Kind::King, None);
     }
-    if m.from.index() < m.to.index() {
-        after_castling(position, side, m, short_home(side), short_crossing(side))
+    let wing = if m.from.index() < m.to.index() {
+        Wing::Kingside
     } else {
-        after_castling(position, side, m, long_home(side), long_crossing(side))
-    }
+        Wing::Queenside
+    };
+    after_castling(position, side, m, wing)
 }
 
-/// The position after a legal move of a king by which a rook goes from the corner to the king's side.
+/// The position after a legal move of a king by which it castles on a wing.
 // Whether it may castle is not asked again.
 #[inline(always)]
-fn after_castling(
-    position: &Position,
-    side: Color,
-    m: Move,
-    corner: Square,
-    beside: Square,
-) -> Position
+fn after_castling(position: &Position, side: Color, m: Move, wing: Wing) -> Position
     requires side { side ≡ position.now.side }
     requires legal { Contains (legal_moves position.now) m }
-    requires men { men_after position.now m ≡ moved (moved position.now.men m.from m.to (Some (record { color = position.now.side; kind = Kind.King }))) corner beside (rook_of position.now.side) }
+    requires men { men_after position.now m ≡ rook_castled (moved position.now.men m.from m.to (Some (record { color = position.now.side; kind = Kind.King }))) position.now.side wing }
     requires target { None ≡ target_after position.now m }
     ensures { result ≡ position_after position.now m }
 {
@@ -181,7 +174,7 @@ fn after_castling(
         .moved(m.from, m.to, Man { color, kind });
     let kind = Kind::Rook;
     Position::of_parts(
-        gone.moved(corner, beside, Man { color, kind }),
+        gone.moved(wing.corner(side), wing.crossing(side), Man { color, kind }),
         color.other(),
         rights_made(position.rights(), m),
         None,

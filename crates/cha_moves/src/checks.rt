@@ -6,7 +6,7 @@ ghost use Rattle.cha_moves.specs.Checks.{HaveScreens, may_check, is_special_chec
 
 use crate::shields::{aimers, lone};
 use crate::sides::promotion_rank;
-use cha_board::{Kind, Position, Square, SquareSet, aims, long_goal, short_goal, squares_between};
+use cha_board::{Kind, Position, Square, SquareSet, Wing, aims, squares_between};
 
 /// The squares of the men that alone stand between a square and a man of the side to move that aims at it over them. Where one of
 /// them goes, that man may attack the square.
@@ -38,7 +38,9 @@ fn special_checks(position: &Position, kind: Kind) -> SquareSet
                 Some(target) => last.with(target),
             }
         }
-        Kind::King => SquareSet::single(long_goal(side)).with(short_goal(side)),
+        Kind::King => {
+            SquareSet::single(Wing::Queenside.goal(side)).with(Wing::Kingside.goal(side))
+        }
         _ => SquareSet::empty(),
     }
 }

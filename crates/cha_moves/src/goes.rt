@@ -1,19 +1,15 @@
 //! How men go: one function for each way that is asked of a single move (Laws of Chess, Articles 3.7 and 3.8).
 
 ghost use Rattle.std.specs.Prelude.{◌≡◌, ◌<◌};
-ghost use Rattle.cha_board.specs.Board.{is_empty};
-ghost use Rattle.cha_moves.specs.Moves.{is_target, is_double_step, is_en_passant, is_short_castling, is_long_castling, is_promotion};
+ghost use Rattle.cha_board.specs.Board.{is_empty, is_clear, home_of, corner_of};
+ghost use Rattle.cha_moves.specs.Moves.{is_target, is_double_step, is_en_passant, is_promotion};
+ghost use Rattle.cha_moves.specs.Moves.{castles as castles_on};
 ghost use Rattle.cha_moves.specs.Moves.{promotes_well as promotes_well_on};
 ghost use Rattle.cha_moves.specs.Ways.{is_promoted};
 
 use crate::passing::passed_over;
-use crate::sides::{
-    double_step_rank, first_pawn_rank, long_crossing, promotion_rank, rook_crossing, short_crossing,
-};
-use cha_board::{
-    Color, Kind, Position, Square, aims_at, attacks, files_between, home, long_goal, long_right,
-    short_goal, short_right,
-};
+use crate::sides::{double_step_rank, first_pawn_rank, promotion_rank};
+use cha_board::{Color, Kind, Position, Square, Wing, aims_at, attacks, files_between, home};
 
 /// Whether nothing stands on a square.
 fn is_empty_at(position: &Position, at: Square) -> bool
@@ -54,42 +50,27 @@ pub fn goes_en_passant(position: &Position, s: Square, t: Square) -> bool
     is_target_at(position, t) && aims_at(position.side(), Kind::Pawn, s, t)
 }
 
-/// Whether the king of the side to move goes so by castling on the king's side.
-#[tactic(auto, unfolding(crate::specs::Moves::is_short_castling))]
-pub fn castles_short(position: &Position, s: Square, t: Square) -> bool
-    ensures { result ≡ is_short_castling position.now s t }
+/// Whether nothing stands between the homes of a side's king and of its rook on a wing.
+fn has_clear_way(position: &Position, side: Color, wing: Wing) -> bool
+    ensures { result ≡ is_clear position.now.men (home_of side) (corner_of side wing) }
 {
-    let side = position.side();
-    let enemy = side.other();
-    let home = Square::at(home(side));
-    let crossing = short_crossing(side);
-    let goal = short_goal(side);
-    s.index() == home.index()
-        && t.index() == goal.index()
-        && short_right(position, side)
-        && is_empty_at(position, crossing)
-        && is_empty_at(position, goal)
-        && !attacks(position, enemy, home)
-        && !attacks(position, enemy, crossing)
-        && !attacks(position, enemy, goal)
+    wing.way(side).common(position.occupied()).is_empty()
 }
 
-/// Whether the king of the side to move goes so by castling on the queen's side.
-#[tactic(auto, unfolding(crate::specs::Moves::is_long_castling))]
-pub fn castles_long(position: &Position, s: Square, t: Square) -> bool
-    ensures { result ≡ is_long_castling position.now s t }
+/// Whether the king of the side to move goes so by castling on a wing.
+#[tactic(auto, unfolding(crate::specs::Moves::castles))]
+pub fn castles(position: &Position, wing: Wing, s: Square, t: Square) -> bool
+    ensures { result ≡ castles_on position.now wing s t }
 {
     let side = position.side();
     let enemy = side.other();
-    let home = Square::at(home(side));
-    let crossing = long_crossing(side);
-    let goal = long_goal(side);
+    let home = home(side);
+    let crossing = wing.crossing(side);
+    let goal = wing.goal(side);
     s.index() == home.index()
         && t.index() == goal.index()
-        && long_right(position, side)
-        && is_empty_at(position, crossing)
-        && is_empty_at(position, goal)
-        && is_empty_at(position, rook_crossing(side))
+        && position.rights().has(side, wing)
+        && has_clear_way(position, side, wing)
         && !attacks(position, enemy, home)
         && !attacks(position, enemy, crossing)
         && !attacks(position, enemy, goal)

@@ -33,7 +33,7 @@ pub use dead::unwinnable_stays;
 pub use ends::{Standing, is_mate, state};
 pub use legally::{legal_ways, legal_ways_by};
 pub use lines::{mate_lines_mate, replays};
-pub use list::{Moves, Positions, is_legal, legal, promoting, promotion};
+pub use list::{Moves, PROMOTIONS, Positions, is_legal, legal, promoting, promotion};
 pub use makes::rights_leaving;
 pub use mating::mating_move;
 pub use passing::{captured_on, passed_over};

@@ -27,6 +27,9 @@ pub type Positions = Listed<Position>;
 /// How many moves the list of legal moves has room for from the start. Few positions of games have more.
 const ROOM: usize = 96;
 
+/// What a pawn may become on the last rank, in the order of the list of legal moves (Laws of Chess, Article 3.7.3.3).
+pub const PROMOTIONS: [Kind; 4] = [Kind::Queen, Kind::Rook, Kind::Bishop, Kind::Knight];
+
 /// A promotion.
 pub fn promotion(from: Square, to: Square, kind: Kind) -> Move
     ensures { result ≡ record { from = from; to = to; promotion = Some kind } }

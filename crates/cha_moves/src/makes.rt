@@ -2,17 +2,15 @@
 
 ghost use Rattle.std.specs.Prelude.{◌≡◌, false, not, ◌&&◌, Some};
 ghost use Rattle.cha_board.specs.Men.{is_man};
-ghost use Rattle.cha_board.specs.Board.{man_at, home_of, is_home};
+ghost use Rattle.cha_board.specs.Board.{man_at, home_of, corner_of, is_home, has_right};
 ghost use Rattle.cha_board.specs.SquareSets.{set_of, has_square};
-ghost use Rattle.cha_moves.specs.Moves.{arriving, moved, touches, men_after, rights_after, target_after};
+ghost use Rattle.cha_moves.specs.Moves.{arriving, moved, rook_castled, touches, men_after, rights_after, target_after};
 
-use crate::goes::{castles_long, castles_short, double_steps, goes_en_passant};
+use crate::goes::{castles, double_steps, goes_en_passant};
 use crate::passing::{captured_on, passed_over};
-use crate::sides::{long_crossing, short_crossing};
 use crate::step::Move;
 use cha_board::{
-    Color, Kind, Man, Men, Position, Rights, Square, SquareSet, home, homes, is_man_of, long_home,
-    short_home,
+    Color, Kind, Man, Men, Position, Rights, Square, SquareSet, Wing, home, homes, is_man_of,
 };
 
 /// What arrives where this man goes and becomes that.
@@ -40,6 +38,18 @@ fn shift(men: &Men, from: Square, to: Square, man: Option<Man>) -> Men
     men.lifted(from).put(to, man)
 }
 
+/// The men once the rook of a side has castled on a wing.
+#[inline(always)]
+fn castle_rook(men: &Men, side: Color, wing: Wing) -> Men
+    ensures { result ≡ rook_castled men.now side wing }
+{
+    let rook = Man {
+        color: side,
+        kind: Kind::Rook,
+    };
+    shift(men, wing.corner(side), wing.crossing(side), Some(rook))
+}
+
 /// The men after a move.
 // To copy the men costs more than to move one.
 #[inline(always)]
@@ -56,19 +66,14 @@ pub fn men_made(position: &Position, m: Move) -> Men
         let captured = captured_on(side, m.to);
         return shift(men, m.from, m.to, arrived).put(captured, None);
     }
-    let rook = Some(Man {
-        color: side,
-        kind: Kind::Rook,
-    });
-    if is_man_of(man, side, Kind::King) && castles_short(position, m.from, m.to) {
-        let king_gone = shift(men, m.from, m.to, arrived);
-        return shift(&king_gone, short_home(side), short_crossing(side), rook);
+    let gone = shift(men, m.from, m.to, arrived);
+    if is_man_of(man, side, Kind::King) && castles(position, Wing::Kingside, m.from, m.to) {
+        return castle_rook(&gone, side, Wing::Kingside);
     }
-    if is_man_of(man, side, Kind::King) && castles_long(position, m.from, m.to) {
-        let king_gone = shift(men, m.from, m.to, arrived);
-        return shift(&king_gone, long_home(side), long_crossing(side), rook);
+    if is_man_of(man, side, Kind::King) && castles(position, Wing::Queenside, m.from, m.to) {
+        return castle_rook(&gone, side, Wing::Queenside);
     }
-    shift(men, m.from, m.to, arrived)
+    gone
 }
 
 /// The squares that a move leaves and enters.
@@ -79,11 +84,11 @@ fn touched(m: Move) -> SquareSet
     SquareSet::single(m.from).with(m.to)
 }
 
-/// Whether neither the home of a side's king nor that of its rook is in a set.
-fn lacks(touched: SquareSet, side: Color, rook: Square) -> bool
-    ensures { result ≡ (not (has_square touched (home_of side)) && not (has_square touched rook)) }
+/// Whether a side has a right on a wing of which a set has neither the home of its king nor that of its rook.
+fn right_left(rights: Rights, touched: SquareSet, side: Color, wing: Wing) -> bool
+    ensures { result ≡ (has_right rights side wing && not (has_square touched (home_of side)) && not (has_square touched (corner_of side wing))) }
 {
-    !touched.has(Square::at(home(side))) & !touched.has(rook)
+    rights.has(side, wing) & !touched.has(home(side)) & !touched.has(wing.corner(side))
 }
 
 /// The rights to castle after a move.
@@ -128,10 +133,10 @@ fn rights_left(rights: Rights, touched: SquareSet) -> Rights
     ensures { (m : Move) → touched ≡ set_of (touches m) → result ≡ rights_after rights m }
 {
     Rights {
-        white_king: rights.white_king & lacks(touched, Color::White, short_home(Color::White)),
-        white_queen: rights.white_queen & lacks(touched, Color::White, long_home(Color::White)),
-        black_king: rights.black_king & lacks(touched, Color::Black, short_home(Color::Black)),
-        black_queen: rights.black_queen & lacks(touched, Color::Black, long_home(Color::Black)),
+        white_king: right_left(rights, touched, Color::White, Wing::Kingside),
+        white_queen: right_left(rights, touched, Color::White, Wing::Queenside),
+        black_king: right_left(rights, touched, Color::Black, Wing::Kingside),
+        black_queen: right_left(rights, touched, Color::Black, Wing::Queenside),
     }
 }
 

@@ -4,13 +4,13 @@ ghost use Rattle.std.specs.Prelude.{◌≡◌, ◌==◌, not, ◌&&◌, ◌||◌
 ghost use Rattle.cha_board.specs.Board.{man_at};
 ghost use Rattle.cha_board.specs.SquareSets.{set_of, has_square};
 ghost use Rattle.cha_moves.specs.Moves.{is_step, is_double_step, is_pawn_capture, is_en_passant, goes, may_enter};
-ghost use Rattle.cha_moves.specs.Moves.{is_pseudo_legal as is_pseudo_legal_in};
+ghost use Rattle.cha_moves.specs.Moves.{is_pseudo_legal as is_pseudo_legal_in, castles as castles_on};
 ghost use Rattle.cha_moves.specs.Ways.{is_way};
 
-use crate::goes::{castles_long, castles_short, promotes_well};
+use crate::goes::{castles, promotes_well};
 use crate::sides::{first_pawn_rank, promotion_rank};
 use crate::step::Move;
-use cha_board::{Color, Kind, Man, Position, Square, SquareSet, aims, long_goal, short_goal};
+use cha_board::{Color, Kind, Man, Position, Square, SquareSet, Wing, aims};
 
 /// The squares that the side to move may not enter: those of its own men and that of the other king.
 fn barred(position: &Position, side: Color) -> SquareSet
@@ -73,18 +73,23 @@ fn pawn_captures(position: &Position, side: Color, s: Square) -> SquareSet
     }
 }
 
+/// The set with the square to which the king goes by castling on a wing, where it may.
+fn with_castling(set: SquareSet, position: &Position, wing: Wing, s: Square) -> SquareSet
+    ensures { result ≡ set_of (λ t. castles_on position.now wing s t || has_square set t) }
+{
+    let goal = wing.goal(position.side());
+    with_where(set, goal, castles(position, wing, s, goal))
+}
+
 /// The squares to which a king of the side to move goes, by castling too.
 #[inline(never)]
 fn king_ways(position: &Position, s: Square) -> SquareSet
     ensures { result ≡ set_of (goes position.now Kind.King s) }
 {
     let _from = s.index();
-    let side = position.side();
-    let short = short_goal(side);
-    let long = long_goal(side);
-    let near = aims(side, Kind::King, s, position.occupied());
-    let shortly = with_where(near, short, castles_short(position, s, short));
-    with_where(shortly, long, castles_long(position, s, long))
+    let near = aims(position.side(), Kind::King, s, position.occupied());
+    let kingside = with_castling(near, position, Wing::Kingside, s);
+    with_castling(kingside, position, Wing::Queenside, s)
 }
 
 /// The squares to which a man of the side to move and of this kind goes, whatever stands there.

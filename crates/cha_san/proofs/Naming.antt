@@ -13,10 +13,10 @@ use Rattle.cha_board.specs.Squares.{file_of, rank_of, files_apart, aims_at, last
 use Rattle.cha_board.specs.Board.{Board, man_at, home_of}
 use Rattle.cha_board.proofs.Identity.{same_kind_equal, same_kind_self}
 use Rattle.cha_moves.specs.Step.{Move}
-use Rattle.cha_moves.specs.Moves.{goes, promotes_well, is_short_castling, is_long_castling, is_promotion, legal}
+use Rattle.cha_moves.specs.Moves.{goes, promotes_well, is_promotion, legal}
 use Rattle.cha_moves.proofs.Contained.{not_in_nothing, Contains-cons_here, Contains-cons_there, Contains-cons_cases, Contains-filter_from, Contains-filter_parts}
 use Rattle.cha_moves.proofs.Made.{Mover}
-use Rattle.cha_moves.proofs.Kept.{promoted, short_tests, long_tests}
+use Rattle.cha_moves.proofs.Kept.{promoted, castling_tests, king_way}
 use Rattle.cha_moves.proofs.Listed.{mover_of}
 use Rattle.cha_moves.proofs.LegalApart.{legal_apart}
 use Rattle.cha_moves.proofs.Apart.{filtered_apart}
@@ -28,7 +28,7 @@ use Rattle.cha_san.specs.Forms.{form_of}
 use Rattle.cha_san.specs.Resolving.{only, resolved}
 use Rattle.cha_san.specs.Writing.{named_if, parts_of, is_alone}
 use Rattle.cha_san.proofs.Resolved.{answers_resolved}
-use Rattle.cha_san.proofs.Sourced.{not_two_files}
+use Rattle.cha_san.proofs.Sourced.{not_two_files, each_goal}
 
 -- the one element of a list that passes
 all_one : {X : Type 0} (ys : List X) (x : X) → AreDistinct ys → Contains ys x → ((y : X) → Contains ys y → y ≡ x) → ys ≡ x ∷ []
@@ -77,14 +77,8 @@ record Castles (q : Board) (m : Move) : Type 0 where
   none : m.promotion ≡ None
   side : (m.to ≡ home_of q.side + 2) ⊎ (m.to ≡ home_of q.side - 2)
 
-three_ways : (a b c : Bool) → (a || b || c) ≡ true → (a ≡ true) ⊎ ((b ≡ true) ⊎ (c ≡ true))
-three_ways true b c h = inl refl
-three_ways false true c h = inr (inl refl)
-three_ways false false true h = inr (inr refl)
-three_ways false false false h = cc
-
 castles : (q : Board) (m : Move) → Contains (legal q) m → is_castling q m ≡ true → Castles q m
-unfolding is_castling goes
+unfolding is_castling
 castles q m there h =
     let may = mover_of q m there in
     let man = may.0 in
@@ -95,12 +89,9 @@ castles q m there h =
       | inl x ↦ (let wrong = sym king ∙ x.0 in cc)
       | inr x ↦ x.0
     ] in
-    elim (three_ways (aims_at q.side King m.from m.to) (is_short_castling q m.from m.to) (is_long_castling q m.from m.to) way) [
+    elim (king_way q m.from m.to way) [
       | inl a ↦ absurd (not_two_files q.side m.from m.to a both.1)
-      | inr x ↦ elim x [
-        | inl b ↦ (let tests = short_tests q m.from m.to b in record { from_home = tests.from_home; none = none; side = inl tests.two_files })
-        | inr c ↦ (let tests = long_tests q m.from m.to c in record { from_home = tests.from_home; none = none; side = inr tests.two_files })
-      ]
+      | inr x ↦ (let tests = castling_tests q x.0 m.from m.to x.1 in record { from_home = tests.from_home; none = none; side = each_goal q.side x.0 m.to tests.to_goal })
     ]
 
 short_file : (c : Color) → file_of (home_of c + 2) ≡ 6

@@ -7,16 +7,18 @@ use Rattle.cha_board.specs.declared.men.Color.TheVariants.{White, Black}
 use Rattle.cha_board.specs.declared.men.Kind.{Kind}
 use Rattle.cha_board.specs.declared.men.Kind.TheVariants.{Pawn, Knight, Bishop, Rook, Queen, King}
 use Rattle.cha_board.specs.declared.men.Man.{Man}
+use Rattle.cha_board.specs.declared.castling.Wing.{Wing}
+use Rattle.cha_board.specs.declared.castling.Wing.TheVariants.{Kingside, Queenside}
 use Rattle.cha_board.specs.Men.{other_color, same_kind, is_man}
 use Rattle.cha_board.specs.Squares.{squares, file_of, rank_of, files_apart, ranks_apart, steps_apart, is_straight, is_rank_ahead, aims_at, last_rank}
-use Rattle.cha_board.specs.Board.{Board, man_at, is_empty, is_clear, home_of}
+use Rattle.cha_board.specs.Board.{Board, man_at, is_empty, is_clear, home_of, goal_of}
 use Rattle.cha_board.specs.SquareSets.{set_of, squares_in, set_minus, set_joined, set_common}
 use Rattle.cha_board.proofs.SetLaws.{same_set}
 use Rattle.cha_board.proofs.Tables.{aims_from_there}
 use Rattle.cha_moves.specs.Step.{Move}
-use Rattle.cha_moves.specs.Moves.{second_rank, fourth_rank, middle, is_step, is_double_step, is_pawn_capture, is_en_passant, is_target, is_short_castling, is_long_castling, goes, promotes_well, is_legal_in, moves_between, moves_from, all_moves, legal}
+use Rattle.cha_moves.specs.Moves.{second_rank, fourth_rank, middle, is_step, is_double_step, is_pawn_capture, is_en_passant, is_target, castles, goes, promotes_well, is_legal_in, moves_between, moves_from, all_moves, legal}
 use Rattle.cha_moves.proofs.Made.{Mover}
-use Rattle.cha_moves.proofs.Kept.{short_tests, long_tests}
+use Rattle.cha_moves.proofs.Kept.{castling_tests, king_way}
 use Rattle.cha_moves.proofs.Listed.{mover_in}
 use Rattle.cha_moves.proofs.WayLaws.{filter_in_set}
 use Rattle.cha_moves.proofs.Goings.{joined_of, common_of, minus_of}
@@ -32,17 +34,6 @@ use Rattle.cha_san.proofs.Sifting.{all_empty, of_one_square, filter_both}
 mover_named : (q : Board) (form : Form) (m : Move) → names q form m ≡ true → (man : Man) × Mover q m man
 mover_named q form m h = mover_in q m (and_parts (fits q form m) (is_legal_in q m) h).1
 
--- what a king does that goes so
-king_goes_so : (q : Board) (s t : ℕ) → goes q King s t ≡ true → (aims_at q.side King s t ≡ true) ⊎ ((is_short_castling q s t ≡ true) ⊎ (is_long_castling q s t ≡ true))
-unfolding goes
-king_goes_so q s t h = elim (or_cases (aims_at q.side King s t || is_short_castling q s t) (is_long_castling q s t) h) [
-  | inl x ↦ elim (or_cases (aims_at q.side King s t) (is_short_castling q s t) x) [
-    | inl near ↦ inl near
-    | inr short ↦ inr (inl short)
-  ]
-  | inr long ↦ inr (inr long)
-]
-
 -- a king that aims at a square is not two files away
 pub not_two_files : (c : Color) (s t : ℕ) → aims_at c King s t ≡ true → (files_apart s t == 2) ≡ true → ⊥
 unfolding aims_at steps_apart
@@ -52,15 +43,12 @@ not_two_files c s t near two =
     omega arith
 
 -- castling goes two files
-short_files : (c : Color) (s t : ℕ) → s ≡ home_of c → t ≡ home_of c + 2 → (files_apart s t == 2) ≡ true
+castling_files : (c : Color) (w : Wing) (s t : ℕ) → s ≡ home_of c → t ≡ goal_of c w → (files_apart s t == 2) ≡ true
 unfolding files_apart
-short_files White s t e f = rw (e, f) refl
-short_files Black s t e f = rw (e, f) refl
-
-long_files : (c : Color) (s t : ℕ) → s ≡ home_of c → t ≡ home_of c - 2 → (files_apart s t == 2) ≡ true
-unfolding files_apart
-long_files White s t e f = rw (e, f) refl
-long_files Black s t e f = rw (e, f) refl
+castling_files White Kingside s t e f = rw (e, f) refl
+castling_files White Queenside s t e f = rw (e, f) refl
+castling_files Black Kingside s t e f = rw (e, f) refl
+castling_files Black Queenside s t e f = rw (e, f) refl
 
 long_file : (c : Color) (t : ℕ) → t ≡ home_of c - 2 → (file_of t == 6) ≡ true → ⊥
 long_file White t e h = (let f = eqb-true (file_of t) 6 h in omega arith)
@@ -70,18 +58,19 @@ short_file : (c : Color) (t : ℕ) → t ≡ home_of c + 2 → (file_of t == 2) 
 short_file White t e h = (let f = eqb-true (file_of t) 2 h in omega arith)
 short_file Black t e h = (let f = eqb-true (file_of t) 2 h in omega arith)
 
+pub each_goal : (c : Color) (w : Wing) (t : ℕ) → t ≡ goal_of c w → (t ≡ home_of c + 2) ⊎ (t ≡ home_of c - 2)
+each_goal c Kingside t e = inl e
+each_goal c Queenside t e = inr e
+
 -- where the king castles to
 castled : (q : Board) (m : Move) (man : Man) → Mover q m man → is_castling q m ≡ true → (m.to ≡ home_of q.side + 2) ⊎ (m.to ≡ home_of q.side - 2)
 unfolding is_castling
 castled q m man may h =
     let both = and_parts (is_man q.side King (man_at q.men m.from)) (files_apart m.from m.to == 2) h in
     let king = kind_tested q.side King (man_at q.men m.from) man may.found both.0 in
-    elim (king_goes_so q m.from m.to (ap (λ k. goes q k m.from m.to) (sym king) ∙ may.goes)) [
+    elim (king_way q m.from m.to (ap (λ k. goes q k m.from m.to) (sym king) ∙ may.goes)) [
       | inl near ↦ absurd (not_two_files q.side m.from m.to near both.1)
-      | inr x ↦ elim x [
-        | inl short ↦ inl (short_tests q m.from m.to short).two_files
-        | inr long ↦ inr (long_tests q m.from m.to long).two_files
-      ]
+      | inr x ↦ each_goal q.side x.0 m.to (castling_tests q x.0 m.from m.to x.1).to_goal
     ]
 
 -- the parts of a move that fits the parts of a word
@@ -181,16 +170,11 @@ pawn_comes q s t small small' h =
 
 king_comes : (q : Board) (s t : ℕ) → s < 64 → t < 64 → goes q King s t ≡ true → (files_apart s t == 2) ≡ false → may_come q.side King t s ≡ true
 king_comes q s t small small' h near =
-    elim (king_goes_so q s t h) [
+    elim (king_way q s t h) [
       | inl aims ↦ by_aim q.side King s t small small' aims
-      | inr x ↦ elim x [
-        | inl short ↦
-            let k = short_tests q s t short in
-            absurd (both_ways (files_apart s t == 2) near (short_files q.side s t k.from_home k.two_files))
-        | inr long ↦
-            let k = long_tests q s t long in
-            absurd (both_ways (files_apart s t == 2) near (long_files q.side s t k.from_home k.two_files))
-      ]
+      | inr x ↦
+          let k = castling_tests q x.0 s t x.1 in
+          absurd (both_ways (files_apart s t == 2) near (castling_files q.side x.0 s t k.from_home k.to_goal))
     ]
 
 -- a man that goes somewhere, and does not castle, may come there

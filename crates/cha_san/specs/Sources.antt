@@ -3,9 +3,10 @@ use Rattle.std.specs.Prelude.{ℕ, ◌==◌, Bool, not, ◌&&◌, ◌||◌}
 use Rattle.cha_board.specs.declared.men.Color.{Color}
 use Rattle.cha_board.specs.declared.men.Kind.{Kind}
 use Rattle.cha_board.specs.declared.men.Kind.TheVariants.{Pawn, Rook, King}
+use Rattle.cha_board.specs.declared.castling.Wing.TheVariants.{Kingside, Queenside}
 use Rattle.cha_board.specs.Men.{other_color, same_kind, is_man}
 use Rattle.cha_board.specs.Squares.{rank_of, aims_at}
-use Rattle.cha_board.specs.Board.{Board, man_at, short_goal_of, long_goal_of}
+use Rattle.cha_board.specs.Board.{Board, man_at, goal_of}
 use Rattle.cha_moves.specs.Step.{Move}
 use Rattle.cha_moves.specs.Moves.{is_legal_in}
 use Rattle.cha_san.specs.declared.forms.Form.{Form}
@@ -18,8 +19,8 @@ names q form m = fits q form m && is_legal_in q m
 
 -- the square that the move enters
 abbrev pub target_of : Board → Form → ℕ
-target_of q Short = short_goal_of q.side
-target_of q Long = long_goal_of q.side
+target_of q Short = goal_of q.side Kingside
+target_of q Long = goal_of q.side Queenside
 target_of q (Plain p) = p.to
 
 -- s is on another rank of t's file, seen from t as a rook of the other side sees it

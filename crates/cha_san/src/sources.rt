@@ -5,7 +5,7 @@ ghost use Rattle.cha_board.specs.SquareSets.{set_of};
 ghost use Rattle.cha_san.specs.Sources.{target_of, comes_along, may_come, is_source};
 
 use crate::forms::{Form, Parts};
-use cha_board::{Color, Kind, Position, Square, SquareSet, aims_alone, long_goal, short_goal};
+use cha_board::{Color, Kind, Position, Square, SquareSet, Wing, aims_alone};
 
 /// The square that the move of a word enters.
 pub fn target(position: &Position, form: &Form) -> Square
@@ -13,8 +13,8 @@ pub fn target(position: &Position, form: &Form) -> Square
 {
     let side = position.side();
     match form {
-        Form::Short => short_goal(side),
-        Form::Long => long_goal(side),
+        Form::Short => Wing::Kingside.goal(side),
+        Form::Long => Wing::Queenside.goal(side),
         Form::Plain(parts) => parts.to,
     }
 }

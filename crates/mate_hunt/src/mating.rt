@@ -3,10 +3,9 @@
 
 use crate::scene::Scene;
 use cha_board::{
-    Color, Kind, Position, Square, SquareSet, aims, aims_alone, long_goal, long_right, short_goal,
-    short_right, squares_between,
+    Color, Kind, Position, Square, SquareSet, Wing, aims, aims_alone, squares_between,
 };
-use cha_moves::{Move, after, first_pawn_rank, is_legal, is_mate, promotion_rank};
+use cha_moves::{Move, PROMOTIONS, after, first_pawn_rank, is_legal, is_mate, promotion_rank};
 
 /// The kinds of men but pawns.
 const PIECES: [Kind; 5] = [
@@ -16,9 +15,6 @@ const PIECES: [Kind; 5] = [
     Kind::Knight,
     Kind::King,
 ];
-
-/// What a pawn may become.
-const PROMOTIONS: [Kind; 4] = [Kind::Queen, Kind::Rook, Kind::Bishop, Kind::Knight];
 
 /// Whether a move is legal and mates.
 fn mates(position: &Position, m: Move, winner: Color) -> bool {
@@ -224,13 +220,12 @@ fn mate_by_castling_to(position: &Position, scene: &Scene, goal: Square) -> Opti
 /// A mate by castling.
 fn mate_by_castling(position: &Position, scene: &Scene) -> Option<Move> {
     let side = scene.winner;
-    if short_right(position, side) {
-        if let Some(m) = mate_by_castling_to(position, scene, short_goal(side)) {
-            return Some(m);
+    for wing in [Wing::Kingside, Wing::Queenside] {
+        if position.rights().has(side, wing) {
+            if let Some(m) = mate_by_castling_to(position, scene, wing.goal(side)) {
+                return Some(m);
+            }
         }
-    }
-    if long_right(position, side) {
-        return mate_by_castling_to(position, scene, long_goal(side));
     }
     None
 }

@@ -1,11 +1,12 @@
 -- What holds at each position that legal moves reach: the six facts that moves carry along.
 use Rattle.std.proofs.Common.{◌≡◌, ℕ, ◌+◌, ◌-◌, true, Some}
 use Rattle.cha_board.specs.declared.men.Color.{Color}
+use Rattle.cha_board.specs.declared.castling.Wing.{Wing}
 use Rattle.cha_board.specs.declared.men.Kind.TheVariants.{Pawn}
 use Rattle.cha_board.specs.declared.men.Man.{Man}
 use Rattle.cha_board.specs.Men.{other_color, is_man}
 use Rattle.cha_board.specs.Squares.{rank_of}
-use Rattle.cha_board.specs.Board.{Board, man_at, home_of, has_short_right, has_long_right}
+use Rattle.cha_board.specs.Board.{Board, man_at, home_of, corner_of, has_right}
 use Rattle.cha_moves.specs.Moves.{second_rank, is_target, victim_of}
 use Rattle.cha_moves.proofs.Kept.{Becomes}
 use Rattle.mob_law.specs.Reach.{is_fixed}
@@ -39,11 +40,9 @@ pub record Facts (p : Board) (s : Sets) (q : Board) (origin : ℕ → ℕ) : Typ
   pub fixed : (f : ℕ) → is_fixed p s f ≡ true → (man_at q.men f ≡ man_at p.men f) × (origin f ≡ f)
   -- 4: a pawn on its own second rank has not moved
   pub second : (u : ℕ) (c : Color) → is_man c Pawn (man_at q.men u) ≡ true → rank_of u ≡ second_rank c → origin u ≡ u
-  -- 5: a right to castle was there at first, and its king and its rook have not moved: on the king's side, on the queen's
-  pub short : (c : Color) → has_short_right q.rights c ≡ true
-      → (has_short_right p.rights c ≡ true) × (origin (home_of c) ≡ home_of c) × (origin (home_of c + 3) ≡ home_of c + 3)
-  pub long : (c : Color) → has_long_right q.rights c ≡ true
-      → (has_long_right p.rights c ≡ true) × (origin (home_of c) ≡ home_of c) × (origin (home_of c - 4) ≡ home_of c - 4)
+  -- 5: a right to castle was there at first, and its king and its rook have not moved
+  pub right : (c : Color) (w : Wing) → has_right q.rights c w ≡ true
+      → (has_right p.rights c w ≡ true) × (origin (home_of c) ≡ home_of c) × (origin (corner_of c w) ≡ corner_of c w)
   -- 6: a target is the first position's, or a pawn has just passed over it
   pub target : (t : ℕ) → is_target q.target t ≡ true → Passed p s q origin t
 

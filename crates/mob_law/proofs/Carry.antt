@@ -3,11 +3,12 @@
 use Rattle.std.proofs.Common.{◌≡◌, ℕ, ◌+◌, ◌-◌, true, Some, sym, ap, ◌∙◌, inl, inr}
 use Rattle.cha_board.specs.declared.men.Color.{Color}
 use Rattle.cha_board.specs.declared.men.Kind.{Kind}
+use Rattle.cha_board.specs.declared.castling.Wing.{Wing}
 use Rattle.cha_board.specs.declared.men.Kind.TheVariants.{Pawn}
 use Rattle.cha_board.specs.declared.men.Man.{Man}
 use Rattle.cha_board.specs.Men.{is_man}
 use Rattle.cha_board.specs.Squares.{rank_of}
-use Rattle.cha_board.specs.Board.{Board, man_at, home_of, has_short_right, has_long_right}
+use Rattle.cha_board.specs.Board.{Board, man_at, home_of, corner_of, has_right}
 use Rattle.cha_moves.specs.Moves.{second_rank, is_target}
 use Rattle.mob_law.specs.Reach.{is_fixed}
 use Rattle.mob_sets.specs.Mobility.{Sets}
@@ -29,10 +30,8 @@ pub record Carries (p : Board) (s : Sets) (q : Board) (origin : ℕ → ℕ) (r 
   pub fixed : (f : ℕ) → is_fixed p s f ≡ true → (man_at r.men f ≡ man_at q.men f) × (source f ≡ f)
   pub second : (u : ℕ) (c : Color) → is_man c Pawn (man_at r.men u) ≡ true → rank_of u ≡ second_rank c
       → (is_man c Pawn (man_at q.men u) ≡ true) × (source u ≡ u)
-  pub short : (c : Color) → has_short_right r.rights c ≡ true
-      → (has_short_right q.rights c ≡ true) × (source (home_of c) ≡ home_of c) × (source (home_of c + 3) ≡ home_of c + 3)
-  pub long : (c : Color) → has_long_right r.rights c ≡ true
-      → (has_long_right q.rights c ≡ true) × (source (home_of c) ≡ home_of c) × (source (home_of c - 4) ≡ home_of c - 4)
+  pub right : (c : Color) (w : Wing) → has_right r.rights c w ≡ true
+      → (has_right q.rights c w ≡ true) × (source (home_of c) ≡ home_of c) × (source (corner_of c w) ≡ corner_of c w)
   pub target : (t : ℕ) → is_target r.target t ≡ true → Passed p s r (λ u. origin (source u)) t
 
 -- what became a j, which became an i, became an i
@@ -66,13 +65,9 @@ carried p s q origin r source facts c = record {
   second = λ u d pawn rank. (
       let before = c.second u d pawn rank in
       ap origin before.1 ∙ facts.second u d before.0 rank);
-  short = λ d right. (
-      let now = c.short d right in
-      let before = facts.short d now.0 in
-      (before.0, ap origin now.1 ∙ before.1, ap origin now.2 ∙ before.2));
-  long = λ d right. (
-      let now = c.long d right in
-      let before = facts.long d now.0 in
+  right = λ d w right. (
+      let now = c.right d w right in
+      let before = facts.right d w now.0 in
       (before.0, ap origin now.1 ∙ before.1, ap origin now.2 ∙ before.2));
   target = c.target;
 }

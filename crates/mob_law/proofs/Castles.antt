@@ -1,20 +1,24 @@
 -- Castling: the king and its rook go at once, and both leave their origins.
 use Rattle.std.proofs.Common.{◌≡◌, ◌≢◌, ℕ, ◌+◌, ◌-◌, true, false, cond, ◌==◌, List, Option, Some, refl, sym, subst, ap, ◌∙◌, arith, inl}
-use Rattle.std.proofs.lemmas.Bool.{and_parts, eq-eqb, ne_eqb}
+use Rattle.std.proofs.lemmas.Bool.{and_parts, both_ways, eq-eqb, ne_eqb}
 use Rattle.std.proofs.lemmas.Option.{same_Some}
 use Rattle.cha_board.specs.declared.men.Color.{Color}
 use Rattle.cha_board.specs.declared.men.Color.TheVariants.{White, Black}
 use Rattle.cha_board.specs.declared.men.Kind.{Kind}
 use Rattle.cha_board.specs.declared.men.Kind.TheVariants.{Pawn, Rook, King}
 use Rattle.cha_board.specs.declared.men.Man.{Man}
+use Rattle.cha_board.specs.declared.castling.Wing.{Wing}
+use Rattle.cha_board.specs.declared.castling.Wing.TheVariants.{Kingside, Queenside}
 use Rattle.cha_board.specs.Men.{same_kind, is_man}
-use Rattle.cha_board.specs.Board.{Board, man_at, home_of}
+use Rattle.cha_board.specs.Board.{Board, man_at, home_of, corner_of, crossing_of, goal_of, is_home}
 use Rattle.cha_moves.specs.Step.{Move}
-use Rattle.cha_moves.specs.Moves.{is_short_castling, is_long_castling, arriving, moved, castles_short, castles_long, rook_of, men_after, after}
+use Rattle.cha_moves.specs.Moves.{castles, arriving, moved, king_castles, rook_of, rook_castled, men_after, after}
 use Rattle.cha_board.proofs.Identity.{man_of, is_man_from}
 use Rattle.cha_moves.proofs.Made.{Step, moved_other, men_moved}
-use Rattle.cha_moves.proofs.Kept.{Castling, short_castling, long_castling, short_tests, long_tests, stays_man}
-use Rattle.cha_moves.proofs.Validity.{Castled, KingHere, RookHere, Others, castled, short_after, long_after}
+use Rattle.cha_moves.proofs.Kept.{Castling, castling_of, castling_tests, stays_man}
+use Rattle.cha_moves.proofs.Clearing.{clear_at}
+use Rattle.cha_moves.proofs.Touched.{home_is, corner_is}
+use Rattle.cha_moves.proofs.Validity.{Castled, KingHere, RookHere, Others, castled, right_after}
 use Rattle.mob_law.specs.Reach.{is_fixed}
 use Rattle.mob_sets.specs.Mobility.{Sets}
 use Rattle.mob_law.specs.Closed.{Castles, IsClosed}
@@ -50,7 +54,7 @@ record CastlingMove (p : Board) (s : Sets) (q : Board) (origin : ℕ → ℕ) (m
   rook_origin : origin i ≡ i
   to_free : is_fixed p s m.to ≡ false
   rook_free : is_fixed p s j ≡ false
-  homes : (c : Color) → (home_of c ≢ j) × (home_of c + 3 ≢ j) × (home_of c - 4 ≢ j)
+  homes : (c : Color) → (home_of c ≢ j) × ((w : Wing) → corner_of c w ≢ j)
 
 -- the king arrives as it is
 king_stays : (q : Board) (m : Move) (man new : Man) → Step q m man → man.kind ≡ King → arriving (Some man) m.promotion ≡ Some new → man ≡ new
@@ -166,85 +170,48 @@ module _ (p : Board) (s : Sets) (q : Board) (origin : ℕ → ℕ) (m : Move) (m
     second = λ u d pawn rank. (
         let k = man_of (man_at (men_after q m) u) d Pawn pawn in
         castled_second u k.man d k.color k.kind (castled q m man i j step c.move u k.man k.found));
-    short = λ d right. (
-        let k = short_after q.rights m d right in
-        (k.0, back_none m.from m.to i j (home_of d) (λ e. k.1.1 (sym e)) (c.homes d).0, back_none m.from m.to i j (home_of d + 3) (λ e. k.2.1 (sym e)) (c.homes d).1));
-    long = λ d right. (
-        let k = long_after q.rights m d right in
-        (k.0, back_none m.from m.to i j (home_of d) (λ e. k.1.1 (sym e)) (c.homes d).0, back_none m.from m.to i j (home_of d - 4) (λ e. k.2.1 (sym e)) (c.homes d).2));
+    right = λ d w right. (
+        let k = right_after q.rights m d w right in
+        (k.0, back_none m.from m.to i j (home_of d) (λ e. k.1.1 (sym e)) (c.homes d).0, back_none m.from m.to i j (corner_of d w) (λ e. k.2.1 (sym e)) ((c.homes d).1 w)));
     target = λ t here. target_now p s q origin m man closed facts step (back_both m.from m.to i j) (back_king m.from m.to i j m.to refl) t here;
   }
 
 -- no rook castles to a home
-short_homes_apart : (side c : Color) → (home_of c ≢ home_of side + 1) × (home_of c + 3 ≢ home_of side + 1) × (home_of c - 4 ≢ home_of side + 1)
-short_homes_apart White White = (λ e. omega (arith, e), λ e. omega (arith, e), λ e. omega (arith, e))
-short_homes_apart White Black = (λ e. omega (arith, e), λ e. omega (arith, e), λ e. omega (arith, e))
-short_homes_apart Black White = (λ e. omega (arith, e), λ e. omega (arith, e), λ e. omega (arith, e))
-short_homes_apart Black Black = (λ e. omega (arith, e), λ e. omega (arith, e), λ e. omega (arith, e))
+no_home : (c : Color) (w : Wing) → is_home (crossing_of c w) ≡ false
+no_home White Kingside = refl
+no_home White Queenside = refl
+no_home Black Kingside = refl
+no_home Black Queenside = refl
 
-long_homes_apart : (side c : Color) → (home_of c ≢ home_of side - 1) × (home_of c + 3 ≢ home_of side - 1) × (home_of c - 4 ≢ home_of side - 1)
-long_homes_apart White White = (λ e. omega (arith, e), λ e. omega (arith, e), λ e. omega (arith, e))
-long_homes_apart White Black = (λ e. omega (arith, e), λ e. omega (arith, e), λ e. omega (arith, e))
-long_homes_apart Black White = (λ e. omega (arith, e), λ e. omega (arith, e), λ e. omega (arith, e))
-long_homes_apart Black Black = (λ e. omega (arith, e), λ e. omega (arith, e), λ e. omega (arith, e))
+homes_apart : (side : Color) (v : Wing) (c : Color) → (home_of c ≢ crossing_of side v) × ((w : Wing) → corner_of c w ≢ crossing_of side v)
+homes_apart side v c =
+    let apart = λ (s : ℕ) (home : is_home s ≡ true) (e : s ≡ crossing_of side v). both_ways (is_home (crossing_of side v)) (no_home side v) (ap is_home (sym e) ∙ home) in
+    (apart (home_of c) (home_is c), λ w. apart (corner_of c w) (corner_is c w))
 
--- The two castlings, by the facts on rights and the rules on castling:
+-- Castling, by the facts on rights and the rule on castling:
 module _ (p : Board) (s : Sets) (q : Board) (origin : ℕ → ℕ) (m : Move) (man : Man) (closed : IsClosed p s) (facts : Facts p s q origin) (step : Step q m man) where
-  -- after a castling on the king's side the facts hold
-  pub short_held : castles_short q (man_at q.men m.from) m.from m.to ≡ true
-      → men_after q m ≡ moved (men_moved q m) (home_of q.side + 3) (home_of q.side + 1) (rook_of q.side) → FactsHold p s (after q m)
-  short_held h men =
-      let both = and_parts (is_man q.side King (man_at q.men m.from)) (is_short_castling q m.from m.to) h in
-      let tests = short_tests q m.from m.to both.1 in
-      let right = facts.short q.side tests.right in
-      let free = empty_not_fixed p s q origin facts (home_of q.side + 1) tests.free in
-      let free_to = empty_not_fixed p s q origin facts (home_of q.side + 2) tests.free_to in
-      let castles = closed.kings_castle_short q.side right.0 free free_to in
+  -- after a castling the facts hold
+  pub castling_held : (w : Wing) → king_castles q w (man_at q.men m.from) m.from m.to ≡ true → men_after q m ≡ rook_castled (men_moved q m) q.side w → FactsHold p s (after q m)
+  castling_held w h men =
+      let both = and_parts (is_man q.side King (man_at q.men m.from)) (castles q w m.from m.to) h in
+      let tests = castling_tests q w m.from m.to both.1 in
+      let move = castling_of q m w step.valid h men in
+      let right = facts.right q.side w tests.right in
+      let castles = closed.kings_castle q.side w right.0 (λ t small lies. empty_not_fixed p s q origin facts t (clear_at q.men (home_of q.side) (corner_of q.side w) t tests.clear small lies)) in
       let king = man_of (man_at q.men m.from) q.side King both.0 in
-      let i = home_of q.side + 3 in
-      let j = home_of q.side + 1 in
-      let F : ℕ → Type 0 = λ x. Castles s x (home_of q.side + 2) i j in
+      let i = corner_of q.side w in
+      let j = crossing_of q.side w in
+      let F : ℕ → Type 0 = λ x. Castles s x (goal_of q.side w) i j in
       let T : ℕ → Type 0 = λ x. Castles s m.from x i j in
       let O : ℕ → Type 0 = λ x. origin x ≡ x in
-      let X : ℕ → Type 0 = λ x. is_fixed p s x ≡ false in
       let c : CastlingMove p s q origin m man i j = record {
-        move = short_castling q m step.valid h men;
+        move = move;
         king = ap (λ (x : Man). x.kind) (same_Some man king.man (sym step.may.found ∙ king.found)) ∙ king.kind;
-        castles = subst T (sym tests.two_files) (subst F (sym tests.from_home) castles);
+        castles = subst T (sym tests.to_goal) (subst F (sym tests.from_home) castles);
         king_origin = subst O (sym tests.from_home) right.1;
         rook_origin = right.2;
-        to_free = subst X (sym tests.two_files) free_to;
-        rook_free = free;
-        homes = short_homes_apart q.side;
-      } in
-      ((λ u. origin (back_both m.from m.to i j u)), carried p s q origin (after q m) (back_both m.from m.to i j) facts (castling_carries p s q origin m man closed facts step i j c))
-
-  -- and after one on the queen's side
-  pub long_held : castles_long q (man_at q.men m.from) m.from m.to ≡ true
-      → men_after q m ≡ moved (men_moved q m) (home_of q.side - 4) (home_of q.side - 1) (rook_of q.side) → FactsHold p s (after q m)
-  long_held h men =
-      let both = and_parts (is_man q.side King (man_at q.men m.from)) (is_long_castling q m.from m.to) h in
-      let tests = long_tests q m.from m.to both.1 in
-      let right = facts.long q.side tests.right in
-      let free = empty_not_fixed p s q origin facts (home_of q.side - 1) tests.free in
-      let free_to = empty_not_fixed p s q origin facts (home_of q.side - 2) tests.free_to in
-      let free_way = empty_not_fixed p s q origin facts (home_of q.side - 3) tests.free_way in
-      let castles = closed.kings_castle_long q.side right.0 free free_to free_way in
-      let king = man_of (man_at q.men m.from) q.side King both.0 in
-      let i = home_of q.side - 4 in
-      let j = home_of q.side - 1 in
-      let F : ℕ → Type 0 = λ x. Castles s x (home_of q.side - 2) i j in
-      let T : ℕ → Type 0 = λ x. Castles s m.from x i j in
-      let O : ℕ → Type 0 = λ x. origin x ≡ x in
-      let X : ℕ → Type 0 = λ x. is_fixed p s x ≡ false in
-      let c : CastlingMove p s q origin m man i j = record {
-        move = long_castling q m step.valid h men;
-        king = ap (λ (x : Man). x.kind) (same_Some man king.man (sym step.may.found ∙ king.found)) ∙ king.kind;
-        castles = subst T (sym tests.two_files) (subst F (sym tests.from_home) castles);
-        king_origin = subst O (sym tests.from_home) right.1;
-        rook_origin = right.2;
-        to_free = subst X (sym tests.two_files) free_to;
-        rook_free = free;
-        homes = long_homes_apart q.side;
+        to_free = empty_not_fixed p s q origin facts m.to move.free_to;
+        rook_free = empty_not_fixed p s q origin facts j move.free;
+        homes = homes_apart q.side w;
       } in
       ((λ u. origin (back_both m.from m.to i j u)), carried p s q origin (after q m) (back_both m.from m.to i j) facts (castling_carries p s q origin m man closed facts step i j c))

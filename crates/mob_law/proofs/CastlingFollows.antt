@@ -7,9 +7,11 @@ use Rattle.cha_board.specs.declared.men.Color.TheVariants.{White, Black}
 use Rattle.cha_board.specs.declared.men.Kind.{Kind}
 use Rattle.cha_board.specs.declared.men.Kind.TheVariants.{Rook, King}
 use Rattle.cha_board.specs.declared.men.Man.{Man}
+use Rattle.cha_board.specs.declared.castling.Wing.{Wing}
+use Rattle.cha_board.specs.declared.castling.Wing.TheVariants.{Kingside, Queenside}
 use Rattle.cha_board.specs.Men.{other_color, is_man}
 use Rattle.cha_board.specs.Squares.{squares, files_apart, ranks_apart, steps_apart, is_straight, is_diagonal, is_rank_ahead, is_within, lies_between, between, aims_at}
-use Rattle.cha_board.specs.Board.{Board, man_at, home_of, has_short_right, has_long_right, are_at_home, rights_fit, IsValid}
+use Rattle.cha_board.specs.Board.{Board, man_at, home_of, corner_of, crossing_of, goal_of, has_right, IsValid}
 use Rattle.cha_board.proofs.Scans.{all_squares_at}
 use Rattle.cha_board.proofs.Identity.{other_other, same_color_self, ManOf, man_of, is_man_from}
 use Rattle.mob_law.specs.Reach.{is_fixed, is_guarded}
@@ -17,6 +19,7 @@ use Rattle.mob_sets.specs.Mobility.{Sets}
 use Rattle.mob_law.specs.Closed.{Entry, EnemyReaches, Castles, IsClosed}
 use Rattle.mob_law.specs.Castling.{IsClosedButForCastling}
 use Rattle.cha_board.proofs.ManTests.{not_of_other}
+use Rattle.cha_moves.proofs.Kept.{homes_of}
 use Rattle.cha_moves.proofs.Near.{king_aims}
 use Rattle.mob_law.proofs.Geometry.{near, king_aims_from}
 use Rattle.mob_law.proofs.Standing.{open_near}
@@ -65,6 +68,17 @@ long_slides : (c : Color) → Slide (home_of c - 4) (home_of c - 3) × Slide (ho
 unfolding aims_at is_straight files_apart ranks_apart between lies_between is_within is_diagonal squares
 long_slides White = (record { from = omega arith; to = omega arith; aims = λ c. refl; nothing = refl }, record { from = omega arith; to = omega arith; aims = λ c. refl; nothing = refl }, record { from = omega arith; to = omega arith; aims = λ c. refl; nothing = refl })
 long_slides Black = (record { from = omega arith; to = omega arith; aims = λ c. refl; nothing = refl }, record { from = omega arith; to = omega arith; aims = λ c. refl; nothing = refl }, record { from = omega arith; to = omega arith; aims = λ c. refl; nothing = refl })
+
+-- they lie between king and rook
+short_lies : (c : Color) → (lies_between (home_of c) (home_of c + 3) (home_of c + 1) ≡ true) × (lies_between (home_of c) (home_of c + 3) (home_of c + 2) ≡ true)
+unfolding lies_between is_within is_straight is_diagonal files_apart ranks_apart
+short_lies White = (refl, refl)
+short_lies Black = (refl, refl)
+
+long_lies : (c : Color) → (lies_between (home_of c) (home_of c - 4) (home_of c - 1) ≡ true) × (lies_between (home_of c) (home_of c - 4) (home_of c - 2) ≡ true) × (lies_between (home_of c) (home_of c - 4) (home_of c - 3) ≡ true)
+unfolding lies_between is_within is_straight is_diagonal files_apart ranks_apart
+long_lies White = (refl, refl, refl)
+long_lies Black = (refl, refl, refl)
 
 module _ (p : Board) (s : Sets) (valid : IsValid p) (rules : IsClosedButForCastling p s) where
   -- a rook slides one square further
@@ -163,31 +177,12 @@ module _ (p : Board) (s : Sets) (valid : IsValid p) (rules : IsClosedButForCastl
         (λ x. rw color second_unguarded) in
         (g2.goes second_free, g1.leaves first_free refl)
 
-  -- where a right is left, king and rook are at home
-  short_home : (c : Color) → has_short_right p.rights c ≡ true → (is_man c King (man_at p.men (home_of c)) ≡ true) × (is_man c Rook (man_at p.men (home_of c + 3)) ≡ true)
-  unfolding rights_fit are_at_home
-  short_home c right =
-      let h = home_of c in
-      let both = is_man c King (man_at p.men h) && is_man c Rook (man_at p.men (h + 3)) in
-      let fit = (and_parts (not (has_short_right p.rights c) || both) (not (has_long_right p.rights c) || (is_man c King (man_at p.men h) && is_man c Rook (man_at p.men (h - 4)))) (valid.rights c)).0 in
-      let home : both ≡ true = rw right at fit in
-      and_parts (is_man c King (man_at p.men h)) (is_man c Rook (man_at p.men (h + 3))) home
-
-  long_home : (c : Color) → has_long_right p.rights c ≡ true → (is_man c King (man_at p.men (home_of c)) ≡ true) × (is_man c Rook (man_at p.men (home_of c - 4)) ≡ true)
-  unfolding rights_fit are_at_home
-  long_home c right =
-      let h = home_of c in
-      let both = is_man c King (man_at p.men h) && is_man c Rook (man_at p.men (h - 4)) in
-      let fit = (and_parts (not (has_short_right p.rights c) || (is_man c King (man_at p.men h) && is_man c Rook (man_at p.men (h + 3)))) (not (has_long_right p.rights c) || both) (valid.rights c)).1 in
-      let home : both ≡ true = rw right at fit in
-      and_parts (is_man c King (man_at p.men h)) (is_man c Rook (man_at p.men (h - 4))) home
-
   -- castling on the king's side follows
-  short_follows : (c : Color) → has_short_right p.rights c ≡ true → is_fixed p s (home_of c + 1) ≡ false → is_fixed p s (home_of c + 2) ≡ false
+  short_follows : (c : Color) → has_right p.rights c Kingside ≡ true → is_fixed p s (home_of c + 1) ≡ false → is_fixed p s (home_of c + 2) ≡ false
       → Castles s (home_of c) (home_of c + 2) (home_of c + 3) (home_of c + 1)
   short_follows c right first second =
       let h = home_of c in
-      let at_home = short_home c right in
+      let at_home = homes_of p c Kingside valid right in
       let rook = man_of (man_at p.men (h + 3)) c Rook at_home.1 in
       let K : Kind → Type 0 = λ x. s.has (h + 3) x (h + 3) ≡ true in
       let begins = subst K rook.kind (rules.begins (h + 3) rook.man rook.found) in
@@ -198,11 +193,11 @@ module _ (p : Board) (s : Sets) (valid : IsValid p) (rules : IsClosedButForCastl
       record { king = king.0; rook = two.0; king_leaves = king.1; rook_leaves = one.1 refl }
 
   -- and on the queen's side
-  long_follows : (c : Color) → has_long_right p.rights c ≡ true → is_fixed p s (home_of c - 1) ≡ false → is_fixed p s (home_of c - 2) ≡ false → is_fixed p s (home_of c - 3) ≡ false
+  long_follows : (c : Color) → has_right p.rights c Queenside ≡ true → is_fixed p s (home_of c - 1) ≡ false → is_fixed p s (home_of c - 2) ≡ false → is_fixed p s (home_of c - 3) ≡ false
       → Castles s (home_of c) (home_of c - 2) (home_of c - 4) (home_of c - 1)
   long_follows c right first second third =
       let h = home_of c in
-      let at_home = long_home c right in
+      let at_home = homes_of p c Queenside valid right in
       let rook = man_of (man_at p.men (h - 4)) c Rook at_home.1 in
       let K : Kind → Type 0 = λ x. s.has (h - 4) x (h - 4) ≡ true in
       let begins = subst K rook.kind (rules.begins (h - 4) rook.man rook.found) in
@@ -213,6 +208,15 @@ module _ (p : Board) (s : Sets) (valid : IsValid p) (rules : IsClosedButForCastl
       let king = king_castles c (h - 1) (h - 2) (long_way c) at_home.0 first second (rook_there c (h - 4) (h - 1) rook three.0) (rook_there c (h - 4) (h - 2) rook two.0) in
       record { king = king.0; rook = three.0; king_leaves = king.1; rook_leaves = one.1 refl }
 
+  kings_castle : (c : Color) (w : Wing) → has_right p.rights c w ≡ true → ((t : ℕ) → t < 64 → lies_between (home_of c) (corner_of c w) t ≡ true → is_fixed p s t ≡ false)
+      → Castles s (home_of c) (goal_of c w) (corner_of c w) (crossing_of c w)
+  kings_castle c Kingside right free =
+      let lies = short_lies c in
+      short_follows c right (free (home_of c + 1) (short_way c).first_small lies.0) (free (home_of c + 2) (short_way c).second_small lies.1)
+  kings_castle c Queenside right free =
+      let lies = long_lies c in
+      long_follows c right (free (home_of c - 1) (long_way c).first_small lies.0) (free (home_of c - 2) (long_way c).second_small lies.1) (free (home_of c - 3) (long_slides c).0.to lies.2)
+
 -- so all rules hold
 pub follows : (p : Board) (s : Sets) → IsValid p → IsClosedButForCastling p s → IsClosed p s
 follows p s valid rules = record {
@@ -221,6 +225,5 @@ follows p s valid rules = record {
   pawns_step = rules.pawns_step;
   pawns_double_step = rules.pawns_double_step;
   pawns_capture = rules.pawns_capture;
-  kings_castle_short = short_follows p s valid rules;
-  kings_castle_long = long_follows p s valid rules;
+  kings_castle = kings_castle p s valid rules;
 }

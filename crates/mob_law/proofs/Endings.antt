@@ -14,12 +14,12 @@ use Rattle.cha_board.proofs.Identity.{man_of, is_man_from, same_color_equal, sam
 use Rattle.cha_board.proofs.ManTests.{not_of_other}
 use Rattle.cha_board.proofs.Contents.{some_square}
 use Rattle.cha_moves.specs.Step.{Move}
-use Rattle.cha_moves.specs.Moves.{goes, is_en_passant, is_short_castling, is_long_castling, promotes_well, may_enter, is_pseudo_legal, is_pseudo_legal_as, arriving, men_after, is_legal_in}
+use Rattle.cha_moves.specs.Moves.{goes, is_en_passant, castles, promotes_well, may_enter, is_pseudo_legal, is_pseudo_legal_as, arriving, men_after, is_legal_in}
 use Rattle.cha_moves.specs.Ends.{IsMated}
 use Rattle.cha_moves.proofs.Clearing.{clear_at}
 use Rattle.cha_moves.proofs.Kept.{arrived_is, kings_kept, target_of, king_place}
 use Rattle.cha_moves.proofs.Listed.{listed}
-use Rattle.cha_moves.proofs.Made.{may_gives, length-moved, moved_to, moved_from, moved_other, men_moved, makes, Plainly, Passing, Shortly, Longly}
+use Rattle.cha_moves.proofs.Made.{may_gives, length-moved, moved_to, moved_from, moved_other, men_moved, makes, Plainly, Passing, OnWing}
 use Rattle.mob_law.specs.Reach.{steps_to}
 use Rattle.mob_law.specs.Threats.{ends_check}
 use Rattle.mob_law.proofs.Attackers.{some_attacker}
@@ -105,10 +105,9 @@ module _ (q : Board) (w : Color) (valid : IsValid q) (mate : IsMated q (other_co
     plain : men_after q by ≡ then
     plain =
         elim (makes q by) [
-          | Plainly a b c e ↦ e
+          | Plainly a b e ↦ e
           | Passing x e ↦ (let both = and_parts (is_man q.side Pawn (man_at q.men n)) (is_en_passant q n t) x in absurd (no_passing both.0 both.1))
-          | Shortly x e ↦ absurd (not_of_kind (man_at q.men n) man q.side King found no_king (and_parts (is_man q.side King (man_at q.men n)) (is_short_castling q n t) x).0)
-          | Longly x e ↦ absurd (not_of_kind (man_at q.men n) man q.side King found no_king (and_parts (is_man q.side King (man_at q.men n)) (is_long_castling q n t) x).0)
+          | OnWing w x e ↦ absurd (not_of_kind (man_at q.men n) man q.side King found no_king (and_parts (is_man q.side King (man_at q.men n)) (castles q w n t) x).0)
         ]
 
     in_n : n < length q.men

@@ -6,7 +6,9 @@ use Rattle.cha_board.specs.declared.men.Color.{Color}
 use Rattle.cha_board.specs.declared.men.Color.TheVariants.{White, Black}
 use Rattle.cha_board.specs.declared.men.Kind.{Kind}
 use Rattle.cha_board.specs.declared.men.Kind.TheVariants.{Pawn, Knight, Bishop, Rook, Queen, King}
-use Rattle.cha_board.specs.Board.{home_of}
+use Rattle.cha_board.specs.declared.castling.Wing.{Wing}
+use Rattle.cha_board.specs.declared.castling.Wing.TheVariants.{Kingside, Queenside}
+use Rattle.cha_board.specs.Board.{home_of, goal_of}
 use Rattle.cha_board.specs.Squares.{squares, files_apart, ranks_apart, steps_apart, is_straight, is_diagonal, is_line, aims_at, is_within, lies_between, between}
 use Rattle.cha_board.proofs.Identity.{if_at}
 use Rattle.cha_board.proofs.Scans.{all_squares_at, pair_at}
@@ -77,7 +79,9 @@ leap_clear c Rook s t small small' aims leap = (near s t small small' leap).clea
 leap_clear c Queen s t small small' aims leap = (near s t small small' leap).clear
 
 -- a castling takes the king two squares away, and so is no step
-pub two_far : (c : Color) → ((steps_apart (home_of c) (home_of c + 2) == 1) ≡ false) × ((steps_apart (home_of c) (home_of c - 2) == 1) ≡ false)
+pub two_far : (c : Color) (w : Wing) → (steps_apart (home_of c) (goal_of c w) == 1) ≡ false
 unfolding steps_apart files_apart ranks_apart
-two_far White = (refl, refl)
-two_far Black = (refl, refl)
+two_far White Kingside = refl
+two_far White Queenside = refl
+two_far Black Kingside = refl
+two_far Black Queenside = refl

@@ -5,15 +5,16 @@ use Rattle.cha_board.specs.declared.men.Color.{Color}
 use Rattle.cha_board.specs.declared.men.Kind.{Kind}
 use Rattle.cha_board.specs.declared.men.Kind.TheVariants.{Pawn}
 use Rattle.cha_board.specs.declared.men.Man.{Man}
+use Rattle.cha_board.specs.declared.castling.Wing.{Wing}
 use Rattle.cha_board.specs.Men.{other_color, is_man}
 use Rattle.cha_board.specs.Squares.{rank_of, last_rank}
-use Rattle.cha_board.specs.Board.{Board, man_at, home_of}
+use Rattle.cha_board.specs.Board.{Board, man_at, home_of, corner_of}
 use Rattle.cha_moves.specs.Step.{Move}
-use Rattle.cha_moves.specs.Moves.{second_rank, middle, is_target, is_double_step, arriving, victim_of, castles_short, castles_long, captures_en_passant, men_after, target_after, after}
+use Rattle.cha_moves.specs.Moves.{second_rank, middle, is_target, is_double_step, arriving, victim_of, king_castles, captures_en_passant, men_after, target_after, after}
 use Rattle.cha_board.proofs.Identity.{other_other, none_some, man_of, is_man_from}
-use Rattle.cha_moves.proofs.Made.{Step, put, put_other, length-moved, moved_other, men_moved, makes, Plainly, Passing, Shortly, Longly}
+use Rattle.cha_moves.proofs.Made.{Step, put, put_other, length-moved, moved_other, men_moved, makes, Plainly, Passing, OnWing}
 use Rattle.cha_moves.proofs.Kept.{arrived_is, victim_of_move}
-use Rattle.cha_moves.proofs.Validity.{one_stands, double_step, no_second, short_after, long_after, over_it}
+use Rattle.cha_moves.proofs.Validity.{one_stands, double_step, no_second, right_after, over_it}
 use Rattle.mob_law.specs.Reach.{is_fixed}
 use Rattle.mob_sets.specs.Mobility.{Sets}
 use Rattle.mob_law.specs.Closed.{IsClosed}
@@ -58,12 +59,12 @@ apart_fixed p s t f free h e = both_ways (is_fixed p s t) free (rw e at h)
 
 -- a move that is no castling moves one man
 pub one_moved : (p : Board) (s : Sets) (q : Board) (m : Move) (man : Man) → Step q m man
-    → castles_short q (man_at q.men m.from) m.from m.to ≡ false → castles_long q (man_at q.men m.from) m.from m.to ≡ false
+    → ((w : Wing) → king_castles q w (man_at q.men m.from) m.from m.to ≡ false)
     → (captures_en_passant q (man_at q.men m.from) m.from m.to ≡ true → is_fixed p s (victim_of q.side m.to) ≡ false) → OneMove p s q m man
-one_moved p s q m man step no_short no_long spared =
+one_moved p s q m man step no_castling spared =
     let a = arriving (man_at q.men m.from) m.promotion in
     elim (makes q m) [
-      | Plainly x y z e ↦ record {
+      | Plainly x y e ↦ record {
         came = λ u new found. one_stands q m man step u new (ap (λ (xs : List (Option Man)). man_at xs u) (sym e) ∙ found);
         kept = λ f h nf nt. ap (λ (xs : List (Option Man)). man_at xs f) e ∙ moved_other q.men m.from m.to a f nf nt;
       }
@@ -82,8 +83,7 @@ one_moved p s q m man step no_short no_long spared =
             kept = λ f h nf nt. ap (λ (xs : List (Option Man)). man_at xs f) e
                 ∙ put_other (men_moved q m) v None f (apart_fixed p s v f (spared t) h) ∙ moved_other q.men m.from m.to a f nf nt;
           })
-      | Shortly t e ↦ absurd (both_ways (castles_short q (man_at q.men m.from) m.from m.to) no_short t)
-      | Longly t e ↦ absurd (both_ways (castles_long q (man_at q.men m.from) m.from m.to) no_long t)
+      | OnWing w t e ↦ absurd (both_ways (king_castles q w (man_at q.men m.from) m.from m.to) (no_castling w) t)
     ]
 
 -- and no two came from one square
@@ -179,11 +179,8 @@ module _ (p : Board) (s : Sets) (q : Board) (origin : ℕ → ℕ) (m : Move) (m
     second = λ u c pawn rank. (
         let k = man_of (man_at (men_after q m) u) c Pawn pawn in
         one_second q m man c u k.man step k.color k.kind rank (ord.came u k.man k.found));
-    short = λ c right. (
-        let k = short_after q.rights m c right in
-        (k.0, back_other m.from m.to (home_of c) (λ e. k.1.1 (sym e)), back_other m.from m.to (home_of c + 3) (λ e. k.2.1 (sym e))));
-    long = λ c right. (
-        let k = long_after q.rights m c right in
-        (k.0, back_other m.from m.to (home_of c) (λ e. k.1.1 (sym e)), back_other m.from m.to (home_of c - 4) (λ e. k.2.1 (sym e))));
+    right = λ c w right. (
+        let k = right_after q.rights m c w right in
+        (k.0, back_other m.from m.to (home_of c) (λ e. k.1.1 (sym e)), back_other m.from m.to (corner_of c w) (λ e. k.2.1 (sym e))));
     target = λ t here. target_now p s q origin m man closed facts step (back m.from m.to) (back_to m.from m.to m.to refl) t here;
   }

@@ -6,15 +6,16 @@ use Rattle.cha_board.specs.declared.men.Color.{Color}
 use Rattle.cha_board.specs.declared.men.Kind.{Kind}
 use Rattle.cha_board.specs.declared.men.Kind.TheVariants.{Pawn, Knight, Bishop, Rook, Queen, King}
 use Rattle.cha_board.specs.declared.men.Man.{Man}
+use Rattle.cha_board.specs.declared.castling.Wing.{Wing}
 use Rattle.cha_board.specs.Men.{other_color, same_color, same_kind, is_vacant, is_man, is_non_king}
 use Rattle.cha_board.specs.Squares.{steps_apart, aims_at}
 use Rattle.cha_board.specs.Board.{Board, man_at, is_clear, in_check, king_of, has_one_king}
 use Rattle.cha_board.proofs.Sightings.{attacked_from}
 use Rattle.cha_moves.specs.Step.{Move}
-use Rattle.cha_moves.specs.Moves.{goes, is_short_castling, is_long_castling, may_enter, arriving, is_en_passant, castles_short, castles_long, captures_en_passant, men_after}
+use Rattle.cha_moves.specs.Moves.{goes, castles, may_enter, arriving, is_en_passant, king_castles, captures_en_passant, men_after}
 use Rattle.cha_board.proofs.Identity.{other_other, same_color_equal, same_kind_equal, man_of, is_man_from}
 use Rattle.cha_moves.proofs.Made.{Step, length-moved, moved_to, moved_other, men_moved}
-use Rattle.cha_moves.proofs.Kept.{stays_man, kings_kept, king_place}
+use Rattle.cha_moves.proofs.Kept.{stays_man, kings_kept, king_place, king_way}
 use Rattle.mob_law.specs.Reach.{is_fixed, is_open, is_guarded}
 use Rattle.mob_sets.specs.Mobility.{Sets}
 use Rattle.mob_law.specs.Closed.{has_fixed_enemy, IsClosed}
@@ -73,16 +74,11 @@ sliding q Rook s t pawn king h = and_parts (aims_at q.side Rook s t) (is_clear q
 sliding q Queen s t pawn king h = and_parts (aims_at q.side Queen s t) (is_clear q.men s t) h
 
 -- a king that does not castle goes where it aims
-stepping : (q : Board) (o : Option Man) (s t : ℕ) → is_man q.side King o ≡ true → castles_short q o s t ≡ false → castles_long q o s t ≡ false → goes q King s t ≡ true → aims_at q.side King s t ≡ true
-unfolding goes
-stepping q o s t king no_short no_long h =
-    elim (or_cases (aims_at q.side King s t || is_short_castling q s t) (is_long_castling q s t) h) [
-      | inl x ↦ elim (or_cases (aims_at q.side King s t) (is_short_castling q s t) x) [
-        | inl y ↦ y
-        | inr y ↦ absurd (both_ways (castles_short q o s t) no_short (and_from (is_man q.side King o) (is_short_castling q s t) king y))
-      ]
-      | inr x ↦ absurd (both_ways (castles_long q o s t) no_long (and_from (is_man q.side King o) (is_long_castling q s t) king x))
-    ]
+stepping : (q : Board) (o : Option Man) (s t : ℕ) → is_man q.side King o ≡ true → ((w : Wing) → king_castles q w o s t ≡ false) → goes q King s t ≡ true → aims_at q.side King s t ≡ true
+stepping q o s t king no_castling h = elim (king_way q s t h) [
+  | inl y ↦ y
+  | inr y ↦ absurd (both_ways (king_castles q y.0 o s t) (no_castling y.0) (and_from (is_man q.side King o) (castles q y.0 s t) king y.1))
+]
 
 -- A move at a position where the facts hold:
 module _ (p : Board) (s : Sets) (q : Board) (origin : ℕ → ℕ) (m : Move) (man : Man) (closed : IsClosed p s) (facts : Facts p s q origin) (step : Step q m man) where
@@ -138,15 +134,15 @@ module _ (p : Board) (s : Sets) (q : Board) (origin : ℕ → ℕ) (m : Move) (m
 
   -- a man other than a pawn that does not castle has such a way
   way_of : same_kind man.kind Pawn ≡ false
-      → castles_short q (man_at q.men m.from) m.from m.to ≡ false → castles_long q (man_at q.men m.from) m.from m.to ≡ false → Way p s q m man
-  way_of other no_short no_long =
+      → ((w : Wing) → king_castles q w (man_at q.men m.from) m.from m.to ≡ false) → Way p s q m man
+  way_of other no_castling =
       elim (cases_Bool (same_kind man.kind King)) [
         | inl h ↦ (
             let kind = same_kind_equal man.kind King h in
             let color = same_color_equal man.color q.side step.may.own in
             let king : is_man q.side King (man_at q.men m.from) ≡ true = is_man_from (man_at q.men m.from) man q.side King step.may.found color kind in
             let G : Kind → Type 0 = λ k. goes q k m.from m.to ≡ true in
-            let aims : aims_at q.side King m.from m.to ≡ true = stepping q (man_at q.men m.from) m.from m.to king no_short no_long (subst G kind step.may.goes) in
+            let aims : aims_at q.side King m.from m.to ≡ true = stepping q (man_at q.men m.from) m.from m.to king no_castling (subst G kind step.may.goes) in
             let A : Kind → Type 0 = λ k. aims_at q.side k m.from m.to ≡ true in
             record {
               other = other;
@@ -160,6 +156,6 @@ module _ (p : Board) (s : Sets) (q : Board) (origin : ℕ → ℕ) (m : Move) (m
 
   -- a move of a man other than a pawn, that is no castling and leaves its king unattacked
   pub piece_lands : in_check (men_after q m) q.side ≡ false → same_kind man.kind Pawn ≡ false
-      → castles_short q (man_at q.men m.from) m.from m.to ≡ false → castles_long q (man_at q.men m.from) m.from m.to ≡ false → Lands p s q origin m man
-  piece_lands safe other no_short no_long =
-      lands_so safe (way_of other no_short no_long)
+      → ((w : Wing) → king_castles q w (man_at q.men m.from) m.from m.to ≡ false) → Lands p s q origin m man
+  piece_lands safe other no_castling =
+      lands_so safe (way_of other no_castling)

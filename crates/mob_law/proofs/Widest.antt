@@ -40,8 +40,7 @@ widest_closed p = record {
     en_passant = λ target side. all_entered p o man.color u t;
     victim = λ target side. refl;
   };
-  kings_castle_short = λ c right first second. all_castle _ _ _ _;
-  kings_castle_long = λ c right first second third. all_castle _ _ _ _;
+  kings_castle = λ c w right free. all_castle _ _ _ _;
 }
 
 -- where a side has no man but its king, no man of it gives check

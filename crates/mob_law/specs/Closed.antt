@@ -4,9 +4,10 @@ use Rattle.cha_board.specs.declared.men.Color.{Color}
 use Rattle.cha_board.specs.declared.men.Kind.{Kind}
 use Rattle.cha_board.specs.declared.men.Kind.TheVariants.{Pawn, Rook, King}
 use Rattle.cha_board.specs.declared.men.Man.{Man}
+use Rattle.cha_board.specs.declared.castling.Wing.{Wing}
 use Rattle.cha_board.specs.Men.{other_color, is_non_king}
-use Rattle.cha_board.specs.Squares.{rank_of, last_rank, files_apart, is_rank_ahead, aims_at}
-use Rattle.cha_board.specs.Board.{Board, man_at, home_of, has_short_right, has_long_right}
+use Rattle.cha_board.specs.Squares.{rank_of, last_rank, files_apart, is_rank_ahead, aims_at, lies_between}
+use Rattle.cha_board.specs.Board.{Board, man_at, home_of, corner_of, crossing_of, goal_of, has_right}
 use Rattle.cha_moves.specs.Moves.{second_rank, fourth_rank, middle, is_target, is_promotion, victim_of}
 use Rattle.mob_law.specs.Reach.{is_fixed, is_open, is_guarded}
 use Rattle.mob_sets.specs.Mobility.{Sets}
@@ -91,19 +92,12 @@ pub record Castles (s : Sets) (h k r t : ℕ) : Type 0 where
   pub king_leaves : s.loose h ≡ true
   pub rook_leaves : s.loose r ≡ true
 
--- a side with the right to it castles on the king's side, unless a square between king and rook is fixed (Article 3.8.2)
-abbrev pub KingsCastleShort : Board → Sets → Type 0
-KingsCastleShort p s =
-    (c : Color) → has_short_right p.rights c ≡ true
-    → is_fixed p s (home_of c + 1) ≡ false → is_fixed p s (home_of c + 2) ≡ false
-    → Castles s (home_of c) (home_of c + 2) (home_of c + 3) (home_of c + 1)
-
--- the same on the queen's side
-abbrev pub KingsCastleLong : Board → Sets → Type 0
-KingsCastleLong p s =
-    (c : Color) → has_long_right p.rights c ≡ true
-    → is_fixed p s (home_of c - 1) ≡ false → is_fixed p s (home_of c - 2) ≡ false → is_fixed p s (home_of c - 3) ≡ false
-    → Castles s (home_of c) (home_of c - 2) (home_of c - 4) (home_of c - 1)
+-- a side with the right to it castles on a wing, unless a square between king and rook is fixed (Article 3.8.2)
+abbrev pub KingsCastle : Board → Sets → Type 0
+KingsCastle p s =
+    (c : Color) (w : Wing) → has_right p.rights c w ≡ true
+    → ((t : ℕ) → t < 64 → lies_between (home_of c) (corner_of c w) t ≡ true → is_fixed p s t ≡ false)
+    → Castles s (home_of c) (goal_of c w) (corner_of c w) (crossing_of c w)
 
 -- Sets that are closed for a position: all the rules hold (this project).
 pub record IsClosed (p : Board) (s : Sets) : Type 0 where
@@ -112,5 +106,4 @@ pub record IsClosed (p : Board) (s : Sets) : Type 0 where
   pub pawns_step : PawnsStep p s
   pub pawns_double_step : PawnsDoubleStep p s
   pub pawns_capture : PawnsCapture p s
-  pub kings_castle_short : KingsCastleShort p s
-  pub kings_castle_long : KingsCastleLong p s
+  pub kings_castle : KingsCastle p s

@@ -12,11 +12,11 @@ use Rattle.cha_board.specs.Board.{Board, man_at, is_clear, attacked, king_of, in
 use Rattle.cha_board.proofs.Identity.{man_of, is_man_from, same_color_self, same_color_equal, same_kind_equal, other_other, none_some, one_color}
 use Rattle.cha_board.proofs.ManTests.{not_of_other}
 use Rattle.cha_moves.specs.Step.{Move}
-use Rattle.cha_moves.specs.Moves.{goes, promotes_well, may_enter, is_pseudo_legal, is_pseudo_legal_as, is_short_castling, is_long_castling, is_en_passant, moved, men_after, is_legal_in}
+use Rattle.cha_moves.specs.Moves.{goes, promotes_well, may_enter, is_pseudo_legal, is_pseudo_legal_as, castles, is_en_passant, moved, men_after, is_legal_in}
 use Rattle.cha_moves.specs.Ends.{IsMated}
 use Rattle.cha_moves.proofs.Kept.{kings_kept, no_king_entered, king_place}
 use Rattle.cha_moves.proofs.Listed.{listed}
-use Rattle.cha_moves.proofs.Made.{may_gives, length-moved, moved_to, moved_from, moved_other, makes, Plainly, Passing, Shortly, Longly}
+use Rattle.cha_moves.proofs.Made.{may_gives, length-moved, moved_to, moved_from, moved_other, makes, Plainly, Passing, OnWing}
 use Rattle.mob_law.proofs.Attackers.{Attacker, some_attacker}
 use Rattle.cha_moves.proofs.Near.{king_aims}
 use Rattle.cha_moves.proofs.GoingLegally.{aims_at_self}
@@ -137,10 +137,9 @@ module _ (q : Board) (w : Color) (valid : IsValid q) (mate : IsMated q (other_co
       let m = man_of (man_at q.men n) (other_color w) i r.stands in
       let go = slides q i n t r.slider r.aims r.clear in
       elim (makes q by) [
-        | Plainly a b c e ↦ e
+        | Plainly a b e ↦ e
         | Passing x e ↦ absurd (not_of_kind (man_at q.men n) m.man q.side i Pawn m.found m.kind go.no_pawn (and_parts (is_man q.side Pawn (man_at q.men n)) (is_en_passant q n t) x).0)
-        | Shortly x e ↦ absurd (not_of_kind (man_at q.men n) m.man q.side i King m.found m.kind go.no_king (and_parts (is_man q.side King (man_at q.men n)) (is_short_castling q n t) x).0)
-        | Longly x e ↦ absurd (not_of_kind (man_at q.men n) m.man q.side i King m.found m.kind go.no_king (and_parts (is_man q.side King (man_at q.men n)) (is_long_castling q n t) x).0)
+        | OnWing w x e ↦ absurd (not_of_kind (man_at q.men n) m.man q.side i King m.found m.kind go.no_king (and_parts (is_man q.side King (man_at q.men n)) (castles q w n t) x).0)
       ]
 
   -- the king is on neither square

@@ -16,8 +16,8 @@ use Rattle.cha_board.proofs.Sightings.{attacked_from}
 use Rattle.cha_moves.specs.Step.{Move}
 use Rattle.cha_moves.specs.Moves.{is_pseudo_legal, is_en_passant, arriving, moved, men_after, is_legal_in}
 use Rattle.cha_moves.proofs.Clearing.{clear_at, clear_from}
-use Rattle.cha_moves.proofs.Kept.{from_to, stays_man, short_castling, long_castling, king_place}
-use Rattle.cha_moves.proofs.Made.{Mover, may_gives, moved_to, moved_from, moved_other, makes, Plainly, Passing, Shortly, Longly}
+use Rattle.cha_moves.proofs.Kept.{from_to, stays_man, castling_of, king_place}
+use Rattle.cha_moves.proofs.Made.{Mover, may_gives, moved_to, moved_from, moved_other, makes, Plainly, Passing, OnWing}
 use Rattle.cha_moves.proofs.GoingLegally.{aims_at_self}
 use Rattle.mob_law.proofs.Attackers.{Attacker, attacks_by}
 use Rattle.mob_small.proofs.Scene.{non_king_man}
@@ -51,12 +51,11 @@ module _ (q : Board) (m : Move) (valid : IsValid q) (from : m.from < 64) (to : m
   plain =
       let P : Option Man → Type 0 = λ x. men_after q m ≡ moved q.men m.from m.to x in
       elim (makes q m) [
-        | Plainly a b c e ↦ (
+        | Plainly a b e ↦ (
             let M : Option Man → Type 0 = λ x. arriving x m.promotion ≡ Some man in
             subst P (subst M (sym may.found) (stays_man q.side man m.to m.promotion may.well no_pawn)) e)
         | Passing x e ↦ absurd (no_other Pawn m.from (λ e. cc) refl (and_parts (is_man q.side Pawn (man_at q.men m.from)) (is_en_passant q m.from m.to) x).0)
-        | Shortly x e ↦ absurd (no_other Rook _ (λ e. cc) refl (short_castling q m valid x e).rook)
-        | Longly x e ↦ absurd (no_other Rook _ (λ e. cc) refl (long_castling q m valid x e).rook)
+        | OnWing w x e ↦ absurd (no_other Rook _ (λ e. cc) refl (castling_of q m w valid x e).rook)
       ]
 
   arrived : man_at then m.to ≡ Some man

@@ -7,12 +7,13 @@ use Rattle.cha_board.specs.declared.men.Color.TheVariants.{White, Black}
 use Rattle.cha_board.specs.declared.men.Kind.{Kind}
 use Rattle.cha_board.specs.declared.men.Kind.TheVariants.{Pawn, Knight, Bishop, Rook, Queen, King}
 use Rattle.cha_board.specs.declared.men.Man.{Man}
+use Rattle.cha_board.specs.declared.castling.Wing.{Wing}
 use Rattle.cha_board.specs.Men.{other_color, is_man, is_non_king}
 use Rattle.cha_board.specs.Squares.{squares, files_apart, ranks_apart, steps_apart, is_straight, is_diagonal, is_line, is_rank_ahead, aims_at, is_within, lies_between, between}
-use Rattle.cha_board.specs.Board.{Board, man_at, is_clear, attacks_as, attacked, king_of, in_check, has_one_king, is_pawn_at_end, has_pawn_at_end, no_rights, rights_fit}
+use Rattle.cha_board.specs.Board.{Board, man_at, is_clear, attacks_as, attacked, king_of, in_check, has_one_king, is_pawn_at_end, has_pawn_at_end, no_rights, right_fits}
 use Rattle.cha_board.proofs.Identity.{if_at, all_five, other_other}
 use Rattle.cha_board.proofs.Scans.{all_squares_at}
-use Rattle.cha_moves.specs.Moves.{is_step, is_double_step, is_pawn_capture, is_en_passant, is_short_castling, is_long_castling, goes, promotes_well, is_pseudo_legal_as, men_after, is_legal_in, moves_from, all_moves, legal}
+use Rattle.cha_moves.specs.Moves.{is_step, is_double_step, is_pawn_capture, is_en_passant, castles, goes, promotes_well, is_pseudo_legal_as, men_after, is_legal_in, moves_from, all_moves, legal}
 use Rattle.cha_moves.specs.MateLines.{is_mated}
 use Rattle.cha_moves.proofs.Mated.{mated_is}
 use Rattle.cha_moves.proofs.PlacedMen.{Placed, at, men_of}
@@ -65,10 +66,9 @@ one_king_each : (men : List (Option Man)) → (has_one_king men White && has_one
 one_king_each men h White = (and_parts (has_one_king men White) (has_one_king men Black) h).0
 one_king_each men h Black = (and_parts (has_one_king men White) (has_one_king men Black) h).1
 
-no_right_fits : (men : List (Option Man)) (c : Color) → rights_fit men no_rights c ≡ true
-unfolding rights_fit
-no_right_fits men White = refl
-no_right_fits men Black = refl
+no_right_fits : (men : List (Option Man)) (c : Color) (w : Wing) → right_fits men no_rights c w ≡ true
+unfolding right_fits
+no_right_fits men c w = rw (has-where (λ c w. false) c w) refl
 
 -- what the tests show
 module _ (men : List Placed) (w : Color) (own : Kind) (s : ℕ) (no_king : own ≢ King) (h : is_shown (position_of men w) w own s ≡ true) where
@@ -137,7 +137,7 @@ bishop_beside_bishop : Color → List Placed
 bishop_beside_bishop w = at 63 (other_color w) King ∷ at 62 (other_color w) Bishop ∷ at 54 w Bishop ∷ at 46 w King ∷ []
 
 rook_alone_shown : (w : Color) → is_shown (position_of (rook_alone w) w) w Rook 56 ≡ true
-unfolding rook_alone position_of is_shown has_one is_alone is_mated legal all_moves moves_from is_legal_in is_pseudo_legal_as goes promotes_well is_step is_double_step is_pawn_capture is_en_passant is_short_castling is_long_castling men_after has_one_king has_pawn_at_end is_pawn_at_end in_check king_of attacked attacks_as is_clear between lies_between is_within aims_at is_rank_ahead is_line is_straight is_diagonal steps_apart files_apart ranks_apart squares
+unfolding rook_alone position_of is_shown has_one is_alone is_mated legal all_moves moves_from is_legal_in is_pseudo_legal_as goes promotes_well is_step is_double_step is_pawn_capture is_en_passant castles men_after has_one_king has_pawn_at_end is_pawn_at_end in_check king_of attacked attacks_as is_clear between lies_between is_within aims_at is_rank_ahead is_line is_straight is_diagonal steps_apart files_apart ranks_apart squares
 rook_alone_shown White = refl
 rook_alone_shown Black = refl
 
@@ -147,7 +147,7 @@ rook_alone_bare White = refl
 rook_alone_bare Black = refl
 
 queen_alone_shown : (w : Color) → is_shown (position_of (queen_alone w) w) w Queen 54 ≡ true
-unfolding queen_alone position_of is_shown has_one is_alone is_mated legal all_moves moves_from is_legal_in is_pseudo_legal_as goes promotes_well is_step is_double_step is_pawn_capture is_en_passant is_short_castling is_long_castling men_after has_one_king has_pawn_at_end is_pawn_at_end in_check king_of attacked attacks_as is_clear between lies_between is_within aims_at is_rank_ahead is_line is_straight is_diagonal steps_apart files_apart ranks_apart squares
+unfolding queen_alone position_of is_shown has_one is_alone is_mated legal all_moves moves_from is_legal_in is_pseudo_legal_as goes promotes_well is_step is_double_step is_pawn_capture is_en_passant castles men_after has_one_king has_pawn_at_end is_pawn_at_end in_check king_of attacked attacks_as is_clear between lies_between is_within aims_at is_rank_ahead is_line is_straight is_diagonal steps_apart files_apart ranks_apart squares
 queen_alone_shown White = refl
 queen_alone_shown Black = refl
 
@@ -157,7 +157,7 @@ queen_alone_bare White = refl
 queen_alone_bare Black = refl
 
 knight_beside_rook_shown : (w : Color) → is_shown (position_of (knight_beside_rook w) w) w Knight 53 ≡ true
-unfolding knight_beside_rook position_of is_shown has_one is_alone is_mated legal all_moves moves_from is_legal_in is_pseudo_legal_as goes promotes_well is_step is_double_step is_pawn_capture is_en_passant is_short_castling is_long_castling men_after has_one_king has_pawn_at_end is_pawn_at_end in_check king_of attacked attacks_as is_clear between lies_between is_within aims_at is_rank_ahead is_line is_straight is_diagonal steps_apart files_apart ranks_apart squares
+unfolding knight_beside_rook position_of is_shown has_one is_alone is_mated legal all_moves moves_from is_legal_in is_pseudo_legal_as goes promotes_well is_step is_double_step is_pawn_capture is_en_passant castles men_after has_one_king has_pawn_at_end is_pawn_at_end in_check king_of attacked attacks_as is_clear between lies_between is_within aims_at is_rank_ahead is_line is_straight is_diagonal steps_apart files_apart ranks_apart squares
 knight_beside_rook_shown White = refl
 knight_beside_rook_shown Black = refl
 
@@ -167,7 +167,7 @@ knight_beside_rook_own White = refl
 knight_beside_rook_own Black = refl
 
 knight_beside_bishop_shown : (w : Color) → is_shown (position_of (knight_beside_bishop w) w) w Knight 53 ≡ true
-unfolding knight_beside_bishop position_of is_shown has_one is_alone is_mated legal all_moves moves_from is_legal_in is_pseudo_legal_as goes promotes_well is_step is_double_step is_pawn_capture is_en_passant is_short_castling is_long_castling men_after has_one_king has_pawn_at_end is_pawn_at_end in_check king_of attacked attacks_as is_clear between lies_between is_within aims_at is_rank_ahead is_line is_straight is_diagonal steps_apart files_apart ranks_apart squares
+unfolding knight_beside_bishop position_of is_shown has_one is_alone is_mated legal all_moves moves_from is_legal_in is_pseudo_legal_as goes promotes_well is_step is_double_step is_pawn_capture is_en_passant castles men_after has_one_king has_pawn_at_end is_pawn_at_end in_check king_of attacked attacks_as is_clear between lies_between is_within aims_at is_rank_ahead is_line is_straight is_diagonal steps_apart files_apart ranks_apart squares
 knight_beside_bishop_shown White = refl
 knight_beside_bishop_shown Black = refl
 
@@ -177,7 +177,7 @@ knight_beside_bishop_own White = refl
 knight_beside_bishop_own Black = refl
 
 knight_beside_knight_shown : (w : Color) → is_shown (position_of (knight_beside_knight w) w) w Knight 53 ≡ true
-unfolding knight_beside_knight position_of is_shown has_one is_alone is_mated legal all_moves moves_from is_legal_in is_pseudo_legal_as goes promotes_well is_step is_double_step is_pawn_capture is_en_passant is_short_castling is_long_castling men_after has_one_king has_pawn_at_end is_pawn_at_end in_check king_of attacked attacks_as is_clear between lies_between is_within aims_at is_rank_ahead is_line is_straight is_diagonal steps_apart files_apart ranks_apart squares
+unfolding knight_beside_knight position_of is_shown has_one is_alone is_mated legal all_moves moves_from is_legal_in is_pseudo_legal_as goes promotes_well is_step is_double_step is_pawn_capture is_en_passant castles men_after has_one_king has_pawn_at_end is_pawn_at_end in_check king_of attacked attacks_as is_clear between lies_between is_within aims_at is_rank_ahead is_line is_straight is_diagonal steps_apart files_apart ranks_apart squares
 knight_beside_knight_shown White = refl
 knight_beside_knight_shown Black = refl
 
@@ -187,7 +187,7 @@ knight_beside_knight_own White = refl
 knight_beside_knight_own Black = refl
 
 bishop_beside_knight_shown : (w : Color) → is_shown (position_of (bishop_beside_knight w) w) w Bishop 54 ≡ true
-unfolding bishop_beside_knight position_of is_shown has_one is_alone is_mated legal all_moves moves_from is_legal_in is_pseudo_legal_as goes promotes_well is_step is_double_step is_pawn_capture is_en_passant is_short_castling is_long_castling men_after has_one_king has_pawn_at_end is_pawn_at_end in_check king_of attacked attacks_as is_clear between lies_between is_within aims_at is_rank_ahead is_line is_straight is_diagonal steps_apart files_apart ranks_apart squares
+unfolding bishop_beside_knight position_of is_shown has_one is_alone is_mated legal all_moves moves_from is_legal_in is_pseudo_legal_as goes promotes_well is_step is_double_step is_pawn_capture is_en_passant castles men_after has_one_king has_pawn_at_end is_pawn_at_end in_check king_of attacked attacks_as is_clear between lies_between is_within aims_at is_rank_ahead is_line is_straight is_diagonal steps_apart files_apart ranks_apart squares
 bishop_beside_knight_shown White = refl
 bishop_beside_knight_shown Black = refl
 
@@ -197,7 +197,7 @@ bishop_beside_knight_own White = refl
 bishop_beside_knight_own Black = refl
 
 bishop_beside_bishop_shown : (w : Color) → is_shown (position_of (bishop_beside_bishop w) w) w Bishop 54 ≡ true
-unfolding bishop_beside_bishop position_of is_shown has_one is_alone is_mated legal all_moves moves_from is_legal_in is_pseudo_legal_as goes promotes_well is_step is_double_step is_pawn_capture is_en_passant is_short_castling is_long_castling men_after has_one_king has_pawn_at_end is_pawn_at_end in_check king_of attacked attacks_as is_clear between lies_between is_within aims_at is_rank_ahead is_line is_straight is_diagonal steps_apart files_apart ranks_apart squares
+unfolding bishop_beside_bishop position_of is_shown has_one is_alone is_mated legal all_moves moves_from is_legal_in is_pseudo_legal_as goes promotes_well is_step is_double_step is_pawn_capture is_en_passant castles men_after has_one_king has_pawn_at_end is_pawn_at_end in_check king_of attacked attacks_as is_clear between lies_between is_within aims_at is_rank_ahead is_line is_straight is_diagonal steps_apart files_apart ranks_apart squares
 bishop_beside_bishop_shown White = refl
 bishop_beside_bishop_shown Black = refl
 

@@ -15,10 +15,10 @@ use Rattle.cha_board.specs.Board.{Board, man_at, home_of}
 use Rattle.cha_board.specs.Letters.{kind_of}
 use Rattle.cha_board.proofs.Identity.{same_kind_equal, same_kind_self}
 use Rattle.cha_moves.specs.Step.{Move}
-use Rattle.cha_moves.specs.Moves.{goes, promotes_well, is_short_castling, is_long_castling, is_promotion, legal}
+use Rattle.cha_moves.specs.Moves.{goes, promotes_well, is_promotion, legal}
 use Rattle.cha_moves.proofs.Contained.{not_in_nothing, Contains-cons_here, Contains-cons_there, Contains-filter_from, Contains-filter_parts}
 use Rattle.cha_moves.proofs.Made.{Mover}
-use Rattle.cha_moves.proofs.Kept.{promoted, short_tests, long_tests}
+use Rattle.cha_moves.proofs.Kept.{promoted}
 use Rattle.cha_moves.proofs.Listed.{is_listed, mover_of}
 use Rattle.cha_san.specs.declared.forms.Form.{Form}
 use Rattle.cha_san.specs.declared.forms.Form.TheVariants.{Short, Long}

@@ -1,7 +1,8 @@
 use Rattle.std.proofs.Common.{◌≡◌, ◌==◌, refl, sym, ap, ◌∙◌}
 use Rattle.cha_board.specs.declared.men.Kind.TheVariants.{Pawn, King}
 use Rattle.cha_board.specs.Squares.{rank_of, last_rank}
-use Rattle.cha_board.specs.Board.{short_goal_of, long_goal_of}
+use Rattle.cha_board.specs.declared.castling.Wing.TheVariants.{Kingside, Queenside}
+use Rattle.cha_board.specs.Board.{goal_of}
 use Rattle.cha_board.specs.SquareSets.{set_of}
 use Rattle.cha_moves.proofs.SpecialChecks.{special_last, special_target, special_castling, special_none, of_kind}
 use Rattle.cha_moves.proofs.checks.special_checks.Goals as goal
@@ -21,10 +22,10 @@ returns-in-Some c =
 pub returns-in-King : goal.returns-in-King
 returns-in-King c =
     let q = c.args.position.now in
-    let left = c.long_goal.ensures ∙ ap long_goal_of c.side-side.ensures in
-    let right = c.short_goal.ensures ∙ ap short_goal_of c.side-side.ensures in
+    let left = c.goal.ensures ∙ ap (λ side. goal_of side Queenside) c.side-side.ensures in
+    let right = c.goal-in-King.ensures ∙ ap (λ side. goal_of side Kingside) c.side-side.ensures in
     of_kind q c.args.kind King c.with-in-King.result c.in-King.is
-    (special_castling q c.single.result c.with-in-King.result c.long_goal.result c.short_goal.result left right c.single.ensures c.with-in-King.ensures)
+    (special_castling q c.single.result c.with-in-King.result c.goal.result c.goal-in-King.result left right c.single.ensures c.with-in-King.ensures)
 
 pub returns-in_default : goal.returns-in_default
 returns-in_default c = c.empty.ensures ∙ special_none c.args.position.now c.args.kind c.in_default.not-Pawn c.in_default.not-King

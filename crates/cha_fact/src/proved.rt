@@ -1,10 +1,11 @@
 //! What is known and true.
 
-ghost use Rattle.std.specs.Prelude.{◌≡◌, IsTrue, IsErr, IfOk};
+ghost use Rattle.std.specs.Prelude.{◌≡◌, ◌∷◌, ◌↔◌, length, IsTrue, IsNone, IsErr, IfOk, IfSome, Contains};
 ghost use Rattle.cha_board.specs.Board.{IsValid};
+ghost use Rattle.cha_moves.specs.Moves.{after, legal};
 ghost use Rattle.cha_moves.specs.Ends.{IsMatingLine, HasNoMateWithin};
 ghost use Rattle.cha_fact.specs.Keys.{key_of};
-ghost use Rattle.cha_fact.specs.Truths.{IsTrueOf, is_mate, rank_of};
+ghost use Rattle.cha_fact.specs.Truths.{IsTrueOf, is_mate, line_of, rank_of};
 
 use crate::fact::Fact;
 use crate::kept_line::KeptLine;
@@ -12,6 +13,7 @@ use crate::key::Key;
 use crate::line::Line;
 use cha_board::{Color, Position};
 use cha_list::NoMemory;
+use cha_moves::Move;
 use std::alloc::Global;
 use std::marker::Model;
 
@@ -62,6 +64,29 @@ impl Proved {
             position: *position,
             winner,
             fact: Fact::NoneWithin(depth),
+        }
+    }
+
+    /// The mate of the position before a legal move, from the mate of the position after it. None comes exactly where that
+    /// line has 64 moves. Memory is taken for the longer line.
+    pub fn step(
+        alloc: Global,
+        before: &Position,
+        first: Move,
+        rest: &Proved,
+    ) -> Result<Option<Proved>, NoMemory>
+        requires legal { Contains (legal before.now) first }
+        requires leads { rest.now.position ≡ after before.now first }
+        requires mates { IsTrue (is_mate rest.now.fact) }
+        ensures full { IfOk result (λ row. IsNone row ↔ (length (line_of rest.now.fact) ≡ 64)) }
+        ensures value { IfOk result (λ found. IfSome found (λ row. row ≡ record { position = before.now; winner = rest.now.winner; fact = Fact.Mate (first ∷ line_of rest.now.fact) })) }
+    {
+        match &rest.fact {
+            Fact::Mate(line) => match Line::of(line.moves()).led_by(first) {
+                Some(longer) => Ok(Some(Proved::mate(alloc, before, rest.winner, &longer)?)),
+                None => Ok(None),
+            },
+            Fact::NoneWithin(_) => unreachable!(),
         }
     }
 

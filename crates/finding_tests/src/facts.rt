@@ -1,9 +1,9 @@
 //! Mates of known lengths, a line that is full, and keys.
 
 use crate::from_fen::place;
-use cha_board::{Color, Square};
+use cha_board::{Color, Square, same_position};
 use cha_fact::{Fact, Key, Line, Proved};
-use cha_moves::{Move, replays};
+use cha_moves::{Move, after, is_legal, replays};
 use std::alloc::Global;
 use std::process::Abort;
 
@@ -57,15 +57,28 @@ fn rank_of(rt: &impl Abort, alloc: Global, fen: &str, winner: Color, steps: &[(u
     mate(rt, alloc, fen, winner, &line).rank()
 }
 
+/// The mate one move before, if it has room.
+fn led_back(
+    rt: &impl Abort,
+    alloc: Global,
+    fen: &str,
+    step: (u8, u8),
+    rest: &Proved,
+) -> Option<Proved> {
+    let before = place(rt, fen);
+    let first = to_move(rt, step);
+    assert!(rt; is_legal(&before, first));
+    assert!(rt; same_position(&after(&before, first), &rest.position()));
+    match rest.fact() {
+        Fact::Mate(_) => Proved::step(alloc, &before, first, rest).expect(rt, "memory"),
+        Fact::NoneWithin(_) => panic!(rt; "no mate"),
+    }
+}
+
 #[test]
 fn known_mates_rank_by_their_length(rt: HostRuntime) {
-    let mated = rank_of(
-        &rt,
-        rt.alloc(),
-        "7k/6Q1/6K1/8/8/8/8/8 b - -",
-        Color::White,
-        &[],
-    );
+    let queen = "7k/6Q1/6K1/8/8/8/8/8 b - -";
+    let mated = rank_of(&rt, rt.alloc(), queen, Color::White, &[]);
     assert_eq!(rt; mated, 1000);
     let back_rank = "6k1/5ppp/8/8/8/8/8/R3K3 w - -";
     let one = rank_of(&rt, rt.alloc(), back_rank, Color::White, &[(0, 56)]);
@@ -88,13 +101,13 @@ fn is_mate_by(rt: &impl Abort, fact: &Proved, steps: &[(u8, u8)]) -> bool {
 
 #[test]
 fn a_mate_is_led_back_move_by_move(rt: HostRuntime) {
-    let one = Line::new().led_by(to_move(&rt, (59, 31)));
-    let one = one.expect(&rt, "room");
-    let two = one.led_by(to_move(&rt, (14, 30))).expect(&rt, "room");
-    let fact = mate(&rt, rt.alloc(), FOOLS_MATE[0], Color::Black, &two);
-    assert_eq!(rt; fact.rank(), 998);
-    assert!(rt; is_mate_by(&rt, &fact, &TO_MATE[2..]));
-    let copy = fact.copy(rt.alloc()).expect(&rt, "memory");
+    let alloc = rt.alloc();
+    let mated = mate(&rt, alloc, FOOLS_MATE[2], Color::Black, &Line::new());
+    let one = led_back(&rt, alloc, FOOLS_MATE[1], (59, 31), &mated).expect(&rt, "room");
+    let two = led_back(&rt, alloc, FOOLS_MATE[0], (14, 30), &one).expect(&rt, "room");
+    assert_eq!(rt; two.rank(), 998);
+    assert!(rt; is_mate_by(&rt, &two, &TO_MATE[2..]));
+    let copy = two.copy(alloc).expect(&rt, "memory");
     assert!(rt; is_mate_by(&rt, &copy, &TO_MATE[2..]));
 }
 
@@ -114,7 +127,8 @@ fn a_line_of_64_moves_is_full(rt: HostRuntime) {
     fill(&rt, &mut line);
     let full = mate(&rt, rt.alloc(), OPENING, Color::Black, &line);
     assert_eq!(rt; full.rank(), 936);
-    assert!(rt; line.led_by(to_move(&rt, (45, 62))).is_none());
+    let before = "rnbqkb1r/pppppppp/5n2/8/8/8/PPPPPPPP/RNBQKBNR b KQkq -";
+    assert!(rt; led_back(&rt, rt.alloc(), before, (45, 62), &full).is_none());
 }
 
 /// Two positions, and whether their keys for White are the same.

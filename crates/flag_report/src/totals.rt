@@ -1,6 +1,6 @@
 //! The last line of the output.
 
-ghost use Rattle.std.specs.Prelude.{◌≡◌, ◌++◌, ◌∷◌, codes, OnOk};
+ghost use Rattle.std.specs.Prelude.{◌≡◌, ◌++◌, OnOk};
 ghost use Rattle.flag_report.specs.Totals.{column_text, column_texts, counts_line};
 
 use cha_list::{NoMemory, Text};

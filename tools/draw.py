@@ -16,7 +16,7 @@ PICTURE = os.path.join(TOP, "docs", "crates.svg")
 ROOMS = [
     ("hall", "#fdf1dc", (0, 8, 0, 6), {
         "cha_main": (3, 0), "cha_c": (4, 0), "adjudicate": (3.5, 1), "cha_words": (0.4, 3), "flag_report": (2, 2), "json_report": (2, 3),
-        "report_words": (2, 4), "true_blocks": (1, 2), "item_batches": (4.8, 2), "side_by_side": (5.2, 3), "cha_judge": (5.7, 4), "cha_decide": (6.4, 5), "cha_outcome": (3, 5),
+        "report_words": (2, 4), "report_style": (1, 5), "true_blocks": (1, 2), "item_batches": (4.8, 2), "side_by_side": (5.2, 3), "cha_judge": (5.7, 4), "cha_decide": (6.4, 5), "cha_outcome": (3, 5),
         "cha_verdict": (4.2, 6),
     }),
     ("reading", "#e3f1e3", (0, 2, 7, 11), {

@@ -32,7 +32,7 @@ use Rattle.cha_outcome.specs.declared.totals.Totals.{Totals}
 use Rattle.cha_outcome.specs.Items.{played_item, item_unless, game_item, kept_item}
 use Rattle.cha_outcome.specs.Outcomes.{item_of, new_result, Answers, AllSound, is_refused, is_dead_position, is_changed_game, is_open, has_mates}
 use Rattle.cha_outcome.specs.Totals.{totals_of, counted, HasRoom}
-use Rattle.flag_report.specs.declared.styles.Style.TheVariants.{SummaryAlone}
+use Rattle.report_style.specs.declared.styles.Style.TheVariants.{SummaryAlone}
 use Rattle.flag_report.specs.declared.styles.Subject.TheVariants.{Games}
 use Rattle.flag_report.specs.Styles.{summary}
 use Rattle.adjudicate.specs.declared.endings.Status.{Status}

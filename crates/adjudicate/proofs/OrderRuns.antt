@@ -35,8 +35,8 @@ nothing_corrected c took left a f g notes = record {
 
 -- where nothing was taken, no piece was: of lines, of what has no items to settle, and else of games
 took_none : (order : Order) → TookAsNeeded (demand order).settled [] 0
-took_none (JudgePositions limits printing) = took_nothing LineItems
-took_none (ListMates side workers depth printing) = took_nothing LineItems
+took_none (JudgePositions limits style) = took_nothing LineItems
+took_none (ListMates side workers depth style) = took_nothing LineItems
 took_none CheckCert = took_all (λ _. 0) (λ _. refl) []
 took_none (GenGames limits seed count) = took_all (λ _. 0) (λ _. refl) []
 took_none order = took_nothing GameItems

@@ -11,7 +11,7 @@ use Rattle.cha_outcome.specs.declared.questions.Question.{Question}
 use Rattle.cha_outcome.specs.declared.totals.Totals.{Totals}
 use Rattle.cha_outcome.specs.Outcomes.{item_of, IsSoundOutcome, Answers, AllSound, is_refused, is_dead_position, is_changed_game, is_open, has_mates}
 use Rattle.cha_outcome.specs.Totals.{totals_of, one_if, counted, HasRoom}
-use Rattle.flag_report.specs.declared.styles.Style.{Style}
+use Rattle.report_style.specs.declared.styles.Style.{Style}
 use Rattle.flag_report.specs.Styles.{block, blocks, summary}
 use Rattle.adjudicate.specs.Jobs.{Job}
 use Rattle.adjudicate.specs.Report.{HasReport, HasBlocks, HasCutBlock, IsFront}

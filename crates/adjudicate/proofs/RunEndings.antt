@@ -17,7 +17,7 @@ use Rattle.pgn_games.specs.Settling.{settled_games}
 use Rattle.random_games.specs.Made.{made}
 use Rattle.cha_outcome.specs.declared.outcomes.Outcome.{Outcome}
 use Rattle.cha_outcome.specs.declared.questions.Question.{Question}
-use Rattle.flag_report.specs.declared.styles.Style.TheVariants.{SummaryAlone}
+use Rattle.report_style.specs.declared.styles.Style.TheVariants.{SummaryAlone}
 use Rattle.flag_report.specs.Styles.{block, blocks}
 use Rattle.adjudicate.specs.declared.endings.Status.{Status}
 use Rattle.adjudicate.specs.declared.endings.Status.TheVariants.{Done, Usage, ReadFault, WriteFault, TooLong, NoMemory, NotAccepted}

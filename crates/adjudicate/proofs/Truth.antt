@@ -2,10 +2,12 @@
 use Rattle.std.proofs.Common.{◌≡◌, ◌⊎◌, inl, inr, ℕ, false, List, [], ◌∷◌, Option, Some, None, codes, refl, sym, ap, ◌∙◌, subst}
 use Rattle.cha_words.specs.declared.orders.Order.{Order}
 use Rattle.cha_words.specs.declared.orders.Order.TheVariants.{AdjudicateGames, JudgePositions}
-use Rattle.cha_words.specs.declared.orders.Printing.{Printing}
 use Rattle.cha_words.specs.Language.{command_named, limits_in, order_by, order_of}
 use Rattle.cha_outcome.specs.declared.questions.FlaggedDraws.TheVariants.{Stand}
+use Rattle.report_style.specs.declared.styles.Style.{Style}
+use Rattle.report_style.specs.declared.styles.Style.TheVariants.{Blocks}
 use Rattle.flag_report.specs.declared.styles.Subject.TheVariants.{Games, Positions}
+use Rattle.true_blocks.proofs.Printed.{plain}
 use Rattle.true_blocks.proofs.Reports.{all_meant, all_show, true_report, true_shown}
 use Rattle.true_blocks.specs.Shown.{ShowsOnlyTruth}
 use Rattle.adjudicate.specs.declared.endings.Status.{Status}
@@ -17,8 +19,8 @@ use Rattle.adjudicate.specs.Runs.{outside, Grew}
 use Rattle.adjudicate.specs.Truth.{usual, ReportsTruth}
 
 -- how a report is printed where no option says otherwise
-abbrev usually : Printing
-usually = record { certs = false; json = false; san = false; fens = false }
+abbrev usually : Style
+usually = Blocks plain
 
 games_alone : order_of (codes "adjudicate" ∷ []) ≡ Some (AdjudicateGames usual false usually)
 unfolding order_of order_by command_named

@@ -11,15 +11,13 @@ use Rattle.cha_outcome.specs.declared.questions.FlaggedDraws.TheVariants.{Stand,
 use Rattle.cha_outcome.specs.declared.questions.Question.{Question}
 use Rattle.cha_outcome.specs.declared.questions.Question.TheVariants as questions
 use Rattle.cha_outcome.specs.Totals.{totals_of}
-use Rattle.flag_report.specs.declared.forms.Notation.TheVariants.{Coordinates, San}
-use Rattle.flag_report.specs.declared.styles.Style.{Style}
-use Rattle.flag_report.specs.declared.styles.Style.TheVariants.{Blocks, Json, SummaryAlone}
+use Rattle.report_style.specs.declared.styles.Style.{Style}
+use Rattle.report_style.specs.declared.styles.Style.TheVariants.{SummaryAlone}
 use Rattle.flag_report.specs.declared.styles.Subject.{Subject}
 use Rattle.flag_report.specs.declared.styles.Subject.TheVariants.{Games, Positions, Mates, Plies}
 use Rattle.flag_report.specs.Styles.{summary}
 use Rattle.item_batches.specs.Items.{position_items, game_items, kept_items, replay_items}
 use Rattle.cha_words.specs.declared.orders.Order.{Order}
-use Rattle.cha_words.specs.declared.orders.Printing.{Printing}
 use Rattle.cha_words.specs.declared.orders.Order.TheVariants.{AdjudicateGames, CorrectGames, JudgePositions, CheckCert, GenGames, ListMates, ReplayGames}
 
 -- A report on items: whether the input is read, which items it has, how many of them are settled in a front of it, what is asked about
@@ -51,25 +49,19 @@ on_kept_games question = record { reads = true; items = kept_items; settled = se
 abbrev pub on_made : Question → ℕ → ℕ → Job
 on_made question seed count = record { reads = false; items = λ _. game_items (made seed count); settled = λ _. 0; question = question; closed = λ _. is_closed (made seed count); style = SummaryAlone; subject = Games }
 
--- the style in which a report is printed
-abbrev pub style_of : Printing → Style
-style_of printing =
-    if printing.json then Json (record { certs = printing.certs; fens = printing.fens })
-    else Blocks (record { certs = printing.certs; notation = if printing.san then San else Coordinates })
-
 -- what becomes of drawn games whose flag fell
 abbrev pub draws_by : Bool → FlaggedDraws
 draws_by flagged = if flagged then Examined else Stand
 
 -- the job that an order is; the check of a certificate is none
 abbrev pub job : Order → Option Job
-job (AdjudicateGames limits flagged printing) = Some (on_games (questions.Verdicts limits (draws_by flagged)) (style_of printing))
+job (AdjudicateGames limits flagged style) = Some (on_games (questions.Verdicts limits (draws_by flagged)) style)
 job (CorrectGames limits flagged changed) = Some (on_kept_games (questions.Verdicts limits (draws_by flagged)))
-job (JudgePositions limits printing) = Some (on_lines (questions.Verdicts limits Stand) (style_of printing) Positions)
+job (JudgePositions limits style) = Some (on_lines (questions.Verdicts limits Stand) style Positions)
 job CheckCert = None
 job (GenGames limits seed count) = Some (on_made (questions.Verdicts limits Stand) seed count)
-job (ListMates side workers depth printing) = Some (on_lines (questions.Mates side depth) (style_of printing) Mates)
-job (ReplayGames printing) = Some (on_replays questions.Plies (style_of printing))
+job (ListMates side workers depth style) = Some (on_lines (questions.Mates side depth) style Mates)
+job (ReplayGames style) = Some (on_replays questions.Plies style)
 
 -- what is printed at the end of a job on an input with these outcomes
 abbrev pub last : Job → List ℕ → List Outcome → List ℕ

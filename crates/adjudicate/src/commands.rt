@@ -6,8 +6,8 @@ ghost use Rattle.cha_limits.specs.Bounds.{Bounds};
 ghost use Rattle.cha_words.specs.declared.orders.Order.TheVariants.{GenGames, ListMates};
 ghost use Rattle.cha_board.specs.declared.men.Color.{Color as Side};
 ghost use Rattle.cha_words.specs.Language.{limits_in};
-ghost use Rattle.cha_words.specs.declared.orders.Printing.{Printing as Printed};
-ghost use Rattle.adjudicate.specs.Jobs.{draws_by, style_of as style_by};
+ghost use Rattle.report_style.specs.declared.styles.Style.{Style};
+ghost use Rattle.adjudicate.specs.Jobs.{draws_by};
 ghost use Rattle.adjudicate.specs.Corrections.{noted};
 ghost use Rattle.adjudicate.specs.Orders.{IsRun};
 ghost use Rattle.adjudicate.specs.Report.{demand};
@@ -21,9 +21,8 @@ use crate::reports::Form;
 use cha_judge::{MatesJudge, PliesJudge, VerdictsJudge};
 use cha_outcome::FlaggedDraws;
 use cha_outside::{Sink, Source};
-use cha_words::{Order, Printing};
-use flag_report::{BlockForm, Notation, Style, Subject};
-use json_report::Extras;
+use cha_words::Order;
+use flag_report::Subject;
 use root_workers::Crew;
 use side_by_side::Hands;
 use std::alloc::Global;
@@ -36,35 +35,6 @@ fn draws_of(flagged: bool) -> FlaggedDraws
         FlaggedDraws::Examined
     } else {
         FlaggedDraws::Stand
-    }
-}
-
-/// The style in which a report is printed.
-fn style_of(printing: Printing) -> Style
-    ensures { result ≡ style_by printing }
-{
-    let certs = printing.certs;
-    if printing.json {
-        return Style::Json(Extras {
-            certs,
-            fens: printing.fens,
-        });
-    }
-    let notation = if printing.san {
-        Notation::San
-    } else {
-        Notation::Coordinates
-    };
-    Style::Blocks(BlockForm { certs, notation })
-}
-
-/// The form of a report on a subject.
-fn form_of(printing: Printing, subject: Subject) -> Form
-    ensures { result ≡ record { style = style_by printing; subject = subject } }
-{
-    Form {
-        style: style_of(printing),
-        subject,
     }
 }
 
@@ -90,14 +60,17 @@ pub fn carry_out<H: Hands, C: Crew, S: Source, K: Sink, N: Sink>(
         Order::AdjudicateGames {
             limits,
             flagged_draws,
-            printing,
+            style,
         } => {
             let mut judge = VerdictsJudge {
                 limits: *limits,
                 draws: draws_of(*flagged_draws),
                 crew,
             };
-            let form = form_of(*printing, Subject::Games);
+            let form = Form {
+                style: *style,
+                subject: Subject::Games,
+            };
             report(alloc, Kind::Games, form, hands, &mut judge, source, sink)
         }
         Order::CorrectGames {
@@ -112,13 +85,16 @@ pub fn carry_out<H: Hands, C: Crew, S: Source, K: Sink, N: Sink>(
             };
             correct_games(alloc, *changed, hands, &mut judge, source, sink, notes)
         }
-        Order::JudgePositions { limits, printing } => {
+        Order::JudgePositions { limits, style } => {
             let mut judge = VerdictsJudge {
                 limits: *limits,
                 draws: FlaggedDraws::Stand,
                 crew,
             };
-            let form = form_of(*printing, Subject::Positions);
+            let form = Form {
+                style: *style,
+                subject: Subject::Positions,
+            };
             report(alloc, Kind::Lines, form, hands, &mut judge, source, sink)
         }
         Order::GenGames {
@@ -148,7 +124,7 @@ pub fn carry_out_plain<H: Hands, S: Source, K: Sink>(
 ) -> Status
     requires hands { H.ready hands.now }
     requires no_search { limits_in order.now ≡ None }
-    requires bounded { (side : Side) (workers depth : ℕ) (printing : Printed) → order.now ≡ ListMates side workers depth printing → ((1 ≤ workers) × (workers ≤ 16)) × ((1 ≤ depth) × (depth ≤ 6)) }
+    requires bounded { (side : Side) (workers depth : ℕ) (style : Style) → order.now ≡ ListMates side workers depth style → ((1 ≤ workers) × (workers ≤ 16)) × ((1 ≤ depth) × (depth ≤ 6)) }
     ensures { IsRunOf (demand order.now) result (outside (S.left source.old) (S.faults source.old) (K.written sink.old) (K.faults sink.old)) (outside (S.left source.new) (S.faults source.new) (K.written sink.new) (K.faults sink.new)) }
 {
     match order {
@@ -157,7 +133,7 @@ pub fn carry_out_plain<H: Hands, S: Source, K: Sink>(
             side,
             workers,
             depth,
-            printing,
+            style,
         } => {
             let mut judge = MatesJudge {
                 side: *side,
@@ -165,11 +141,17 @@ pub fn carry_out_plain<H: Hands, S: Source, K: Sink>(
                 workers: *workers,
                 hands,
             };
-            let form = form_of(*printing, Subject::Mates);
+            let form = Form {
+                style: *style,
+                subject: Subject::Mates,
+            };
             report(alloc, Kind::Lines, form, hands, &mut judge, source, sink)
         }
-        Order::ReplayGames { printing } => {
-            let form = form_of(*printing, Subject::Plies);
+        Order::ReplayGames { style } => {
+            let form = Form {
+                style: *style,
+                subject: Subject::Plies,
+            };
             report(
                 alloc,
                 Kind::Replays,

@@ -13,7 +13,7 @@ use Rattle.cha_words.specs.declared.given.Given.{Given}
 use Rattle.cha_words.specs.declared.given.Said.{Said}
 use Rattle.cha_words.specs.declared.given.Said.TheVariants.{Nothing, Seeded, Games, Sided}
 use Rattle.cha_words.specs.declared.given.Progress.{Progress}
-use Rattle.cha_words.specs.Language.{number, is_number, side_named, setting_named, part_of, piece, takes, numbers_for, range, say_all, bounds, printing, made, made_of}
+use Rattle.cha_words.specs.Language.{number, is_number, side_named, setting_named, part_of, piece, takes, numbers_for, range, say_all, bounds, style, made, made_of}
 use Rattle.cha_words.specs.Language.Part.{Plain}
 use Rattle.cha_words.specs.Reading.{value_in, put, open_in, numbers_from, order_from, order_with, parts_awaiting, IsSaid, Fits, IsOpen, Stands}
 use Rattle.cha_words.proofs.Cutting.{awaited_part}
@@ -74,7 +74,7 @@ by_said : (c : Command) (g : Given) (n : Numbers) (said : Said) → numbers_from
 by_said Gen g n Nothing e s h = (codes "0" ∷ codes "1" ∷ [], GenGames (bounds n) 0 1, rw zero_part (two_more Gen g (Some n) (Some (Games 0 1)) (codes "0") (codes "1") e (ap (λ t. say_all Gen (Some t) (codes "0" ∷ codes "1" ∷ [])) s ∙ both_said)))
 by_said Gen g n (Seeded seed) e s h = (codes "1" ∷ [], GenGames (bounds n) seed 1, rw one_part (one_more Gen g (Some n) (Some (Games seed 1)) (codes "1") e (ap (λ t. say_all Gen (Some t) (codes "1" ∷ [])) s ∙ count_said seed)))
 by_said Gen g n (Games seed count) e s h = ends Gen g n (Games seed count) e s refl
-by_said Mates g n Nothing e s h = (codes "w" ∷ [], ListMates White n.workers n.depth (printing n), rw side_part (one_more Mates g (Some n) (Some (Sided White)) (codes "w") e (ap (λ t. say_all Mates (Some t) (codes "w" ∷ [])) s ∙ side_said)))
+by_said Mates g n Nothing e s h = (codes "w" ∷ [], ListMates White n.workers n.depth (style n), rw side_part (one_more Mates g (Some n) (Some (Sided White)) (codes "w") e (ap (λ t. say_all Mates (Some t) (codes "w" ∷ [])) s ∙ side_said)))
 by_said Mates g n (Sided side) e s h = ends Mates g n (Sided side) e s refl
 by_said c g n Nothing e s h = ends c g n Nothing e s refl
 by_said c g n said e s h = absurd h

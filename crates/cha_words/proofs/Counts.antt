@@ -2,7 +2,7 @@
 use Rattle.std.proofs.Common.{◌≡◌, ℕ, ◌≤◌, Bool, true, false, if◌then◌else◌, List, [], ◌∷◌, Option, Some, None, unwrap_or, filter_map, refl, ap, ◌∙◌, subst, arith}
 use Rattle.cha_limits.specs.Bounds.{Bounds}
 use Rattle.cha_board.specs.declared.men.Color.{Color}
-use Rattle.cha_words.specs.declared.orders.Printing.{Printing}
+use Rattle.report_style.specs.declared.styles.Style.{Style}
 use Rattle.cha_words.specs.declared.orders.Order.TheVariants.{GenGames, ListMates}
 use Rattle.cha_words.specs.declared.table.Command.{Command}
 use Rattle.cha_words.specs.declared.table.Command.TheVariants.{Gen, Mates}
@@ -43,12 +43,12 @@ pub record OfMates (c : Command) (n : Option Numbers) (workers depth : ℕ) : Ty
   pub workers-is : numbers.workers ≡ workers
   pub depth-is : numbers.depth ≡ depth
 
-mates_of : (c : Command) (n : Numbers) (s : Said) (side : Color) (w d : ℕ) (p : Printing) → made c n s ≡ Some (ListMates side w d p) → OfMates c (Some n) w d
+mates_of : (c : Command) (n : Numbers) (s : Said) (side : Color) (w d : ℕ) (p : Style) → made c n s ≡ Some (ListMates side w d p) → OfMates c (Some n) w d
 mates_of Mates n (Sided t) side w d p e = record { mates = refl; numbers = n; is = refl; workers-is = cc; depth-is = cc }
 mates_of c n Nothing side w d p e = cc
 mates_of c n s side w d p e = cc
 
-made_mates : (c : Command) (n : Option Numbers) (s : Option Said) (side : Color) (w d : ℕ) (p : Printing) → made_of c n s ≡ Some (ListMates side w d p) → OfMates c n w d
+made_mates : (c : Command) (n : Option Numbers) (s : Option Said) (side : Color) (w d : ℕ) (p : Style) → made_of c n s ≡ Some (ListMates side w d p) → OfMates c n w d
 made_mates c (Some n) (Some s) side w d p e = mates_of c n s side w d p e
 made_mates c None s side w d p e = cc
 made_mates c (Some n) None side w d p e = cc
@@ -95,7 +95,7 @@ mates_in n cut w d e hw hd =
     let d_in : (1 ≤ d) × (d ≤ 6) = subst (λ k. (1 ≤ k) × (k ≤ 6)) (ap (λ (m : Numbers). m.depth) same ∙ hd) depth in
     (w_in, d_in)
 
-mates_by : (o : Option Command) (words : List (List ℕ)) (side : Color) (w d : ℕ) (p : Printing) → order_behind o words ≡ Some (ListMates side w d p) → ((1 ≤ w) × (w ≤ 16)) × ((1 ≤ d) × (d ≤ 6))
+mates_by : (o : Option Command) (words : List (List ℕ)) (side : Color) (w d : ℕ) (p : Style) → order_behind o words ≡ Some (ListMates side w d p) → ((1 ≤ w) × (w ≤ 16)) × ((1 ≤ d) × (d ≤ 6))
 unfolding order_by
 mates_by None words side w d p e = cc
 mates_by (Some c) words side w d p e =
@@ -103,7 +103,7 @@ mates_by (Some c) words side w d p e =
     mates_in made.numbers (parts words) w d (subst (λ k. numbers k (parts words) ≡ Some made.numbers) made.mates made.is) made.workers-is made.depth-is
 
 -- the shortest mates that are ordered
-pub mates_counted : (words : List (List ℕ)) (side : Color) (w d : ℕ) (p : Printing) → order_of words ≡ Some (ListMates side w d p) → ((1 ≤ w) × (w ≤ 16)) × ((1 ≤ d) × (d ≤ 6))
+pub mates_counted : (words : List (List ℕ)) (side : Color) (w d : ℕ) (p : Style) → order_of words ≡ Some (ListMates side w d p) → ((1 ≤ w) × (w ≤ 16)) × ((1 ≤ d) × (d ≤ 6))
 unfolding order_of
 mates_counted [] side w d p e = cc
 mates_counted (word ∷ words) side w d p e = mates_by (command_named word) words side w d p e

@@ -9,7 +9,9 @@ use Rattle.cha_board.specs.declared.men.Color.{Color}
 use Rattle.cha_board.specs.declared.men.Color.TheVariants.{White, Black}
 use Rattle.cha_limits.specs.Bounds.{Bounds}
 use Rattle.cha_words.specs.declared.orders.Order.{Order}
-use Rattle.cha_words.specs.declared.orders.Printing.{Printing}
+use Rattle.report_style.specs.declared.styles.Notation.TheVariants as notations
+use Rattle.report_style.specs.declared.styles.Style.{Style}
+use Rattle.report_style.specs.declared.styles.Style.TheVariants as styles
 use Rattle.cha_words.specs.declared.orders.Order.TheVariants.{AdjudicateGames, CorrectGames, JudgePositions, CheckCert, GenGames, ListMates, ReplayGames}
 use Rattle.cha_words.specs.declared.chosen.Numbers.{Numbers}
 use Rattle.cha_words.specs.declared.table.Command.{Command}
@@ -231,18 +233,20 @@ abbrev pub selects : Numbers → Bool
 selects n = n.changed == 1
 
 -- how a report is printed, by the numbers of the options
-abbrev pub printing : Numbers → Printing
-printing n = record { certs = n.certs == 1; json = n.json == 1; san = n.san == 1; fens = n.fens == 1 }
+abbrev pub style : Numbers → Style
+style n =
+    if n.json == 1 then styles.Json (record { certs = n.certs == 1; fens = n.fens == 1 })
+    else styles.Blocks (record { certs = n.certs == 1; notation = if n.san == 1 then notations.San else notations.Coordinates })
 
 -- the order of a command, by the numbers of its options and what its further words say
 abbrev pub made : Command → Numbers → Said → Option Order
-made Adjudicate n Nothing = Some (AdjudicateGames (bounds n) (examines n) (printing n))
+made Adjudicate n Nothing = Some (AdjudicateGames (bounds n) (examines n) (style n))
 made Correct n Nothing = Some (CorrectGames (bounds n) (examines n) (selects n))
-made Position n Nothing = Some (JudgePositions (bounds n) (printing n))
+made Position n Nothing = Some (JudgePositions (bounds n) (style n))
 made Check n Nothing = Some CheckCert
 made Gen n (Games seed count) = Some (GenGames (bounds n) seed count)
-made Mates n (Sided side) = Some (ListMates side n.workers n.depth (printing n))
-made Replay n Nothing = Some (ReplayGames (printing n))
+made Mates n (Sided side) = Some (ListMates side n.workers n.depth (style n))
+made Replay n Nothing = Some (ReplayGames (style n))
 made _ n said = None
 
 -- the same where one of them may be refused
@@ -274,8 +278,8 @@ order words = order_of (map string_bytes words)
 
 -- what an order lets a search of verdicts spend; those that need no such search have none
 abbrev pub limits_in : Order → Option Bounds
-limits_in (AdjudicateGames spend draws printing) = Some spend
+limits_in (AdjudicateGames spend draws style) = Some spend
 limits_in (CorrectGames spend draws changed) = Some spend
-limits_in (JudgePositions spend printing) = Some spend
+limits_in (JudgePositions spend style) = Some spend
 limits_in (GenGames spend seed count) = Some spend
 limits_in _ = None

@@ -15,7 +15,7 @@ mod table;
 
 pub use faults::{Expected, UsageFault, expected_words_can_stand};
 pub use given::{Given, Progress, Said, open_range};
-pub use orders::{Order, Printing};
+pub use orders::Order;
 pub use reading::{games_are_some, mates_are_bounded, parse, usage_fault};
 pub use table::{
     Argument, COMMANDS, Command, Range, SETTINGS, Setting, argument_of, command_name, is_flag,

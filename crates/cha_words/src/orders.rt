@@ -1,7 +1,7 @@
 //! What can be ordered.
 
 ghost use Rattle.std.specs.Prelude.{◌≡◌};
-ghost use Rattle.cha_words.specs.Language.{bounds, limits_in, made as made_by, printing as printing_by};
+ghost use Rattle.cha_words.specs.Language.{bounds, limits_in, made as made_by, style as style_by};
 ghost use Rattle.cha_words.specs.Reading.{AreIn, IsSaid, IsSearch};
 
 use crate::chosen::Numbers;
@@ -9,19 +9,7 @@ use crate::given::Said;
 use crate::table::Command;
 use cha_board::Color;
 use cha_limits::Limits;
-
-/// How a report is printed.
-#[derive(Clone, Copy, Debug, PartialEq, Eq)]
-pub struct Printing {
-    /// Whether the certificates of sides that cannot mate are printed.
-    pub certs: bool,
-    /// Whether it is printed in JSON, and not in blocks.
-    pub json: bool,
-    /// Whether blocks have moves as words (PGN standard, 8.2.3). JSON has both notations.
-    pub san: bool,
-    /// Whether JSON has the position after each move of a line that mates. Blocks have none.
-    pub fens: bool,
-}
+use report_style::{BlockForm, Extras, Notation, Style};
 
 /// What the words order.
 #[derive(Clone, Copy, Debug, PartialEq, Eq)]
@@ -33,7 +21,7 @@ pub enum Order {
         /// Whether drawn games whose flag fell are examined.
         flagged_draws: bool,
         /// How the report is printed.
-        printing: Printing,
+        style: Style,
     },
     /// `correct`: write the input, which is in PGN, with the right results.
     CorrectGames {
@@ -49,7 +37,7 @@ pub enum Order {
         /// What a search may spend on a side.
         limits: Limits,
         /// How the report is printed.
-        printing: Printing,
+        style: Style,
     },
     /// `check`: check the certificate whose text the input is.
     CheckCert,
@@ -71,12 +59,12 @@ pub enum Order {
         /// Within how many plies mates are looked for, from 1 to 6.
         depth: u8,
         /// How the report is printed.
-        printing: Printing,
+        style: Style,
     },
     /// `replay`: list the moves of each game of the input, which is in PGN.
     ReplayGames {
         /// How they are printed.
-        printing: Printing,
+        style: Style,
     },
 }
 
@@ -102,12 +90,12 @@ pub fn made(command: Command, numbers: Numbers, said: Said) -> Option<Order>
     ensures { result ≡ made_by command numbers said }
 {
     let flagged_draws = numbers.flagged_draws == 1;
-    let printing = printed(numbers);
+    let style = style(numbers);
     match (command, said) {
         (Command::Adjudicate, Said::Nothing) => Some(Order::AdjudicateGames {
             limits: limits(command, numbers),
             flagged_draws,
-            printing,
+            style,
         }),
         (Command::Correct, Said::Nothing) => Some(Order::CorrectGames {
             limits: limits(command, numbers),
@@ -116,7 +104,7 @@ pub fn made(command: Command, numbers: Numbers, said: Said) -> Option<Order>
         }),
         (Command::Position, Said::Nothing) => Some(Order::JudgePositions {
             limits: limits(command, numbers),
-            printing,
+            style,
         }),
         (Command::Check, Said::Nothing) => Some(Order::CheckCert),
         (Command::Gen, Said::Games(seed, count)) => Some(Order::GenGames {
@@ -128,23 +116,30 @@ pub fn made(command: Command, numbers: Numbers, said: Said) -> Option<Order>
             side,
             workers: numbers.workers as u32,
             depth: numbers.depth as u8,
-            printing,
+            style,
         }),
-        (Command::Replay, Said::Nothing) => Some(Order::ReplayGames { printing }),
+        (Command::Replay, Said::Nothing) => Some(Order::ReplayGames { style }),
         _ => None,
     }
 }
 
 /// How the report is printed.
-fn printed(numbers: Numbers) -> Printing
-    ensures { result ≡ printing_by numbers }
+fn style(numbers: Numbers) -> Style
+    ensures { result ≡ style_by numbers }
 {
-    Printing {
-        certs: numbers.certs == 1,
-        json: numbers.json == 1,
-        san: numbers.san == 1,
-        fens: numbers.fens == 1,
+    let certs = numbers.certs == 1;
+    if numbers.json == 1 {
+        return Style::Json(Extras {
+            certs,
+            fens: numbers.fens == 1,
+        });
     }
+    let notation = if numbers.san == 1 {
+        Notation::San
+    } else {
+        Notation::Coordinates
+    };
+    Style::Blocks(BlockForm { certs, notation })
 }
 
 /// What a search of verdicts may spend.

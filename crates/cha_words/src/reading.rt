@@ -7,7 +7,7 @@ ghost use Rattle.cha_words.specs.Faults.{IsFault, IsFaultOf};
 ghost use Rattle.cha_words.specs.Reading.{Stands, order_with};
 ghost use Rattle.cha_words.specs.declared.orders.Order.TheVariants.{GenGames, ListMates};
 ghost use Rattle.cha_board.specs.declared.men.Color.{Color as Side};
-ghost use Rattle.cha_words.specs.declared.orders.Printing.{Printing as Printed};
+ghost use Rattle.report_style.specs.declared.styles.Style.{Style};
 
 use crate::chosen::all_numbers;
 use crate::faults::{Expected, UsageFault};
@@ -41,7 +41,7 @@ pub fn games_are_some()
 
 /// The law: where the shortest mates are ordered, there are 1 to 16 workers, and 1 to 6 plies.
 pub fn mates_are_bounded()
-    ensures { (words : List (List ℕ)) (side : Side) (workers depth : ℕ) (printing : Printed) → order_of words ≡ Some (ListMates side workers depth printing) → ((1 ≤ workers) × (workers ≤ 16)) × ((1 ≤ depth) × (depth ≤ 6)) }
+    ensures { (words : List (List ℕ)) (side : Side) (workers depth : ℕ) (style : Style) → order_of words ≡ Some (ListMates side workers depth style) → ((1 ≤ workers) × (workers ≤ 16)) × ((1 ≤ depth) × (depth ≤ 6)) }
 {}
 
 /// What the words order, or where they leave the language.

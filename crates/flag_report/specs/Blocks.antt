@@ -4,7 +4,7 @@ use Rattle.cha_outcome.specs.declared.outcomes.Outcome.{Outcome}
 use Rattle.cha_outcome.specs.declared.outcomes.Outcome.TheVariants.{JudgedPosition, JudgedGame, ListedMates, RefusedLine, UnreadableGame, Replayed}
 use Rattle.report_words.specs.Reasons.{fen_fault_text}
 use Rattle.report_words.specs.Counts.{count_text}
-use Rattle.flag_report.specs.declared.forms.BlockForm.{BlockForm}
+use Rattle.report_style.specs.declared.styles.BlockForm.{BlockForm}
 use Rattle.flag_report.specs.Findings.{line, fen_line, findings_text}
 use Rattle.flag_report.specs.Scans.{scan_part}
 use Rattle.flag_report.specs.Games.{result_line}

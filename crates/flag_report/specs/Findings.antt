@@ -16,9 +16,9 @@ use Rattle.cha_verdict.specs.declared.verdicts.Verdict.TheVariants.{Winnable, Un
 use Rattle.cha_outcome.specs.declared.status.PositionStatus.{PositionStatus}
 use Rattle.report_words.specs.Counts.{count_text}
 use Rattle.report_words.specs.Words.{status_text}
-use Rattle.flag_report.specs.declared.forms.BlockForm.{BlockForm}
-use Rattle.flag_report.specs.declared.forms.Notation.{Notation}
-use Rattle.flag_report.specs.declared.forms.Notation.TheVariants.{Coordinates, San}
+use Rattle.report_style.specs.declared.styles.BlockForm.{BlockForm}
+use Rattle.report_style.specs.declared.styles.Notation.{Notation}
+use Rattle.report_style.specs.declared.styles.Notation.TheVariants.{Coordinates, San}
 
 -- a line
 abbrev pub line : List ℕ → List ℕ

@@ -5,7 +5,7 @@ use Rattle.cha_moves.specs.Step.{Move}
 use Rattle.helpmate_list.specs.declared.answers.Shortest.{Shortest}
 use Rattle.helpmate_list.specs.declared.answers.Shortest.TheVariants.{NoneWithin, Found}
 use Rattle.report_words.specs.Counts.{count_text}
-use Rattle.flag_report.specs.declared.forms.Notation.{Notation}
+use Rattle.report_style.specs.declared.styles.Notation.{Notation}
 use Rattle.flag_report.specs.Findings.{line, notated}
 
 -- a line of moves, where it has some

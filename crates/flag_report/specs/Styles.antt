@@ -1,15 +1,15 @@
 -- What is printed in each style (this project).
-use Rattle.std.specs.Prelude.{ℕ, ◌+◌, Bool, List, [], ◌∷◌, ◌++◌}
+use Rattle.std.specs.Prelude.{ℕ, ◌+◌, Bool, List, [], ◌∷◌, ◌++◌, Option}
 use Rattle.cha_outcome.specs.declared.outcomes.Outcome.{Outcome}
 use Rattle.cha_outcome.specs.declared.totals.Totals.{Totals}
 use Rattle.json_report.specs.Outcomes.{outcome_line}
-use Rattle.json_report.specs.Summaries.{games_json, positions_json, mates_json, plies_json, json_line}
-use Rattle.flag_report.specs.declared.styles.Style.{Style}
-use Rattle.flag_report.specs.declared.styles.Style.TheVariants.{Blocks, Json, SummaryAlone}
+use Rattle.json_report.specs.Summaries.{summary_json, json_line}
+use Rattle.report_words.specs.declared.columns.Column.{Column}
+use Rattle.report_style.specs.declared.styles.Style.{Style}
+use Rattle.report_style.specs.declared.styles.Style.TheVariants.{Blocks, Json, SummaryAlone}
 use Rattle.flag_report.specs.declared.styles.Subject.{Subject}
-use Rattle.flag_report.specs.declared.styles.Subject.TheVariants.{Games, Positions, Mates, Plies}
 use Rattle.flag_report.specs.Blocks.{block_text}
-use Rattle.flag_report.specs.Totals.{summary_text}
+use Rattle.flag_report.specs.Totals.{columns_of, closed_of, counts_line}
 
 -- what is printed of an outcome under a number
 unfoldable pub block : Style → ℕ → Outcome → List ℕ
@@ -22,15 +22,12 @@ unfoldable pub blocks : Style → ℕ → List Outcome → List ℕ
 blocks style number [] = []
 blocks style number (o ∷ os) = block style number o ++ blocks style (number + 1) os
 
--- the last line in JSON, by what the report is about; of games also whether their text is closed
-abbrev pub last_json_line : Subject → Bool → Totals → List ℕ
-last_json_line Games closed s = json_line (games_json s closed)
-last_json_line Positions closed s = json_line (positions_json s)
-last_json_line Mates closed s = json_line (mates_json s)
-last_json_line Plies closed s = json_line (plies_json s closed)
+-- what is printed at the end of a report that counts this; whether a text of games is closed is printed in JSON alone
+abbrev pub last_line : Style → List Column → Option Bool → Totals → List ℕ
+last_line (Blocks form) columns closed s = counts_line columns s
+last_line (Json extras) columns closed s = json_line (summary_json columns closed s)
+last_line SummaryAlone columns closed s = counts_line columns s
 
--- what is printed at the end; whether the text is closed is printed in JSON alone
+-- the same, by what the report is about
 abbrev pub summary : Style → Subject → Bool → Totals → List ℕ
-summary (Blocks form) subject closed s = summary_text subject s
-summary (Json extras) subject closed s = last_json_line subject closed s
-summary SummaryAlone subject closed s = summary_text subject s
+summary style subject closed s = last_line style (columns_of subject) (closed_of subject closed) s

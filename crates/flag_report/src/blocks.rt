@@ -8,7 +8,6 @@ ghost use Rattle.report_words.specs.LegalLines.{HasLegalLines};
 ghost use Rattle.report_words.specs.Reasons.{fen_fault_text};
 
 use crate::findings::{put_count_line, put_fen, put_findings};
-use crate::forms::BlockForm;
 use crate::mates::put_mates;
 use crate::plies::{put_replay, put_unreadable};
 use crate::results::put_result;
@@ -16,6 +15,7 @@ use crate::scans::put_scan_part;
 use cha_fen::FenFault;
 use cha_list::{NoMemory, Text};
 use cha_outcome::Outcome;
+use report_style::BlockForm;
 use report_words::put_fen_fault;
 use std::alloc::Global;
 

@@ -9,7 +9,6 @@ ghost use Rattle.cha_outcome.specs.Outcomes.{ArePrintable};
 ghost use Rattle.cha_verdict.specs.Verdicts.{IsPrintable};
 ghost use Rattle.cha_verdict.specs.declared.verdicts.Verdict.TheVariants.{Unwinnable};
 
-use crate::forms::{BlockForm, Notation};
 use cert_text::write2;
 use cha_board::{Color, Position};
 use cha_cert::{Cert, share};
@@ -19,6 +18,7 @@ use cha_moves::{Move, after, move_text};
 use cha_outcome::PositionStatus;
 use cha_san::san;
 use cha_verdict::{Decision, Verdict};
+use report_style::{BlockForm, Notation};
 use report_words::{put_count, put_status};
 use std::alloc::Global;
 

@@ -1,15 +1,14 @@
 //! What the program prints of outcomes, of what was counted, and of certificates.
 //!
-//! `styles` has what is printed in each style, that in JSON by `json_report`, and `blocks` the style of blocks, by `forms`: `findings` what is found about a position, `scans`
-//! from where on a game was dead, `results` the result of a game, `mates` the shortest mates, `plies` the moves of a game,
-//! and `totals` the last line. `cert_reports` has the lines on certificates that were checked. Each call that gives a text takes
+//! `styles` has what is printed in each style, that in JSON by `json_report`, and `blocks` the style of blocks: `findings` what is
+//! found about a position, `scans` from where on a game was dead, `results` the result of a game, `mates` the shortest mates,
+//! `plies` the moves of a game, and `totals` the last line. `cert_reports` has the lines on certificates that were checked. Each call that gives a text takes
 //! memory for it, and its only error is want of memory.
 #![tactic(auto)]
 
 mod blocks;
 mod cert_reports;
 mod findings;
-mod forms;
 mod mates;
 mod plies;
 mod results;
@@ -18,5 +17,4 @@ mod styles;
 mod totals;
 
 pub use cert_reports::{accepted_line, failing_line, misfit_line};
-pub use forms::{BlockForm, Notation};
-pub use styles::{Style, Subject, put, put_summary};
+pub use styles::{Subject, put, put_summary};

@@ -6,11 +6,11 @@ ghost use Rattle.report_words.specs.LegalLines.{AllLegal, HaveLegalLines};
 ghost use Rattle.flag_report.specs.Mates.{mate_line_text, mate_lines_text, lines_count_text, mates_text};
 
 use crate::findings::put_notated;
-use crate::forms::Notation;
 use cha_board::Position;
 use cha_list::{NoMemory, Text};
 use cha_moves::{Move, Moves};
 use helpmate_list::Shortest;
+use report_style::Notation;
 use report_words::put_count;
 use std::alloc::Global;
 

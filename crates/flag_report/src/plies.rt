@@ -6,12 +6,12 @@ ghost use Rattle.cha_outcome.specs.LegalMoves.{AreLegal, AreLegalFrom};
 ghost use Rattle.flag_report.specs.Plies.{ply_text, ply_texts, moves_part, unreadable_line, why_part, replay_text};
 
 use crate::findings::{put_fen, put_notated};
-use crate::forms::Notation;
 use cha_board::Position;
 use cha_fen::write;
 use cha_list::{NoMemory, Text};
 use cha_moves::{Move, after};
 use cha_outcome::{ReplayedGame, Unreadable};
+use report_style::Notation;
 use report_words::{put_count, put_reason};
 use std::alloc::Global;
 

@@ -3,28 +3,16 @@
 ghost use Rattle.std.specs.Prelude.{◌≡◌, ◌++◌, OnOk};
 ghost use Rattle.cha_outcome.specs.Outcomes.{IsPrintableOutcome};
 ghost use Rattle.report_words.specs.LegalLines.{HasLegalLines};
-ghost use Rattle.flag_report.specs.Styles.{block, last_json_line, summary};
+ghost use Rattle.flag_report.specs.Styles.{block, last_line, summary};
 
 use crate::blocks::put_block;
-use crate::forms::BlockForm;
 use crate::totals::put_totals;
 use cha_list::{NoMemory, Text};
 use cha_outcome::{Outcome, Totals};
-use json_report::{
-    Extras, put_games_line, put_mates_line, put_outcome_line, put_plies_line, put_positions_line,
-};
+use json_report::{put_outcome_line, put_summary_line};
+use report_style::Style;
+use report_words::Column;
 use std::alloc::Global;
-
-/// How a report is printed.
-#[derive(Clone, Copy, Debug, PartialEq, Eq)]
-pub enum Style {
-    /// A block of lines for each outcome, and a last line.
-    Blocks(BlockForm),
-    /// A line in JSON for each outcome, and a last line in JSON.
-    Json(Extras),
-    /// The last line of the blocks alone.
-    SummaryAlone,
-}
 
 /// What a report is about, which its last line counts.
 #[derive(Clone, Copy, Debug, PartialEq, Eq)]
@@ -59,21 +47,20 @@ pub fn put(
     }
 }
 
-/// Appends the last line in JSON.
-fn put_last_json(
+/// Appends what is printed at the end of a report that counts this; `closed` says of a text of games whether it is closed.
+fn put_counts(
     alloc: Global,
-    subject: Subject,
-    closed: bool,
+    style: Style,
+    columns: &[Column],
+    closed: Option<bool>,
     totals: &Totals,
     text: &mut Text,
 ) -> Result<(), NoMemory>
-    ensures { OnOk result (text.new ≡ text.old ++ last_json_line subject closed totals.now) }
+    ensures { OnOk result (text.new ≡ text.old ++ last_line style columns.now closed totals.now) }
 {
-    match subject {
-        Subject::Games => put_games_line(alloc, totals, closed, text),
-        Subject::Positions => put_positions_line(alloc, totals, text),
-        Subject::Mates => put_mates_line(alloc, totals, text),
-        Subject::Plies => put_plies_line(alloc, totals, closed, text),
+    match style {
+        Style::Blocks(_) | Style::SummaryAlone => put_totals(alloc, columns, totals, text),
+        Style::Json(_) => put_summary_line(alloc, columns, closed, totals, text),
     }
 }
 
@@ -88,8 +75,32 @@ pub fn put_summary(
 ) -> Result<(), NoMemory>
     ensures { OnOk result (text.new ≡ text.old ++ summary style subject closed totals.now) }
 {
-    match style {
-        Style::Blocks(_) | Style::SummaryAlone => put_totals(alloc, subject, totals, text),
-        Style::Json(_) => put_last_json(alloc, subject, closed, totals, text),
+    match subject {
+        Subject::Games => {
+            let columns = [
+                Column::Games,
+                Column::Unreadable,
+                Column::Changed,
+                Column::Undecided,
+            ];
+            put_counts(alloc, style, &columns, Some(closed), totals, text)
+        }
+        Subject::Positions => {
+            let columns = [
+                Column::Positions,
+                Column::Refused,
+                Column::Dead,
+                Column::Undecided,
+            ];
+            put_counts(alloc, style, &columns, None, totals, text)
+        }
+        Subject::Mates => {
+            let columns = [Column::Positions, Column::Refused, Column::Found];
+            put_counts(alloc, style, &columns, None, totals, text)
+        }
+        Subject::Plies => {
+            let columns = [Column::Games, Column::Unreadable];
+            put_counts(alloc, style, &columns, Some(closed), totals, text)
+        }
     }
 }

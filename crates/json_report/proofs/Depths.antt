@@ -27,11 +27,12 @@ use Rattle.helpmate_list.specs.declared.answers.Shortest.{Shortest}
 use Rattle.helpmate_list.specs.declared.answers.Shortest.TheVariants.{NoneWithin, Found}
 use Rattle.json.specs.Json.{Members, no_members, max_depth}
 use Rattle.json.specs.Tree.{depth, items_depth, members_depth}
-use Rattle.json_report.specs.declared.extras.Extras.{Extras}
+use Rattle.report_style.specs.declared.styles.Extras.{Extras}
 use Rattle.json_report.specs.declared.grounds.Ground.{Ground}
 use Rattle.json_report.specs.declared.grounds.Ground.TheVariants.{Sets, Men, Graph}
 use Rattle.json_report.specs.Lines.{texts, words_of, fens_of, line_members}
-use Rattle.json_report.specs.Summaries.{games_json, positions_json, mates_json, plies_json}
+use Rattle.json_report.specs.Summaries.{count_members, closed_members, summary_json}
+use Rattle.report_words.specs.declared.columns.Column.{Column}
 use Rattle.cha_outcome.specs.declared.totals.Totals.{Totals}
 use Rattle.json_report.specs.Verdicts.{ground_of, ground_members, cert_members, fen_members, verdict_members}
 use Rattle.json_report.specs.Plies.{ply_items, start_json, plies_from, why_json, replay_members}
@@ -155,19 +156,14 @@ place_low number (Replayed game) more h = omega (arith, h)
 pub outcome_shallow : (extras : Extras) (number : ℕ) (o : Outcome) → depth (outcome_json extras number o) ≤ max_depth
 outcome_shallow extras number o = let low = place_low number o (found_members extras o) (found_low extras o) in omega (arith, low)
 
--- the last lines
-pub games_shallow : (s : Totals) (closed : Bool) → depth (games_json s closed) ≤ max_depth
-unfolding games_json
-games_shallow s closed = omega arith
+-- the last line
+counts_low : (columns : List Column) (s : Totals) (more : Members) → members_depth more ≤ 0 → members_depth (count_members columns s more) ≤ 0
+counts_low [] s more h = h
+counts_low (c ∷ cs) s more h = let rest = counts_low cs s more h in omega (arith, rest)
 
-pub plies_shallow_line : (s : Totals) (closed : Bool) → depth (plies_json s closed) ≤ max_depth
-unfolding plies_json
-plies_shallow_line s closed = omega arith
+closed_low : (closed : Option Bool) → members_depth (closed_members closed) ≤ 0
+closed_low None = omega arith
+closed_low (Some closed) = omega arith
 
-pub positions_shallow : (s : Totals) → depth (positions_json s) ≤ max_depth
-unfolding positions_json
-positions_shallow s = omega arith
-
-pub mates_shallow_line : (s : Totals) → depth (mates_json s) ≤ max_depth
-unfolding mates_json
-mates_shallow_line s = omega arith
+pub summary_shallow : (columns : List Column) (closed : Option Bool) (s : Totals) → depth (summary_json columns closed s) ≤ max_depth
+summary_shallow columns closed s = let low = counts_low columns s (closed_members closed) (closed_low closed) in omega (arith, low)

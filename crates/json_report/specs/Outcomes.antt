@@ -24,7 +24,7 @@ use Rattle.report_words.specs.Reasons.{fen_fault_text, reason_text}
 use Rattle.report_words.specs.Words.{mark_text, status_text}
 use Rattle.json.specs.Json.{Json, null, boolean, string, array, object, Items, no_items, item, Members, no_members, member}
 use Rattle.json_text.specs.Texts.{json_text}
-use Rattle.json_report.specs.declared.extras.Extras.{Extras}
+use Rattle.report_style.specs.declared.styles.Extras.{Extras}
 use Rattle.json_report.specs.Lines.{count, line_members}
 use Rattle.json_report.specs.Plies.{replay_members}
 use Rattle.json_report.specs.Verdicts.{verdict_json}

@@ -11,7 +11,7 @@ use Rattle.cha_moves.specs.Step.{Move}
 use Rattle.cha_verdict.specs.declared.verdicts.Verdict.{Verdict}
 use Rattle.cha_verdict.specs.declared.verdicts.Verdict.TheVariants.{Winnable, Unwinnable, Undecided, Skipped}
 use Rattle.json.specs.Json.{Json, string, array, object, Members, no_members, member}
-use Rattle.json_report.specs.declared.extras.Extras.{Extras}
+use Rattle.report_style.specs.declared.styles.Extras.{Extras}
 use Rattle.json_report.specs.declared.grounds.Ground.{Ground}
 use Rattle.json_report.specs.declared.grounds.Ground.TheVariants as grounds
 use Rattle.mob_small.specs.Reasons.{reason_name}

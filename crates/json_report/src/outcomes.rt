@@ -4,27 +4,27 @@ ghost use Rattle.std.specs.Prelude.{◌≡◌, ◌++◌, OnOk, codes};
 ghost use Rattle.cha_fen.specs.Written.{fen_text};
 ghost use Rattle.cha_outcome.specs.Outcomes.{ArePrintable, IsPrintableOutcome};
 ghost use Rattle.json.specs.Json.{Members, no_members, member, string};
-ghost use Rattle.report_words.specs.Reasons.{fen_fault_text, reason_text};
+ghost use Rattle.report_words.specs.Reasons.{fen_fault_text};
 ghost use Rattle.report_words.specs.Words.{status_text};
 ghost use Rattle.json_report.specs.Lines.{count};
 ghost use Rattle.json_report.specs.Outcomes.{span_members, finding_members, found_members, outcome_json, outcome_line, place_members};
 ghost use Rattle.json_report.specs.Spelled.{IsMember, IsValue, Leads, ReadsAs};
 ghost use Rattle.report_words.specs.LegalLines.{AreOfLegalMoves, HasLegalLines};
 
-use crate::extras::Extras;
 use crate::mates::put_mates;
 use crate::members::{put_count, put_text};
-use crate::plies::put_replay;
+use crate::plies::{put_replay, put_unreadable};
 use crate::results::put_results;
 use crate::verdicts::put_verdict;
 use cha_board::{Color, Position};
 use cha_fen::{FenFault, write};
 use cha_list::{NoMemory, Text};
-use cha_outcome::{Outcome, PositionStatus, Unreadable};
+use cha_outcome::{Outcome, PositionStatus};
 use cha_verdict::Decision;
 use json_text::JsonText;
 use pgn_games::Span;
-use report_words::{put_fen_fault, put_reason, put_status};
+use report_style::Extras;
+use report_words::{put_fen_fault, put_status};
 use std::alloc::Global;
 
 /// Writes the member with the FEN of a position.
@@ -100,15 +100,6 @@ fn put_refused(alloc: Global, fault: FenFault, json: &mut JsonText) -> Result<()
     let mut text = Text::new(alloc);
     put_fen_fault(fault, &mut text)?;
     put_text(b"refused", text.items(), json)
-}
-
-/// Writes the member that says why a game cannot be read.
-fn put_unreadable(alloc: Global, why: &Unreadable, json: &mut JsonText) -> Result<(), NoMemory>
-    ensures { OnOk result (IsMember json.old (codes "unreadable") (string (reason_text why.now)) json.new) }
-{
-    let mut text = Text::new(alloc);
-    put_reason(alloc, why, &mut text)?;
-    put_text(b"unreadable", text.items(), json)
 }
 
 /// Writes the members that say which line of the input a position is, by its number in the report.

@@ -5,6 +5,7 @@ ghost use Rattle.cha_moves.specs.Moves.{legal};
 ghost use Rattle.cha_moves.specs.Texts.{move_bytes};
 ghost use Rattle.cha_outcome.specs.LegalMoves.{AreLegal, AreLegalFrom};
 ghost use Rattle.json.specs.Json.{no_items, no_members, array, string};
+ghost use Rattle.report_words.specs.Reasons.{reason_text};
 ghost use Rattle.json_report.specs.Plies.{ply_json, ply_items, plies_from, replay_members, start_json, why_json};
 ghost use Rattle.json_report.specs.Spelled.{IsMember, IsValue, Leads, ItemsLead};
 
@@ -116,6 +117,15 @@ fn put_start(alloc: Global, start: &Option<Position>, json: &mut JsonText) -> Re
     }
 }
 
+/// Writes the member that says why a game cannot be read.
+pub fn put_unreadable(alloc: Global, why: &Unreadable, json: &mut JsonText) -> Result<(), NoMemory>
+    ensures { OnOk result (IsMember json.old (codes "unreadable") (string (reason_text why.now)) json.new) }
+{
+    let mut text = Text::new(alloc);
+    put_reason(alloc, why, &mut text)?;
+    put_text(b"unreadable", text.items(), json)
+}
+
 /// Writes the member that says why a game cannot be read, if it cannot.
 #[tactic(auto, unfolding(crate::specs::Plies::why_json))]
 fn put_why(alloc: Global, why: &Option<Unreadable>, json: &mut JsonText) -> Result<(), NoMemory>
@@ -123,11 +133,7 @@ fn put_why(alloc: Global, why: &Option<Unreadable>, json: &mut JsonText) -> Resu
 {
     match why {
         None => put_null(b"unreadable", json),
-        Some(why) => {
-            let mut text = Text::new(alloc);
-            put_reason(alloc, why, &mut text)?;
-            put_text(b"unreadable", text.items(), json)
-        }
+        Some(why) => put_unreadable(alloc, why, json),
     }
 }
 

@@ -4,14 +4,13 @@ ghost use Rattle.std.specs.Prelude.{◌≡◌, OnOk, codes};
 ghost use Rattle.cert_text.specs.SharedSpelled.{shared_text};
 ghost use Rattle.cha_cert.specs.Shared.{shared_of};
 ghost use Rattle.cha_verdict.specs.Verdicts.{IsPrintable};
-ghost use Rattle.cha_verdict.specs.declared.verdicts.Verdict.TheVariants.{Winnable, Unwinnable, Undecided};
+ghost use Rattle.cha_verdict.specs.declared.verdicts.Verdict.TheVariants.{Unwinnable};
 ghost use Rattle.json.specs.Json.{no_members, string};
 ghost use Rattle.cha_outcome.specs.LegalMoves.{AreLegal};
 ghost use Rattle.report_words.specs.LegalLines.{IsOfLegalMoves};
 ghost use Rattle.json_report.specs.Spelled.{IsMember, Leads};
 ghost use Rattle.json_report.specs.Verdicts.{cert_members, fen_members, verdict_json, verdict_members};
 
-use crate::extras::Extras;
 use crate::grounds::{ground_of, put_ground};
 use crate::lines::{put_fens, put_line};
 use crate::members::{put_count, put_text};
@@ -22,6 +21,7 @@ use cha_list::NoMemory;
 use cha_moves::Move;
 use cha_verdict::Verdict;
 use json_text::JsonText;
+use report_style::Extras;
 use std::alloc::Global;
 
 /// Writes the positions after the moves of a line, where these are printed.
@@ -39,27 +39,6 @@ fn put_fens_if(
     if fens {
         put_fens(alloc, position, moves, json)?;
     }
-    Ok(())
-}
-
-/// Writes that a side can mate, and how.
-#[tactic(auto, unfolding(crate::specs::Verdicts::verdict_members))]
-fn put_winnable(
-    alloc: Global,
-    extras: Extras,
-    position: &Position,
-    winner: Color,
-    moves: &[Move],
-    json: &mut JsonText,
-) -> Result<(), NoMemory>
-    requires { AreLegal position.now moves.now }
-    ensures { OnOk result (Leads json.old (verdict_members extras position.now winner (Winnable moves.now)) json.new no_members) }
-{
-    let _winner = winner;
-    put_text(b"verdict", b"winnable", json)?;
-    put_count(alloc, b"plies", moves.len() as u64, json)?;
-    put_line(alloc, position, moves, json)?;
-    put_fens_if(alloc, extras.fens, position, moves, json)?;
     Ok(())
 }
 
@@ -91,47 +70,6 @@ fn put_cert_if(
     Ok(())
 }
 
-/// Writes that a side cannot mate, and why.
-#[tactic(auto, unfolding(crate::specs::Verdicts::verdict_members))]
-fn put_unwinnable(
-    alloc: Global,
-    extras: Extras,
-    position: &Position,
-    winner: Color,
-    cert: &Cert,
-    json: &mut JsonText,
-) -> Result<(), NoMemory>
-    requires { IsPrintable (Unwinnable cert.now) }
-    ensures { OnOk result (Leads json.old (verdict_members extras position.now winner (Unwinnable cert.now)) json.new no_members) }
-{
-    let _position = position;
-    put_text(b"verdict", b"unwinnable", json)?;
-    let nodes = cert.nodes();
-    put_ground(alloc, ground_of(nodes), nodes.len(), json)?;
-    put_cert_if(alloc, extras.certs, winner, cert, json)?;
-    Ok(())
-}
-
-/// Writes what a search spent that found nothing.
-fn put_undecided(
-    alloc: Global,
-    extras: Extras,
-    position: &Position,
-    winner: Color,
-    units: u32,
-    depth: u8,
-    json: &mut JsonText,
-) -> Result<(), NoMemory>
-    ensures { OnOk result (Leads json.old (verdict_members extras position.now winner (Undecided units depth)) json.new no_members) }
-{
-    let _position = position;
-    let _asked = (extras, winner);
-    put_text(b"verdict", b"undecided", json)?;
-    put_count(alloc, b"positions", u64::from(units), json)?;
-    put_count(alloc, b"depth", u64::from(depth), json)?;
-    Ok(())
-}
-
 /// Writes what is found about a side in a position.
 fn put_found(
     alloc: Global,
@@ -147,11 +85,25 @@ fn put_found(
 {
     match verdict {
         Verdict::Winnable(moves) => {
-            put_winnable(alloc, extras, position, winner, moves.items(), json)
+            let moves = moves.items();
+            put_text(b"verdict", b"winnable", json)?;
+            put_count(alloc, b"plies", moves.len() as u64, json)?;
+            put_line(alloc, position, moves, json)?;
+            put_fens_if(alloc, extras.fens, position, moves, json)?;
+            Ok(())
         }
-        Verdict::Unwinnable(cert) => put_unwinnable(alloc, extras, position, winner, cert, json),
+        Verdict::Unwinnable(cert) => {
+            let nodes = cert.nodes();
+            put_text(b"verdict", b"unwinnable", json)?;
+            put_ground(alloc, ground_of(nodes), nodes.len(), json)?;
+            put_cert_if(alloc, extras.certs, winner, cert, json)?;
+            Ok(())
+        }
         Verdict::Undecided { units, depth } => {
-            put_undecided(alloc, extras, position, winner, *units, *depth, json)
+            put_text(b"verdict", b"undecided", json)?;
+            put_count(alloc, b"positions", u64::from(*units), json)?;
+            put_count(alloc, b"depth", u64::from(*depth), json)?;
+            Ok(())
         }
         Verdict::Skipped => {
             put_text(b"verdict", b"skipped", json)?;

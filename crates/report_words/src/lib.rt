@@ -1,10 +1,12 @@
-//! The words that each style of a report has: why an item cannot be read, the results, the status of a position, and counts.
+//! The words that each style of a report has: why an item cannot be read, the results, the status of a position, and what is counted.
 #![tactic(auto)]
 
+mod columns;
 mod counts;
 mod reasons;
 mod words;
 
+pub use columns::Column;
 pub use counts::put_count;
 pub use reasons::{put_fen_fault, put_reason};
 pub use words::{put_mark, put_status};

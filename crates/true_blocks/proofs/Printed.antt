@@ -13,9 +13,9 @@ use Rattle.cha_outcome.specs.declared.outcomes.Outcome.{Outcome}
 use Rattle.cha_outcome.specs.declared.outcomes.Outcome.TheVariants.{JudgedPosition, JudgedGame, ListedMates, RefusedLine, UnreadableGame, Replayed}
 use Rattle.cha_outcome.specs.declared.questions.FlaggedDraws.{FlaggedDraws}
 use Rattle.cha_outcome.specs.declared.status.PositionStatus.{PositionStatus}
-use Rattle.flag_report.specs.declared.forms.BlockForm.{BlockForm}
-use Rattle.flag_report.specs.declared.forms.Notation.TheVariants.{Coordinates}
-use Rattle.flag_report.specs.declared.styles.Style.TheVariants.{Blocks}
+use Rattle.report_style.specs.declared.styles.BlockForm.{BlockForm}
+use Rattle.report_style.specs.declared.styles.Notation.TheVariants.{Coordinates}
+use Rattle.report_style.specs.declared.styles.Style.TheVariants.{Blocks}
 use Rattle.flag_report.specs.Blocks.{body}
 use Rattle.flag_report.specs.Findings.{line, verdict_text, winnable_text, cert_part, findings_text}
 use Rattle.flag_report.specs.Scans.{scan_text, scan_part, earlier_part}

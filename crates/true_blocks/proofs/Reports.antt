@@ -7,7 +7,7 @@ use Rattle.cha_outcome.specs.declared.questions.FlaggedDraws.{FlaggedDraws}
 use Rattle.cha_outcome.specs.declared.questions.Question.TheVariants.{Verdicts}
 use Rattle.cha_outcome.specs.Outcomes.{item_of, AllSound}
 use Rattle.cha_outcome.specs.Totals.{totals_of}
-use Rattle.flag_report.specs.declared.styles.Style.TheVariants.{Blocks}
+use Rattle.report_style.specs.declared.styles.Style.TheVariants.{Blocks}
 use Rattle.flag_report.specs.declared.styles.Subject.{Subject}
 use Rattle.flag_report.specs.Styles.{blocks}
 use Rattle.flag_report.specs.Totals.{summary_text}

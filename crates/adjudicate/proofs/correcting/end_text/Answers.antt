@@ -1,5 +1,5 @@
 use Rattle.std.proofs.Common.{ap, ◌∙◌}
-use Rattle.flag_report.specs.declared.styles.Style.TheVariants.{SummaryAlone}
+use Rattle.report_style.specs.declared.styles.Style.TheVariants.{SummaryAlone}
 use Rattle.flag_report.specs.declared.styles.Subject.TheVariants.{Games}
 use Rattle.flag_report.specs.Styles.{summary}
 use Rattle.item_batches.specs.Readers.{KeptItems}

@@ -1,6 +1,6 @@
 -- Which moves of a man give check: where it aims at the king from its new square, or leaves a line to the king, or moves another man
 -- too.
-use Rattle.std.proofs.Common.{◌≡◌, ◌≢◌, ℕ, ◌+◌, ◌-◌, ◌<◌, ◌==◌, Bool, true, false, not, ◌&&◌, ◌||◌, List, length, Option, Some, None, inl, inr, sym, ◌∙◌, ap, subst, arith}
+use Rattle.std.proofs.Common.{◌≡◌, ◌≢◌, ℕ, ◌<◌, ◌==◌, Bool, true, false, not, ◌&&◌, ◌||◌, List, length, Option, Some, None, inl, inr, sym, ◌∙◌, ap, subst, arith}
 use Rattle.std.specs.List.{Contains}
 use Rattle.std.proofs.lemmas.Bool.{and_parts, and_from, and_left, and_right, or_right, eq-eqb, both_ways, cases_Bool, cases_eq, not-true, false_from_ne_true, or_left}
 use Rattle.cha_board.specs.declared.men.Color.{Color}

@@ -1,5 +1,5 @@
 -- Squares on which a man may give check, as sets.
-use Rattle.std.proofs.Common.{◌≡◌, ℕ, ◌+◌, ◌-◌, ◌==◌, Bool, true, false, ◌||◌, List, Option, Some, None, refl, sym, ◌∙◌, ap}
+use Rattle.std.proofs.Common.{◌≡◌, ℕ, ◌==◌, Bool, true, false, ◌||◌, List, Option, Some, None, refl, sym, ◌∙◌, ap}
 use Rattle.std.proofs.Math.Bool.{or_comm, or-true}
 use Rattle.cha_board.specs.declared.men.Color.{Color}
 use Rattle.cha_board.specs.declared.men.Kind.{Kind}

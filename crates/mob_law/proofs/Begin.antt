@@ -13,8 +13,7 @@ facts_begin p s closed = (
     distinct = λ u v man other found found' same. same;
     fixed = λ f h. (refl, refl);
     second = λ u c pawn rank. refl;
-    short = λ c right. (right, refl, refl);
-    long = λ c right. (right, refl, refl);
+    right = λ c w right. (right, refl, refl);
     target = λ t here. AtFirst here refl;
   },
 )

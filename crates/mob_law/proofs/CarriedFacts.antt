@@ -1,5 +1,5 @@
 -- What holds at each position that legal moves reach: the six facts that moves carry along.
-use Rattle.std.proofs.Common.{◌≡◌, ℕ, ◌+◌, ◌-◌, true, Some}
+use Rattle.std.proofs.Common.{◌≡◌, ℕ, true, Some}
 use Rattle.cha_board.specs.declared.men.Color.{Color}
 use Rattle.cha_board.specs.declared.castling.Wing.{Wing}
 use Rattle.cha_board.specs.declared.men.Kind.TheVariants.{Pawn}

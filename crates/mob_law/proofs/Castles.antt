@@ -1,5 +1,5 @@
 -- Castling: the king and its rook go at once, and both leave their origins.
-use Rattle.std.proofs.Common.{◌≡◌, ◌≢◌, ℕ, ◌+◌, ◌-◌, true, false, cond, ◌==◌, List, Option, Some, refl, sym, subst, ap, ◌∙◌, arith, inl}
+use Rattle.std.proofs.Common.{◌≡◌, ◌≢◌, ℕ, true, false, cond, ◌==◌, List, Option, Some, refl, sym, subst, ap, ◌∙◌, inl}
 use Rattle.std.proofs.lemmas.Bool.{and_parts, both_ways, eq-eqb, ne_eqb}
 use Rattle.std.proofs.lemmas.Option.{same_Some}
 use Rattle.cha_board.specs.declared.men.Color.{Color}
@@ -12,7 +12,7 @@ use Rattle.cha_board.specs.declared.castling.Wing.TheVariants.{Kingside, Queensi
 use Rattle.cha_board.specs.Men.{same_kind, is_man}
 use Rattle.cha_board.specs.Board.{Board, man_at, home_of, corner_of, crossing_of, goal_of, is_home}
 use Rattle.cha_moves.specs.Step.{Move}
-use Rattle.cha_moves.specs.Moves.{castles, arriving, moved, king_castles, rook_of, rook_castled, men_after, after}
+use Rattle.cha_moves.specs.Moves.{castles, arriving, king_castles, rook_of, rook_castled, men_after, after}
 use Rattle.cha_board.proofs.Identity.{man_of, is_man_from}
 use Rattle.cha_moves.proofs.Made.{Step, moved_other, men_moved}
 use Rattle.cha_moves.proofs.Kept.{Castling, castling_of, castling_tests, stays_man}

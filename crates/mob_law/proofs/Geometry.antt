@@ -1,5 +1,5 @@
 -- Squares next to each other, and what lies between squares, by tables over all pairs of squares.
-use Rattle.std.proofs.Common.{◌≡◌, ℕ, ◌+◌, ◌-◌, ◌<◌, ◌≢◌, Bool, true, false, not, ◌&&◌, ◌||◌, ◌==◌, List, [], ◌∷◌, refl}
+use Rattle.std.proofs.Common.{◌≡◌, ℕ, ◌<◌, ◌≢◌, Bool, true, false, not, ◌&&◌, ◌||◌, ◌==◌, List, [], ◌∷◌, refl}
 use Rattle.std.specs.List.{list_all}
 use Rattle.std.proofs.lemmas.Bool.{and_parts, both_ways, eq-eqb, not-true}
 use Rattle.cha_board.specs.declared.men.Color.{Color}
@@ -11,7 +11,7 @@ use Rattle.cha_board.specs.declared.castling.Wing.TheVariants.{Kingside, Queensi
 use Rattle.cha_board.specs.Board.{home_of, goal_of}
 use Rattle.cha_board.specs.Squares.{squares, files_apart, ranks_apart, steps_apart, is_straight, is_diagonal, is_line, aims_at, is_within, lies_between, between}
 use Rattle.cha_board.proofs.Identity.{if_at}
-use Rattle.cha_board.proofs.Scans.{all_squares_at, pair_at}
+use Rattle.cha_board.proofs.Scans.{pair_at}
 use Rattle.cha_moves.proofs.Near.{king_aims}
 use Rattle.cha_moves.proofs.Goings.{pawn_near}
 use Rattle.mob_law.specs.Reach.{is_leaper}

@@ -38,8 +38,7 @@ facts_here q = (
     distinct = λ u v man other found found' same. same;
     fixed = λ f h. absurd (both_ways (is_fixed q (here q) f) (loose_unfixed q (here q) f refl) h);
     second = λ u c pawn rank. refl;
-    short = λ c right. (right, refl, refl);
-    long = λ c right. (right, refl, refl);
+    right = λ c w right. (right, refl, refl);
     target = λ t now. AtFirst now refl;
   },
 )

@@ -12,6 +12,7 @@ use Rattle.cha_board.specs.Men.{other_color, is_man, is_non_king}
 use Rattle.cha_board.specs.Squares.{squares, files_apart, ranks_apart, steps_apart, is_straight, is_diagonal, is_line, is_rank_ahead, aims_at, is_within, lies_between, between}
 use Rattle.cha_board.specs.Board.{Board, man_at, is_clear, attacks_as, attacked, king_of, in_check, has_one_king, is_pawn_at_end, has_pawn_at_end, no_rights, right_fits}
 use Rattle.cha_board.proofs.Identity.{if_at, all_five, other_other}
+use Rattle.cha_board.proofs.RightLaws.{has-where}
 use Rattle.cha_board.proofs.Scans.{all_squares_at}
 use Rattle.cha_moves.specs.Moves.{is_step, is_double_step, is_pawn_capture, is_en_passant, castles, goes, promotes_well, is_pseudo_legal_as, men_after, is_legal_in, moves_from, all_moves, legal}
 use Rattle.cha_moves.specs.MateLines.{is_mated}

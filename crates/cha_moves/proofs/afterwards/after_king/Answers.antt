@@ -1,4 +1,4 @@
-use Rattle.std.proofs.Common.{◌≡◌, ◌<◌, ◌≤◌, refl, ap, ◌∙◌, arith}
+use Rattle.std.proofs.Common.{◌≡◌, refl, ap, ◌∙◌, arith}
 use Rattle.cha_board.specs.declared.men.Kind.TheVariants.{King}
 use Rattle.cha_board.specs.Squares.{files_apart}
 use Rattle.cha_moves.specs.Step.{Move}

@@ -1,4 +1,3 @@
-use Rattle.std.proofs.Common.{◌∙◌}
 use Rattle.cha_moves.proofs.Touched.{rights_lacking}
 use Rattle.cha_moves.proofs.makes.rights_left.Goals as goal
 

@@ -13,7 +13,7 @@ use Rattle.cha_moves.specs.MateLines.{mate_lines}
 use Rattle.cha_moves.proofs.Contained.{not_in_nothing, Contains-cons_cases, Contains-cons_here, Contains-cons_there}
 use Rattle.cha_moves.proofs.MateLines.{mating_line}
 use Rattle.helpmate_list.specs.Shortest.{most_lines, HasNoMateBelow, found_or, shortest_from, shortest}
-use Rattle.helpmate_list.specs.ToMove.{mover_after}
+use Rattle.helpmate_list.proofs.ToMove.{mover_after}
 use Rattle.helpmate_list.specs.declared.answers.Shortest.{Shortest}
 use Rattle.helpmate_list.specs.declared.answers.Shortest.TheVariants.{NoneWithin, Found}
 use Rattle.helpmate_list.proofs.Mating.{no_lines, none_within, none_below_more}

@@ -1,4 +1,5 @@
-pub mod Taking
-pub mod Mating
 pub mod Dealing
 pub mod Deepening
+pub mod Mating
+pub mod Taking
+pub mod ToMove

@@ -2,4 +2,3 @@
 pub mod Shortest
 pub mod Parts
 -- inside the crate
-pub mod ToMove

@@ -15,7 +15,7 @@ use Rattle.pgn_lex.specs.declared.stages.Next.{Next}
 use Rattle.pgn_lex.specs.declared.stages.Next.TheVariants.{Stays, Over}
 use Rattle.pgn_lex.specs.Tokens.{piece, placed, line_after, tokens_after, has_mark, tokens, settled_after, has_half_mark, settled_tokens}
 use Rattle.pgn_lex.specs.Stages.{begun, next_stage, word_after, grown_value}
-use Rattle.pgn_lex.specs.Left.{left_of_piece}
+use Rattle.pgn_lex.proofs.Left.{left_of_piece}
 use Rattle.pgn_lex.proofs.Following.{is_plain, FollowsAt, follows, ends_there}
 use Rattle.pgn_lex.proofs.Feeding.{begins, begun_plain, settled_first}
 use Rattle.pgn_games.specs.declared.played.PlacedGame.{PlacedGame}

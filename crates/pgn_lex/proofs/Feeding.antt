@@ -19,7 +19,7 @@ use Rattle.pgn_lex.specs.Pieces.{is_white, silent_piece, spoken_piece, line_piec
 use Rattle.pgn_lex.specs.Tags.{tag_piece}
 use Rattle.pgn_lex.specs.Tokens.{piece, placed, line_after, tokens_after, has_mark, tokens, settled_after, has_half_mark, settled_tokens}
 use Rattle.pgn_lex.specs.Stages.{run_on, begun, next_stage, token_at, tokens_at, begins_line, Machine, at_front, stepped, said_at, read_from, said_from, machine}
-use Rattle.pgn_lex.specs.Left.{left_of_piece, gives_at, settles_at, one_more}
+use Rattle.pgn_lex.proofs.Left.{left_of_piece, gives_at, settles_at, one_more}
 use Rattle.pgn_lex.proofs.Following.{is_plain, FollowsAt, follows, ends_with, ends_there}
 
 abbrev pub piece_gives : Machine → Piece → List ℕ → List Placed

@@ -14,9 +14,9 @@ use Rattle.pgn_lex.specs.declared.stages.Next.TheVariants.{Stays, Over}
 use Rattle.pgn_lex.specs.Pieces.{silent_piece, spoken_piece, line_piece, comment_piece, annotation_piece, word_token}
 use Rattle.pgn_lex.specs.Tags.{Read, onto, past_byte, name_at, value_after, tag_at, tag_or_line}
 use Rattle.pgn_lex.specs.Values.{onto_all}
-use Rattle.pgn_lex.specs.TagStages.{tag_valued, tag_in_value, tag_named, tag_in_name}
+use Rattle.pgn_lex.proofs.TagStages.{tag_valued, tag_in_value, tag_named, tag_in_name}
 use Rattle.pgn_lex.specs.Stages.{run_on, spoils, after_part, in_value, past_backslash, next_stage, token_at, word_after, value_from, grown_value, begins_line}
-use Rattle.pgn_lex.specs.Left.{left_of_piece, one_more}
+use Rattle.pgn_lex.proofs.Left.{left_of_piece, one_more}
 use Rattle.pgn_lex.proofs.Keeping.{onto_one, onto_two}
 use Rattle.pgn_lex.proofs.Runs.{run_grows, run_ends, in_line}
 use Rattle.pgn_lex.proofs.TagSteps.{valued_blank, valued_closes, valued_breaks, value_goes_on, value_closes, value_breaks, named_blank, named_opens, named_breaks, name_goes_on, name_ends, opened_blank, opened_name, opened_breaks, tag_falls}

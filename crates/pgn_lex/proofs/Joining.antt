@@ -12,7 +12,7 @@ use Rattle.pgn_lex.specs.declared.stages.Stage.TheVariants.{Start, MarkBegun, Ma
 use Rattle.pgn_lex.specs.Tokens.{piece, placed, line_after, tokens_after, has_mark, tokens, settled_tokens}
 use Rattle.pgn_lex.specs.Lines.{line_feeds, ends_line}
 use Rattle.pgn_lex.specs.Stages.{tokens_at, token_at, Machine, at_front, read_from, machine}
-use Rattle.pgn_lex.specs.Left.{left_of_piece, gives_at}
+use Rattle.pgn_lex.proofs.Left.{left_of_piece, gives_at}
 use Rattle.pgn_lex.proofs.Feeding.{WellMarked, unmarked, settled_first, ended_tokens, at_length, line_from, well_read, read_more}
 use Rattle.pgn_lex.proofs.Following.{is_plain}
 use Rattle.pgn_lex.proofs.LineEnds.{is_line_stage, machine_first, plain_first, unmarked_line, line_stage}

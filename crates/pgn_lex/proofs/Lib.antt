@@ -7,9 +7,11 @@ pub mod Joining
 pub mod Keeping
 pub mod Kept
 pub mod KeptWords
+pub mod Left
 pub mod LineEnds
 pub mod Passing
 pub mod Runs
 pub mod TagParts
 pub mod TagRests
+pub mod TagStages
 pub mod TagSteps

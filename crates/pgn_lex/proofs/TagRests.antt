@@ -6,7 +6,7 @@ use Rattle.cha_list.specs.Bytes.{in_class}
 use Rattle.pgn_lex.specs.declared.classes.PgnClass.TheVariants.{NameByte}
 use Rattle.pgn_lex.specs.Classes.{in_pgn_class}
 use Rattle.pgn_lex.specs.Tags.{◌>>=◌, Read, TagRead, onto, past_blanks, past_byte, name_at, value_after, tag_at}
-use Rattle.pgn_lex.specs.TagStages.{tag_valued, tag_in_value, tag_named, tag_in_name}
+use Rattle.pgn_lex.proofs.TagStages.{tag_valued, tag_in_value, tag_named, tag_in_name}
 
 -- a chain that answers
 bind_some : {A B : Type 0} (o : Option A) (f : A → Option B) (y : B) → (o >>= f) ≡ Some y → (x : A) × (o ≡ Some x) × (f x ≡ Some y)

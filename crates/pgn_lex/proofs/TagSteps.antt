@@ -10,8 +10,8 @@ use Rattle.pgn_lex.specs.declared.kinds.Token.TheVariants.{BadTag}
 use Rattle.pgn_lex.specs.Pieces.{spoken_piece}
 use Rattle.pgn_lex.specs.Tags.{◌>>=◌, Read, TagRead, past_blanks, past_byte, name_at, value_after, tag_at, tag_or_line}
 use Rattle.pgn_lex.specs.Values.{onto_all}
-use Rattle.pgn_lex.specs.TagStages.{tag_valued, tag_in_value, tag_named, tag_in_name}
-use Rattle.pgn_lex.specs.Left.{one_more}
+use Rattle.pgn_lex.proofs.TagStages.{tag_valued, tag_in_value, tag_named, tag_in_name}
+use Rattle.pgn_lex.proofs.Left.{one_more}
 use Rattle.pgn_lex.proofs.Runs.{run_grows, run_ends}
 
 blank_on : (b : ℕ) (bs : List ℕ) → in_class Blank b ≡ true → past_blanks (b ∷ bs) ≡ past_blanks bs

@@ -6,8 +6,6 @@ pub mod Pieces
 pub mod Tags
 pub mod Tokens
 -- what only loops and lemmas use
-pub mod Left
 pub mod Stages
-pub mod TagStages
 pub mod Told
 pub mod Values

@@ -3,7 +3,7 @@ use Rattle.std.proofs.Common.{◌≡◌, ℕ, List, [], ◌∷◌, ◌++◌, sym
 use Rattle.pgn_lex.specs.declared.stages.Next.TheVariants.{Over}
 use Rattle.pgn_lex.specs.Tokens.{tokens_after, tokens, settled_tokens}
 use Rattle.pgn_lex.specs.Stages.{next_stage, Machine, stepped, said_at, machine}
-use Rattle.pgn_lex.specs.Left.{gives_at}
+use Rattle.pgn_lex.proofs.Left.{gives_at}
 use Rattle.pgn_lex.proofs.Feeding.{fresh_gives, settled_first, ended_tokens, machine_more, settled_more}
 
 pub boundary : (a : List ℕ) (b : ℕ) (bs : List ℕ) → next_stage (machine a).stage b ≡ Over

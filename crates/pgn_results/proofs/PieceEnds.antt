@@ -8,7 +8,7 @@ use Rattle.pgn_lex.specs.declared.stages.Next.{Next}
 use Rattle.pgn_lex.specs.declared.stages.Next.TheVariants.{Stays, Over}
 use Rattle.pgn_lex.specs.Tokens.{piece, line_after, tokens_after}
 use Rattle.pgn_lex.specs.Stages.{next_stage, Machine, stepped, read_from, machine}
-use Rattle.pgn_lex.specs.Left.{left_of_piece}
+use Rattle.pgn_lex.proofs.Left.{left_of_piece}
 use Rattle.pgn_lex.proofs.Following.{is_plain, FollowsAt, follows}
 use Rattle.pgn_lex.proofs.Feeding.{begins, begun_plain, machine_more, read_more}
 use Rattle.pgn_results.proofs.Standing.{From, after_from}

@@ -1,6 +1,6 @@
 use Rattle.std.proofs.Common.{◌≡◌, ◌+◌, ◌-◌}
 use Rattle.helpmate_list.specs.Shortest.{HasNoMateBelow, shortest, shortest_from}
-use Rattle.helpmate_list.specs.ToMove.{mover_after}
+use Rattle.helpmate_list.proofs.ToMove.{mover_after}
 use Rattle.helpmate_list.proofs.least.least_mates.Given as goal
 
 abbrev pub invariant-loop-plies : goal.invariant-loop-plies

@@ -13,7 +13,7 @@ use Rattle.pgn_lex.specs.declared.stages.Stage.TheVariants.{Start, MarkBegun, Ma
 use Rattle.pgn_lex.specs.Pieces.{silent_piece, spoken_piece, line_piece, comment_piece, annotation_piece, word_token}
 use Rattle.pgn_lex.specs.Tags.{tag_at, tag_or_line}
 use Rattle.pgn_lex.specs.Tokens.{placed, tokens_after, settled_after, tokens, settled_tokens}
-use Rattle.pgn_lex.specs.TagStages.{tag_valued, tag_in_value, tag_named, tag_in_name}
+use Rattle.pgn_lex.proofs.TagStages.{tag_valued, tag_in_value, tag_named, tag_in_name}
 use Rattle.pgn_lex.specs.Stages.{Machine}
 
 -- what is left of the piece that is being read

@@ -4,38 +4,29 @@ ghost use Rattle.std.specs.Prelude.{◌≡◌, ◌≢◌, ◌≤◌, [], IfOk};
 ghost use Rattle.cha_fact.specs.Entries.{IsOfKey};
 ghost use Rattle.shard_table.specs.Shards.{Probes, Stores};
 
-use crate::{cached, listed};
+use crate::row_list::RowList;
 use cha_fact::{Key, Probe, Proved, Stored};
 use cha_list::NoMemory;
-use lru::LruCache;
 use std::alloc::Global;
 use std::marker::Model;
-use std::num::NonZeroUsize;
 
 /// A bounded list of facts, each under its own key, the most recently used first. Where it is full and a new key comes, the fact
 /// that was used longest ago is evicted.
 ///
 /// Contracts see the list, and how many rows it may have. Room for all of them is made with the shard, so that each row that
 /// is given is kept. They lie in a cache that takes memory as it fills; where it is refused some, they move into that room,
-/// where a look-up goes row by row.
+/// where a look-up goes row by row. A shard is one word, so that it is moved fast where passes take turns at it.
 #[derive(Drop)]
 pub struct Shard {
-    cache: LruCache<Key, Proved>,
-    listed: Vec<Proved>,
-    entries: u32,
-    alloc: Global,
+    list: Box<RowList>,
 }
 
 impl Model for Shard {
-    ghost use Rattle.std.specs.Prelude.{◌++◌};
-    ghost use Rattle.std.specs.Vec.{vec_capacity};
-    ghost use Rattle.shard_table.specs.ShardRows.{Rows, rows_of, AreKept};
+    ghost use Rattle.shard_table.specs.ShardRows.{Rows};
 
     ghost Value = { Rows };
 
-    ghost view = { λ s. record { rows = s.listed.items ++ rows_of s.cache.entries; entries = s.entries } };
-
-    ghost invariant = { λ s. AreKept s.entries s.cache.cap s.cache.entries (vec_capacity s.listed) s.listed.items };
+    ghost view = { λ s. s.list.value };
 }
 
 impl Shard {
@@ -45,17 +36,9 @@ impl Shard {
         requires few { entries ≤ 65536 }
         ensures { IfOk result (λ shard. shard ≡ record { rows = []; entries = entries }) }
     {
-        let Some(most) = NonZeroUsize::new(entries as usize) else {
-            unreachable!()
-        };
-        let listed = Vec::with_capacity(alloc, entries as usize)?;
-        let cache = LruCache::sparse(alloc, most)?;
-        Ok(Shard {
-            cache,
-            listed,
-            entries,
-            alloc,
-        })
+        let list = RowList::new(alloc, entries)?;
+        let list = Box::new(alloc, list)?;
+        Ok(Shard { list })
     }
 
     /// Asks for the row of a key, which then is the most recently used. It takes memory for the line of a mate alone; where
@@ -65,10 +48,7 @@ impl Shard {
         ensures of_key { IsOfKey key.now result }
         ensures entries { self.new.entries ≡ self.old.entries }
     {
-        if self.listed.is_empty() {
-            return cached::probe(self.alloc, &mut self.cache, key);
-        }
-        listed::probe(self.alloc, &mut self.listed, key)
+        self.list.probe(key)
     }
 
     /// Stores a row. One under the same key is replaced only by a row that says more. It is never dropped, even where memory is
@@ -78,22 +58,13 @@ impl Shard {
         ensures kept { result ≢ Stored.Dropped }
         ensures entries { self.new.entries ≡ self.old.entries }
     {
-        if self.listed.is_empty() {
-            return match cached::store(&mut self.cache, row) {
-                Ok(stored) => stored,
-                Err(row) => {
-                    listed::move_rows(&mut self.cache, &mut self.listed);
-                    listed::store(&mut self.listed, self.entries, row)
-                }
-            };
-        }
-        listed::store(&mut self.listed, self.entries, row)
+        self.list.store(row)
     }
 
     /// How many rows it may have.
     pub fn entries(&self) -> u32
         ensures { result ≡ self.now.entries }
     {
-        self.entries
+        self.list.entries()
     }
 }

@@ -10,6 +10,6 @@ returns-in-Some-clause-found g c =
 pub returns-in-Some-clause-calls : goal.returns-in-Some-clause-calls
 returns-in-Some-clause-calls g c = asked_first g.C.Facts.made g.met.C.Facts.both_made c.args.crew.now c.ask-known.new.facts c.args.position.now c.args.winner c.ask-known.result _ c.ask-known.ensures.entered
 
-pub returns-in-None-clause-calls : goal.returns-in-None-clause-calls
-returns-in-None-clause-calls g c =
+pub returns-clause-calls : goal.returns-clause-calls
+returns-clause-calls g c =
     asked_then g.C.Facts.made g.met.C.Facts.both_made c.args.crew.now c.ask-known.new.facts c.deepened.new.crew c.args.position.now c.args.winner c.ask-known.result _ c.ask-known.ensures.entered c.deepened.ensures.calls

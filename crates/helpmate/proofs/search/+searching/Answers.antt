@@ -145,4 +145,3 @@ search_deep-returns-clause-calls g t c =
     let units = c.args.left.now - c.expand-in-Refused.new.left in
     expanded g.F.Facts.made c.args.facts.now c.ask.new.facts c.expand-in-Refused.new.facts q w c.args.depth units c.ask.result c.expand-in-Refused.result g.met.F.Facts.both_made c.ask.ensures.entered
     c.expand-in-Refused.ensures.calls c.requires.some (refused q w c.args.depth units c.ask.result c.in-Refused.is)
-

@@ -1,7 +1,7 @@
 use Rattle.std.proofs.Common.{ap, sym, subst, ◌∙◌, inl, arith, length}
 use Rattle.shard_table.specs.ShardRows.{AreKeyed}
 use Rattle.shard_table.proofs.Rowing.{keyed_none}
-use Rattle.shard_table.proofs.shard.Shard.new.Goals as goal
+use Rattle.shard_table.proofs.row_list.RowList.new.Goals as goal
 
 pub invariant_of-result : goal.invariant_of-result
 invariant_of-result c =

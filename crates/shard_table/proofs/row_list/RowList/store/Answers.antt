@@ -1,7 +1,7 @@
 use Rattle.std.proofs.Common.{inr, arith, ◌∙◌, sym, subst}
 use Rattle.shard_table.specs.ShardRows.{AreKeyed}
 use Rattle.shard_table.proofs.Rowing.{keyed_none}
-use Rattle.shard_table.proofs.shard.Shard.store.Goals as goal
+use Rattle.shard_table.proofs.row_list.RowList.store.Goals as goal
 
 pub invariant_of-self-in-Err : goal.invariant_of-self-in-Err
 invariant_of-self-in-Err c = record {

@@ -1,5 +1,5 @@
 -- Which legal moves fit what a word says of one of them: that one alone.
-use Rattle.std.proofs.Common.{◌≡◌, ℕ, ◌+◌, ◌-◌, ◌==◌, ◌&&◌, ◌||◌, ◌⊎◌, inl, inr, Bool, true, false, not, List, [], ◌∷◌, length, Option, Some, None, Ok, refl, sym, ap, subst, ◌∙◌, arith}
+use Rattle.std.proofs.Common.{◌≡◌, ℕ, ◌+◌, ◌-◌, ◌==◌, ◌&&◌, ◌⊎◌, inl, inr, Bool, true, false, not, List, [], ◌∷◌, length, Option, Some, None, Ok, refl, sym, ap, subst, ◌∙◌, arith}
 use Rattle.std.specs.List.{filter, Contains}
 use Rattle.std.proofs.lemmas.Bool.{and_parts, eqb-true, eq-eqb}
 use Rattle.cha_list.specs.Distinct.{AreDistinct}
@@ -9,7 +9,7 @@ use Rattle.cha_board.specs.declared.men.Kind.{Kind}
 use Rattle.cha_board.specs.declared.men.Kind.TheVariants.{Pawn, King}
 use Rattle.cha_board.specs.declared.men.Man.{Man}
 use Rattle.cha_board.specs.Men.{same_color, same_kind, is_man}
-use Rattle.cha_board.specs.Squares.{file_of, rank_of, files_apart, aims_at, last_rank}
+use Rattle.cha_board.specs.Squares.{file_of, rank_of, files_apart, last_rank}
 use Rattle.cha_board.specs.Board.{Board, man_at, home_of}
 use Rattle.cha_board.proofs.Identity.{same_kind_equal, same_kind_self}
 use Rattle.cha_moves.specs.Step.{Move}

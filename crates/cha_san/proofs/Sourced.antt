@@ -16,7 +16,7 @@ use Rattle.cha_board.specs.SquareSets.{set_of, squares_in, set_minus, set_joined
 use Rattle.cha_board.proofs.SetLaws.{same_set}
 use Rattle.cha_board.proofs.Tables.{aims_from_there}
 use Rattle.cha_moves.specs.Step.{Move}
-use Rattle.cha_moves.specs.Moves.{second_rank, fourth_rank, middle, is_step, is_double_step, is_pawn_capture, is_en_passant, is_target, castles, goes, promotes_well, is_legal_in, moves_between, moves_from, all_moves, legal}
+use Rattle.cha_moves.specs.Moves.{second_rank, fourth_rank, middle, is_step, is_double_step, is_pawn_capture, is_en_passant, is_target, goes, promotes_well, is_legal_in, moves_between, moves_from, all_moves, legal}
 use Rattle.cha_moves.proofs.Made.{Mover}
 use Rattle.cha_moves.proofs.Kept.{castling_tests, king_way}
 use Rattle.cha_moves.proofs.Listed.{mover_in}

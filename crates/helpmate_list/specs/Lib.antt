@@ -1,4 +1,3 @@
 -- what public contracts say
 pub mod Shortest
 pub mod Parts
--- inside the crate

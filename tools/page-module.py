@@ -24,6 +24,8 @@ PROCESSOR = '"no-builtin-bcmp" "no-builtin-memcmp" "no-builtin-strlen" "target-c
 # Attributes that are for the other target, or for the check of types alone.
 DROPPED = re.compile(r' ?"(?:probe-stack|stack-probe-size|rattle-sig)"="[^"]*"')
 OF_THE_OTHER_TARGET = re.compile(r"x86|inteldialect|\basm\b|i386|target-features")
+# No instruction, but a line that the compiler may move no memory access over. The module has one thread, so it goes.
+BARRIER = '  call void asm sideeffect "", "~{memory}"()\n'
 
 
 def run(words, **how):
@@ -47,6 +49,7 @@ def for_webassembly(text):
     text = re.sub(r"^target triple = .*$", TRIPLE, text, flags=re.M)
     text = re.sub(r"^(attributes #\d+ = .*)$", lambda it: DROPPED.sub("", it[1]), text, flags=re.M)
     text = re.sub(r'"target-cpu"="x86-64[^"]*"', PROCESSOR, text)
+    text = text.replace(BARRIER, "")
     for line in text.splitlines():
         # Names are in quotation marks, and may have any word.
         if not line.startswith("source_filename") and OF_THE_OTHER_TARGET.search(re.sub(r'@"[^"]*"|c"[^"]*"', "", line)):

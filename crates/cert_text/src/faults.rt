@@ -15,8 +15,8 @@ pub enum CertKind {
     Winner,
     /// The third line, `nodes N` with N from 1 to 4294967295 in digits without leading zeros.
     Count,
-    /// The line of a node, `inner FEN` or `leaf FEN`, and in version 2 `leaf I FEN` with the number of its sets, `small
-    /// FEN` or `lone FEN`: each FEN as it is written.
+    /// The line of a node, `inner FEN` or `leaf FEN`, and in version 2 `leaf I FEN` with the number of its sets, or the word of
+    /// a `Reason` before the FEN: each FEN as it is written.
     Node,
     /// Behind a leaf's line, `loose H`: H is a set of squares, as sixteen lower-case hexadecimal digits.
     Loose,

@@ -121,7 +121,7 @@ fn put_node_count(alloc: Global, count: u64, text: &mut Text) -> Result<(), NoMe
 /// ```
 ///
 /// Each line ends with a line feed. The sets come first, each once, and a leaf names its sets by their number, from 0. A
-/// node whose men show it alone has the word of the reason and the position: `small FEN`, `lone FEN`. The text is read as the same shared
+/// node whose men show it alone has the word of the `Reason` and the position, as `small FEN`. The text is read as the same shared
 /// certificate again.
 pub fn write2(alloc: Global, winner: Color, cert: &SharedCert) -> Result<Text, NoMemory>
     requires some { 0 < length cert.now.nodes }

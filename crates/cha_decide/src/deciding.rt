@@ -24,8 +24,8 @@ use std::alloc::Global;
 /// positions that can be reached were explored. It is `Undecided` where the whole budget of positions was spent.
 ///
 /// Whatever the search does, a side that is examined is winnable where a mate within two plies exists, unwinnable where
-/// mobility sets, small material or lone minor pieces show it, and never undecided where fewer distinct positions than the budget
-/// can be reached (this project).
+/// mobility sets or the men alone (`Reason`) show it, and never undecided where fewer distinct positions than the budget can be
+/// reached (this project).
 /// The only error is want of memory.
 pub fn decide_by<C: Crew>(
     alloc: Global,

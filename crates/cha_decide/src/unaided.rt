@@ -73,8 +73,8 @@ fn hunted(
     hunted_widely(alloc, position, winner, budget)
 }
 
-/// What is found about a side without a crew: a mate on the board, or one that a first hunt finds, and then whether mobility sets,
-/// small material or lone minor pieces show that there is none, and at last what further hunts find. For a side that is weak the sets
+/// What is found about a side without a crew: a mate on the board, or one that a first hunt finds, and then whether mobility sets
+/// or the men alone (`Reason`) show that there is none, and at last what further hunts find. For a side that is weak the sets
 /// come first. Since a mate that is found excludes that sets or the men show that there is none, nothing is lost by the order.
 ///
 /// The answer depends on the position, the side and the budget alone. `None` says that the side has not mated and that nothing shows

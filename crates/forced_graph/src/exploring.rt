@@ -18,7 +18,7 @@ use std::alloc::Global;
 
 /// Explores what legal moves reach from a position that is no mate for the winner and not statically unwinnable for it, in the
 /// order of a guide. At most `budget` positions are expanded. A position behind a lasting move (`is_lasting`) is a leaf
-/// where closed sets, small material or lone minor pieces show the side unable to mate; a leaf is never expanded and costs
+/// where closed sets or the men alone (`Reason`) show the side unable to mate; a leaf is never expanded and costs
 /// nothing of the budget.
 ///
 /// A place that keeps facts is asked for each position that is expanded; a mate that it knows ends the exploration. Where

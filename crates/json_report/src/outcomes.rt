@@ -225,7 +225,7 @@ fn put_outcome(
 /// ```
 ///
 /// The verdict on a side is an object with the key `verdict`, and behind it what was found: `winnable` with `plies`, `moves`, `san`
-/// and, by `extras`, `fens`; `unwinnable` with `by` (`sets`, `material`, `lone pieces` or `graph`), for a graph `nodes` and, by
+/// and, by `extras`, `fens`; `unwinnable` with `by` (`sets`, `graph` or the name of a `Reason`), for a graph `nodes` and, by
 /// `extras`, `certificate`; `undecided` with `positions` and `depth`; or `skipped`. What is written reads back as the value that is meant. The only error is
 /// want of memory.
 pub fn put_outcome_line(

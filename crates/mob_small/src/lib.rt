@@ -1,10 +1,7 @@
 //! Material with which a side cannot mate, whatever squares its men go to.
 //!
-//! Small material has no pawn, and at most one man beside each king: `mate_free_kinds` has the kinds of men with which
-//! a side cannot mate then, and `verdict` whether a position is small and its side has such men. Lone minor pieces are a
-//! knight beside queens, and bishops of one colour beside rooks, queens and bishops of that colour: `lone_men` has whether a
-//! side cannot mate with the men that are there. `beside` and `one_color` have the men that stand beside the kings. Both
-//! are a `Reason`, and `reasons` has the law that where one of them holds, no series of legal moves mates.
+//! `reasons` has why the men alone show it, each a `Reason`, and the law that where one of them holds, no series of legal moves
+//! mates. The other modules have what each asks: the men that stand beside the kings, and whether a side cannot mate with them.
 #![tactic(auto)]
 
 mod beside;

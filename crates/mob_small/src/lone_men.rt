@@ -1,4 +1,5 @@
-//! The verdict of lone minor pieces.
+//! The verdict of lone minor pieces: a knight beside queens, and bishops of one colour beside rooks, queens and bishops of that
+//! colour.
 
 ghost use Rattle.std.specs.Prelude.{◌↔◌, IsTrue};
 ghost use Rattle.cha_board.specs.declared.men.Kind.TheVariants.{Knight};

@@ -1,4 +1,4 @@
-//! The verdict of small material.
+//! The verdict of small material: no pawn, and at most one man beside each king.
 
 ghost use Rattle.std.specs.Prelude.{◌≢◌, ◌↔◌, Some, IsTrue};
 ghost use Rattle.cha_board.specs.declared.men.Kind.TheVariants.{Pawn, King};

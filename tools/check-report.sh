@@ -16,7 +16,7 @@ export LC_ALL=C
 program=${1:-$(dirname "$0")/../cha}
 [ -x "$(command -v "$program")" ] || { echo "no program: $program" >&2; exit 2; }
 
-count=0 accepted=0 block='' fen='' side='' text='' early=''
+count=0 accepted=0 block='' fen='' side='' text='' early='' before=''
 
 # count_one FAULT: counts a certificate, whose fault is empty where it is accepted
 count_one() {
@@ -25,13 +25,20 @@ count_one() {
     count=$((count + 1)) side='' text=''
 }
 
+# position_of NODE: the FEN of a node's line, behind its kind and, for a leaf, the number of its sets
+position_of() {
+    local rest=${1#* }
+    case $1 in leaf\ *) rest=${rest#* } ;; esac
+    echo "$rest"
+}
+
 # fault: says what is wrong with the certificate in $text, and nothing where it is accepted
 fault() {
     local lines first answer status
     mapfile -t lines <<< "$text"
     first=$(sed -n '/^nodes /{n;p;q;}' <<< "$text")
     [ "${lines[1]-}" = "winner ${side:0:1}" ] || { echo "for another side: ${lines[1]-}"; return; }
-    case $first in "inner $fen" | "small $fen" | "lone $fen" | leaf\ *\ "$fen") ;; *) echo "of another position: $first"; return ;; esac
+    [ "$(position_of "$first")" = "$fen" ] || { echo "of another position: $first"; return; }
     answer=$(printf %s "$text" | "$program" check)
     status=$?
     [ "$status $answer" = "0 accepted ${side:0:1}" ] || echo "${answer:-no answer}, status $status"
@@ -40,10 +47,8 @@ fault() {
 while IFS= read -r line; do
     if [ -n "$text" ]; then
         text+=$line$'\n'
-        case $early$line in
-            whiteleaf\ *) [ -n "$fen" ] || { fen=${line#* } && fen=${fen#* }; } ;;
-            whiteinner\ * | whitesmall\ * | whitelone\ *) [ -n "$fen" ] || fen=${line#* } ;;
-        esac
+        case $early$before in 'whitenodes '*) fen=$(position_of "$line") ;; esac
+        before=$line
         if [ "$line" = end ]; then
             count_one "$(fault)"
             case $early in white) early=black ;; *) early='' ;; esac

@@ -29,10 +29,13 @@ export type Side = "white" | "black";
 export type Result = "1-0" | "0-1" | "1/2-1/2" | "*";
 export type Status = "checkmate" | "stalemate" | "dead" | "live" | "unclear";
 
-/** The verdict on a side. `fens` is there with --fens, `certificate` with --certs. */
+/**
+ * The verdict on a side. `fens` is there with --fens, `certificate` with --certs. `by` is `sets`, `graph`, or what the men alone show, by the
+ * names in the manual; a later version may have further ones.
+ */
 export type Verdict =
     | { verdict: "winnable"; plies: number; moves: string[]; san: string[]; fens?: string[] }
-    | { verdict: "unwinnable"; by: "sets" | "material" | "lone pieces" | "graph"; nodes?: number; certificate?: string }
+    | { verdict: "unwinnable"; by: string; nodes?: number; certificate?: string }
     | { verdict: "undecided"; positions: number; depth: number }
     | { verdict: "skipped" };
 

@@ -14,7 +14,7 @@ class Verdict:
     #: of `winnable`, legal moves of both sides that end in a mate by this one, as `e2e4`, and the same as players write them
     line: List[str] = field(default_factory=list)
     san: List[str] = field(default_factory=list)
-    #: of `unwinnable`, what shows it: `sets`, `material`, `lone pieces` or `graph`, and how many nodes a graph has
+    #: of `unwinnable`, what shows it: `sets`, `graph`, or the name of what the men alone show; and how many nodes a graph has
     by: Optional[str] = None
     nodes: Optional[int] = None
     #: of `unwinnable`, a text that `check` accepts, where certificates were asked for

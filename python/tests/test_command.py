@@ -33,6 +33,13 @@ def test_a_missing_file_ends_the_run_before_it_begins(made: Path, tmp_path: Path
     assert b"none.pgn: No such file" in done.stderr and not (tmp_path / "games.csv").exists()
 
 
+@pytest.mark.parametrize("option, number", [("--depth", 9), ("--depth", 1), ("--budget", 100_001)])
+def test_a_number_out_of_range_ends_the_run_before_it_begins(made: Path, tmp_path: Path, option: str, number: int) -> None:
+    done = run([made, "--to", tmp_path / "games.csv", option, number], status=1)
+    assert f"{option}={number}" in done.stderr.decode() and b"--help shows the ranges" in done.stderr
+    assert not list(tmp_path.glob("games.csv*"))
+
+
 def test_a_folder_is_no_file_of_games(tmp_path: Path) -> None:
     assert b"Is a directory" in run([tmp_path], status=2).stderr
 

@@ -6,7 +6,7 @@ import signal
 import sys
 from typing import Any, Dict, List, NoReturn, Optional, Sequence
 
-from cha._calls import ChaError
+from cha._calls import ChaError, UsageError, report
 from cha.db import state as states
 from cha.db.counts import counted, said
 from cha.db.joining import Judge, Place
@@ -57,6 +57,7 @@ class _Run:
 
     def __init__(self, order: argparse.Namespace) -> None:
         self._order = order
+        self._see_limits()
         self._sizes = [size_of(file) for file in order.files]
         names = ("files", "to", "only", "report", "corrected", "budget", "depth")
         self._key: Dict[str, Any] = {name: getattr(order, name) for name in names}
@@ -66,6 +67,13 @@ class _Run:
         kept = self._kept()
         self._state = kept or State()
         self._outputs: List[Output] = outputs(order.to, order.only, order.report, order.corrected, kept.marks if kept else None)
+
+    def _see_limits(self) -> None:
+        """Sees that the library takes the numbers, before a file is read or written."""
+        try:
+            report(words(self._order.budget, self._order.depth), b"")
+        except UsageError as fault:
+            raise OrderError(f"cha does not take the words {fault}; cha-db --help shows the ranges") from fault
 
     def _see_corrected(self) -> None:
         """Sees that the corrected text takes the place of nothing that is read or written."""

@@ -5,3 +5,4 @@ pub mod Asking
 pub mod Grown
 pub mod Regions
 pub mod HowManyWait
+pub mod Lasting

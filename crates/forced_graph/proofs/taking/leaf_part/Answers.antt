@@ -1,5 +1,6 @@
-use Rattle.std.proofs.Common.{◌<◌, arith}
+use Rattle.std.proofs.Common.{◌<◌, inl, arith}
 use Rattle.node_store.proofs.Paths.{earlier}
+use Rattle.forced_graph.specs.Lasting.{IsLasting}
 use Rattle.forced_graph.proofs.Opening.{open_root, open_quiet, open_unshown, leaf_shown, leaf_men}
 use Rattle.forced_graph.proofs.taking.leaf_part.Goals as goal
 
@@ -13,8 +14,9 @@ position-requires c =
     omega arith
 
 pub returns-then-not-is_lasting-clause-open : goal.returns-then-not-is_lasting-clause-open
+unfolding IsLasting
 returns-then-not-is_lasting-clause-open c =
-    open_quiet c.args.store.now.nodes c.args.name c.args.winner c.in-Some.origin c.position.result c.in-Some.ensures.value c.position.ensures (λ zeroing. let is = c.is_lasting.ensures zeroing in let not = c.if-not-is_lasting.true in cc)
+    open_quiet c.args.store.now.nodes c.args.name c.args.winner c.in-Some.origin c.position.result c.in-Some.ensures.value c.position.ensures (λ zeroing. let is = c.is_lasting.ensures.1 (inl zeroing) in let not = c.if-not-is_lasting.true in cc)
 
 pub returns-in-None-clause-open : goal.returns-in-None-clause-open
 returns-in-None-clause-open c =

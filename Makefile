@@ -1,14 +1,14 @@
 # make            proves and builds the program, and leaves it as ./cha (half an hour or more the first time)
 # make run        judges a sample: by ./cha where it is up to date, else by a build without proofs (a minute)
 # make test       the whole gate: rt ci, and the tests of the library, the Python package, the page, the documents and the release
-# make install    copies the program to PREFIX/bin (PREFIX=/usr/local)
+# make install    copies the program to PREFIX/bin (PREFIX=/usr/local), with the manual page and the completions, which it makes
 # make lib        builds libcha.a and libcha.so; make install-lib copies them, the header and cha.pc
 # make lib-test   runs both from C, under sanitizers, and from Python
 # make rows-test  puts rows with known answers (rows/) to the program and to the library
 # make join-test  cuts files of games apart, judges the pieces and joins their reports (tools/packages games)
 # make wheel      builds Python's wheel, python/dist/cha-*.whl, with the library in it
 # make data-test  tests the Python package: databases, tables, clusters, the wheel in a fresh environment (tools/packages data)
-# make text-test  runs the command lines that the documents print, compares the completions with the usage, and checks certificates of each kind
+# make text-test  runs the command lines that the documents print, asks the completions for the options of the manual, and checks certificates of each kind
 # make page       builds page/dist: the page in one file (also dist/cha.html), and the module for JavaScript; make page-test tests both
 # make dist       makes a release in dist/; make dist-test uses it elsewhere, without the kit
 PREFIX ?= /usr/local
@@ -33,13 +33,19 @@ run:
 test: kit
 	@tools/gate.py
 
-install: cha
+# What is installed beside the program, from the usage that it prints.
+BESIDE = made/cha.1
+
+$(BESIDE): cha docs/cha.1.in tools/beside.py
+	@tools/beside.py ./cha made
+
+install: cha $(BESIDE)
 	install -d $(DESTDIR)$(PREFIX)/bin
 	install -m 755 cha $(DESTDIR)$(PREFIX)/bin/cha
 	install -d $(DESTDIR)$(PREFIX)/share/man/man1 $(DESTDIR)$(PREFIX)/share/bash-completion/completions $(DESTDIR)$(PREFIX)/share/zsh/site-functions
-	install -m 644 docs/cha.1 $(DESTDIR)$(PREFIX)/share/man/man1/cha.1
-	install -m 644 completions/cha.bash $(DESTDIR)$(PREFIX)/share/bash-completion/completions/cha
-	install -m 644 completions/_cha $(DESTDIR)$(PREFIX)/share/zsh/site-functions/_cha
+	install -m 644 made/cha.1 $(DESTDIR)$(PREFIX)/share/man/man1/cha.1
+	install -m 644 made/cha.bash $(DESTDIR)$(PREFIX)/share/bash-completion/completions/cha
+	install -m 644 made/_cha $(DESTDIR)$(PREFIX)/share/zsh/site-functions/_cha
 
 # The library's own code and the few lines of C by which it takes memory.
 LIBRARY = crates/cha_c/out/libcha_c.a
@@ -80,9 +86,9 @@ wheel: lib
 data-test: wheel
 	cd python && PYTHONPATH=$(CURDIR)/python CHA_LIBRARY=$(CURDIR)/libcha.so timeout -k 20 900 $(PYTHON) -m pytest
 
-text-test: cha
+text-test: cha $(BESIDE)
 	tools/printed.py ./cha
-	tools/completions.py --check ./cha
+	tools/beside.py --check made
 	tools/certificates.sh ./cha
 	tools/flowing.py ./cha
 	tools/words.py
@@ -122,4 +128,4 @@ install-lib: lib
 	sed 's|@PREFIX@|$(PREFIX)|; s|@VERSION@|'$$(cat VERSION)'|' library/cha.pc.in > $(DESTDIR)$(PREFIX)/lib/pkgconfig/cha.pc
 
 clean:
-	rm -rf cha libcha.a libcha.so library/test dist page python/dist crates/*/out
+	rm -rf cha libcha.a libcha.so library/test made dist page python/dist crates/*/out

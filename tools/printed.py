@@ -57,7 +57,7 @@ def differences(manual, page):
     """What the manual and the manual page say differently of options and exit statuses."""
     rows = dict(re.findall(r"^\| `(--[\w-]+)[^`]*` \|((?:[^|]*\|){3})", manual, re.M))
     items = {f"-{name}": text for name, text in re.findall(r"^\.It Fl (-[\w-]+).*\n((?:(?!\.It|\.El).*\n)*)", page, re.M)}
-    found = [f"options: {list(rows)} and {list(items)}"] if not rows or list(rows) != list(items) else []
+    found = [f"options: {list(rows)} and {list(items)}"] if not rows or sorted(rows) != sorted(items) else []
     found += [f"{name}: {sorted(numbers(cells))}" for name, cells in rows.items() if numbers(cells) and numbers(cells) != numbers(items.get(name, ""))]
     statuses = re.findall(r"^\| (\d) \|", manual, re.M), re.findall(r"^\.It (\d)$", page, re.M)
     return found + ([f"exit statuses: {statuses}"] if not statuses[0] or statuses[0] != statuses[1] else [])
@@ -66,7 +66,7 @@ def differences(manual, page):
 def main():
     program = os.path.abspath(sys.argv[1] if len(sys.argv) > 1 else os.path.join(TOP, "cha"))
     wrong = run = 0
-    for path in [f"{TOP}/README.md", *sorted(glob.glob(f"{TOP}/docs/*.md")), f"{TOP}/docs/cha.1"]:
+    for path in [f"{TOP}/README.md", *sorted(glob.glob(f"{TOP}/docs/*.md")), f"{TOP}/made/cha.1"]:
         with tempfile.TemporaryDirectory() as room:
             os.symlink(program, f"{room}/cha")
             os.symlink(f"{TOP}/docs", f"{room}/docs")
@@ -84,12 +84,12 @@ def main():
                 if done.returncode != 0 if printed is None else done.stdout.splitlines() != printed:
                     wrong += 1
                     print(f"{os.path.relpath(path, TOP)}: {command}\n--- printed\n" + "\n".join(printed or []) + f"\n--- comes out\n{done.stdout}")
-    texts = [open(f"{TOP}/docs/{name}", encoding="utf-8").read() for name in ("MANUAL.md", "cha.1")]
+    texts = [open(f"{TOP}/{name}", encoding="utf-8").read() for name in ("docs/MANUAL.md", "made/cha.1")]
     run += 1
     unlike = differences(*texts)
     if unlike:
         wrong += 1
-        print("docs/MANUAL.md and docs/cha.1 differ:", *unlike, sep="\n")
+        print("docs/MANUAL.md and made/cha.1 differ:", *unlike, sep="\n")
     print(f"{run - wrong} passed, {wrong} failed")
     return 1 if wrong else 0
 

@@ -51,6 +51,17 @@ impl Kept {
         let _packed = &self.packed;
     }
 
+    /// A copy of it.
+    pub fn copy(&self) -> Kept
+        ensures { result ≡ self.now }
+    {
+        let position = self.position();
+        Kept {
+            packed: self.packed,
+            of: Snapshot::of(&position),
+        }
+    }
+
     /// The five words of the position.
     pub fn packed(&self) -> Packed
         ensures { result.words ≡ words_of self.now }

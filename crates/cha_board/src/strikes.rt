@@ -5,8 +5,8 @@ ghost use Rattle.cha_board.specs.Board.{attacked, has_one_king};
 ghost use Rattle.cha_board.specs.Board.{in_check as in_check_among};
 ghost use Rattle.cha_board.specs.Aims.{struck_by, struck_somehow};
 
+use crate::aiming::{aims, aims_alone};
 use crate::men::{Color, Kind};
-use crate::over::{aims, aims_alone};
 use crate::placement::Men;
 use crate::squares::Square;
 

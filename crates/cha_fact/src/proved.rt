@@ -11,7 +11,7 @@ use crate::fact::Fact;
 use crate::kept_line::KeptLine;
 use crate::key::Key;
 use crate::line::Line;
-use cha_board::{Color, Position};
+use cha_board::{Color, Kept, Position};
 use cha_list::NoMemory;
 use cha_moves::Move;
 use std::alloc::Global;
@@ -21,7 +21,7 @@ use std::marker::Model;
 /// most so many legal moves does.
 #[derive(Drop)]
 pub struct Proved {
-    position: Position,
+    position: Kept,
     winner: Color,
     fact: Fact,
 }
@@ -49,7 +49,7 @@ impl Proved {
     {
         let line = KeptLine::of(alloc, line)?;
         Ok(Proved {
-            position: *position,
+            position: Kept::of(position),
             winner,
             fact: Fact::Mate(line),
         })
@@ -61,7 +61,7 @@ impl Proved {
         ensures { result ≡ record { position = position.now; winner = winner; fact = Fact.NoneWithin depth } }
     {
         Proved {
-            position: *position,
+            position: Kept::of(position),
             winner,
             fact: Fact::NoneWithin(depth),
         }
@@ -94,7 +94,10 @@ impl Proved {
     pub fn key(&self) -> Key
         ensures { result ≡ key_of self.now.position self.now.winner }
     {
-        Key::of(&self.position, self.winner)
+        Key {
+            packed: self.position.packed(),
+            winner: self.winner,
+        }
     }
 
     /// The position.
@@ -103,7 +106,14 @@ impl Proved {
         ensures valid { IsValid result }
     {
         self.position.known();
-        self.position
+        self.position.position()
+    }
+
+    /// Proves to the caller that its position is valid.
+    pub fn known(&self)
+        ensures { IsValid self.now.position }
+    {
+        self.position.known();
     }
 
     /// The side that may mate.
@@ -135,7 +145,7 @@ impl Proved {
     {
         match self.fact.copy(alloc) {
             Ok(fact) => Ok(Proved {
-                position: self.position,
+                position: self.position.copy(),
                 winner: self.winner,
                 fact,
             }),

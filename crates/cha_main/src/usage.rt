@@ -33,15 +33,15 @@ fn about_command(command: Command) -> &'static str {
 /// What an option does.
 fn about_setting(setting: Setting) -> &'static str {
     match setting {
-        Setting::Budget => "positions expanded for a side at most",
+        Setting::Budget => "positions that the exploration expands for a side at most",
         Setting::Workers => "threads that judge side by side and share a search",
-        Setting::Depth => "plies to which mates are looked for in rounds",
-        Setting::Entries => "facts that each shard of the table keeps",
+        Setting::Depth => "plies to which a mate is looked for",
+        Setting::Entries => "positions that each of the eight parts of the table of facts keeps",
         Setting::Certs => "prints the certificate of each side that cannot mate",
         Setting::Json => "prints each block and the summary as a line of JSON",
-        Setting::San => "prints moves as words, as Nf2#",
-        Setting::Fens => "prints the position after each move, with --json",
-        Setting::FlaggedDraws => "examines drawn games in which a flag fell",
+        Setting::San => "prints moves in blocks as players write them, as Nf2#",
+        Setting::Fens => "prints, with --json, the position after each move of a line that mates",
+        Setting::FlaggedDraws => "examines games that are recorded as drawn though a flag fell",
         Setting::Changed => "writes only the games whose result changes",
     }
 }

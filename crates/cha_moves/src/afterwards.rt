@@ -7,11 +7,11 @@ ghost use Rattle.cha_board.specs.SquareSets.{set_of};
 ghost use Rattle.cha_moves.specs.Moves.{moved, rook_castled, is_en_passant, men_after, rights_after, target_after, legal as legal_moves, after as position_after};
 ghost use Rattle.cha_moves.specs.Ways.{is_quiet};
 
+use crate::changes::{men_made, rights_made, target_made};
+use crate::chess_move::Move;
 use crate::goes::goes_en_passant;
 use crate::list::promoting;
-use crate::makes::{men_made, rights_made, target_made};
 use crate::passing::captured_on;
-use crate::step::Move;
 use crate::ways::pawn_steps;
 use cha_board::{
     Color, Kind, Man, Position, Rights, Square, SquareSet, Wing, aims_alone, files_between, homes,

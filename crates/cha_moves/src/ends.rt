@@ -6,7 +6,7 @@ ghost use Rattle.cha_moves.specs.Ends.{IsMated};
 ghost use Rattle.cha_moves.specs.MateLines.{is_mated};
 ghost use Rattle.cha_moves.specs.Standings.{Stands, standing_of};
 
-use crate::some::any_legal;
+use crate::any::any_legal;
 use cha_board::{Color, Position};
 
 /// How a position stands.

@@ -7,10 +7,10 @@ ghost use Rattle.cha_board.specs.SquareSets.{set_of};
 ghost use Rattle.cha_moves.specs.Ways.{is_way};
 ghost use Rattle.cha_moves.specs.Shields.{AreShields, IsFree, men_less, goes_legally};
 
+use crate::chess_move::Move;
 use crate::goes::promotes;
 use crate::safety::{may_pass, stays_safe};
 use crate::shields::Shields;
-use crate::step::Move;
 use crate::ways::own_ways;
 use cha_board::{Color, Kind, Man, Men, Position, Square, SquareSet, aims_alone, aims_at};
 

@@ -8,9 +8,9 @@ ghost use Rattle.cha_moves.specs.Ends.{IsMatingLine};
 ghost use Rattle.cha_moves.specs.MateLines.{mate_lines};
 
 use crate::afterwards::after;
+use crate::chess_move::Move;
 use crate::ends::is_mate;
 use crate::list::is_legal;
-use crate::step::Move;
 use cha_board::{Color, Position};
 
 /// Whether each move is legal in its turn, and the winner's opponent is checkmated after the last.

@@ -8,11 +8,11 @@ ghost use Rattle.cha_board.specs.SquareSets.{set_of};
 ghost use Rattle.cha_moves.specs.Ways.{is_promoted, legal_between};
 ghost use Rattle.cha_moves.specs.Shields.{AreShields, goes_legally};
 
+use crate::chess_move::Move;
 use crate::legally::legal_ways;
 use crate::safety::stays_safe;
 use crate::shields::{Shields, shields_of};
 use crate::sides::promotion_rank;
-use crate::step::Move;
 use crate::ways::is_pseudo_legal;
 use cha_board::{Color, Kind, Man, Position, Square, SquareSet};
 use cha_list::{Listed, NoMemory};

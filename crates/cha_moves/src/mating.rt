@@ -12,10 +12,10 @@ ghost use Rattle.cha_moves.specs.Checks.{HaveScreens};
 
 use crate::afterwards::after;
 use crate::checks::{checks_by, lines_to};
+use crate::chess_move::Move;
 use crate::ends::is_mate;
 use crate::list::{is_legal, promotion};
 use crate::sides::promotion_rank;
-use crate::step::Move;
 use crate::ways::ways_of;
 use cha_board::{Color, Kind, Position, Square, SquareSet};
 

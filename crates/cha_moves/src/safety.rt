@@ -6,9 +6,9 @@ ghost use Rattle.cha_board.specs.declared.men.Color.{Color as Side};
 ghost use Rattle.cha_board.specs.Board.{has_one_king};
 ghost use Rattle.cha_moves.specs.Moves.{is_pseudo_legal, is_en_passant, men_after, is_legal_in};
 
+use crate::changes::men_made;
+use crate::chess_move::Move;
 use crate::goes::goes_en_passant;
-use crate::makes::men_made;
-use crate::step::Move;
 use cha_board::{Men, Position, Square};
 
 /// The men after a move that may be made but for what its king suffers.

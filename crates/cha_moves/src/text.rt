@@ -4,7 +4,7 @@ ghost use Rattle.std.specs.Prelude.{◌≡◌, ◌+◌, ◌≤◌, ◌++◌, len
 ghost use Rattle.cha_board.specs.Letters.{square_text};
 ghost use Rattle.cha_moves.specs.Texts.{promotion_text, move_bytes};
 
-use crate::step::Move;
+use crate::chess_move::Move;
 use arrayvec::ArrayString;
 use cha_board::{Kind, Square};
 

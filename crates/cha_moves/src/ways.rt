@@ -7,9 +7,9 @@ ghost use Rattle.cha_moves.specs.Moves.{is_step, is_double_step, is_pawn_capture
 ghost use Rattle.cha_moves.specs.Moves.{is_pseudo_legal as is_pseudo_legal_in, castles as castles_on};
 ghost use Rattle.cha_moves.specs.Ways.{is_way};
 
+use crate::chess_move::Move;
 use crate::goes::{castles, promotes_well};
 use crate::sides::{first_pawn_rank, promotion_rank};
-use crate::step::Move;
 use cha_board::{Color, Kind, Man, Position, Square, SquareSet, Wing, aims};
 
 /// The squares that the side to move may not enter: those of its own men and that of the other king.

@@ -12,7 +12,7 @@
 #![tactic(auto)]
 
 mod counting;
-mod made;
+mod counting_made;
 mod questions;
 
 use cha_outside::{MOST_BYTES, ReadEnd, ReadFrom, read_all};

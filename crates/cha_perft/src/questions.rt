@@ -1,7 +1,7 @@
 //! A question, which is a position and a depth, and its answer.
 
 use crate::counting::{CountFault, count_lines};
-use crate::made::count_made;
+use crate::counting_made::count_made;
 use cha_board::Position;
 use cha_fen::{FenFault, read};
 use std::alloc::Global;

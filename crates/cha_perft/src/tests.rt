@@ -1,7 +1,7 @@
 //! The two counts against each other and against published ones.
 
 use crate::counting::count_lines;
-use crate::made::count_made;
+use crate::counting_made::count_made;
 use cha_fen::read;
 use std::test::Fail;
 

@@ -5,7 +5,6 @@ ghost use Rattle.cha_outcome.specs.Outcomes.{IsPrintableOutcome};
 ghost use Rattle.report_words.specs.LegalLines.{HasLegalLines};
 ghost use Rattle.flag_report.specs.Styles.{block, last_line, summary};
 
-use crate::blocks::put_block;
 use crate::totals::put_totals;
 use cha_list::{NoMemory, Text};
 use cha_outcome::{Outcome, Totals};
@@ -13,6 +12,10 @@ use json_report::{put_outcome_line, put_summary_line};
 use report_style::Style;
 use report_words::Column;
 use std::alloc::Global;
+
+mod blocks;
+
+use blocks::put_block;
 
 /// What a report is about, which its last line counts.
 #[derive(Clone, Copy, Debug, PartialEq, Eq)]

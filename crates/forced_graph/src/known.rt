@@ -33,7 +33,7 @@ fn mate_of(position: &Position, winner: Color, row: &Proved) -> Option<Line>
 {
     // Keys tell valid positions.
     position.known();
-    let _valid = row.position();
+    row.known();
     match row.fact() {
         Fact::Mate(line) => Some(Line::of(line.moves())),
         Fact::NoneWithin(_) => None,

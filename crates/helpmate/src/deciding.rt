@@ -19,7 +19,7 @@ pub fn decided(position: &Position, winner: Color, row: &Proved, depth: u8) -> O
 {
     // Keys tell valid positions.
     position.known();
-    let _valid = row.position();
+    row.known();
     match row.fact() {
         Fact::Mate(line) => {
             let moves = line.moves();

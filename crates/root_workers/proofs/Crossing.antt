@@ -1,12 +1,9 @@
 -- What the workers share may be shared by threads, and a worker may go to another.
 use denote.Param.Send.{IsSend, IsSync, sendable}
 use Rattle.std.proofs.Crossing.{crosses}
-use Rattle.shard_table.proofs.Sending.{table_pass_send}
-use Rattle.shard_table.proofs.shard.Shard.TheSendSync.{the_send as shard_send}
+use Rattle.shard_table.proofs.Sending.{call_send, reply_send, shard_send, table_pass_send}
 use Rattle.helpmate.below.atomic_table.proofs.shared.Seat.TheSendSync.{the_send as seat_send}
-use Rattle.cha_fact.proofs.calls.FactCall.TheSendSync.{the_send as call_send}
-use Rattle.cha_fact.proofs.calls.FactReply.TheSendSync.{the_send as reply_send}
-use Rattle.cha_moves.specs.contracts.step.Move.{the_row as move_row}
+use Rattle.cha_moves.specs.contracts.chess_move.Move.{the_row as move_row}
 use Rattle.root_workers.proofs.work.Work.TheSendSync.{the_send as work_send}
 use Rattle.root_workers.specs.contracts.task.Task.{the_row as task_row}
 use Rattle.root_workers.specs.contracts.work.Worker.{the_row as worker_row}

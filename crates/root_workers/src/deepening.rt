@@ -156,7 +156,7 @@ fn known_plies(position: &Position, winner: Color, row: &Proved) -> u8
 {
     // Keys tell valid positions.
     position.known();
-    let _valid = row.position();
+    row.known();
     match row.fact() {
         Fact::Mate(_) => 0,
         Fact::NoneWithin(within) => *within,

@@ -88,7 +88,7 @@ impl Table {
         match turn(rt, self, pass, key, FactCall::Probe(*key)) {
             FactReply::Probed(Probe::Found(row)) => {
                 let _fact = row.fact();
-                let _position = row.position();
+                row.known();
                 Probe::Found(row)
             }
             FactReply::Probed(Probe::Miss) => Probe::Miss,

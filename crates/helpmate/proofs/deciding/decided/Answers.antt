@@ -1,4 +1,4 @@
-use Rattle.std.proofs.Common.{sym, ◌∙◌, ap, subst, arith, length, List}
+use Rattle.std.proofs.Common.{refl, sym, ◌∙◌, ap, subst, arith, length, List}
 use Rattle.cha_fact.specs.declared.fact.Fact.TheVariants.{Mate, NoneWithin}
 use Rattle.cha_moves.specs.Step.{Move}
 use Rattle.cha_moves.specs.Ends.{IsMatingLine}
@@ -9,7 +9,7 @@ pub returns-else-moves-gt-MOST_FOUND-clause-holds : goal.returns-else-moves-gt-M
 returns-else-moves-gt-MOST_FOUND-clause-holds c =
     let row = c.args.row.now in
     let mates : IsMatingLine c.args.position.now c.args.winner c.in-Mate.line =
-    true_of_asked c.position-valid.result row.position c.args.position.now row.winner c.args.winner row.fact (Mate c.in-Mate.line) c.position-valid.ensures.valid c.position-valid.ensures.value c.known.ensures c.requires c.fact.ensures.holds (sym c.fact.ensures.value ∙ c.in-Mate.is)
+    true_of_asked row.position row.position c.args.position.now row.winner c.args.winner row.fact (Mate c.in-Mate.line) c.known-2.ensures refl c.known.ensures c.requires c.fact.ensures.holds (sym c.fact.ensures.value ∙ c.in-Mate.is)
     in
     let L : List Move → Type 0 = λ l. IsMatingLine c.args.position.now c.args.winner l in
     let short = c.if-moves-gt-MOST_FOUND.false in
@@ -20,4 +20,4 @@ pub returns-else-within-depth-clause-holds : goal.returns-else-within-depth-clau
 returns-else-within-depth-clause-holds c = λ ms few line.
     let row = c.args.row.now in
     let enough = c.if-within-depth.false in
-    true_of_asked c.position-valid.result row.position c.args.position.now row.winner c.args.winner row.fact (NoneWithin c.in-NoneWithin.within) c.position-valid.ensures.valid c.position-valid.ensures.value c.known.ensures c.requires c.fact.ensures.holds (sym c.fact.ensures.value ∙ c.in-NoneWithin.is) ms (omega arith) line
+    true_of_asked row.position row.position c.args.position.now row.winner c.args.winner row.fact (NoneWithin c.in-NoneWithin.within) c.known-2.ensures refl c.known.ensures c.requires c.fact.ensures.holds (sym c.fact.ensures.value ∙ c.in-NoneWithin.is) ms (omega arith) line

@@ -6,7 +6,7 @@ use Rattle.std.proofs.Common.{[], ◌∷◌, rules}
 use Rattle.std.proofs.Crossing as std_crossing
 use Rattle.shard_table.proofs.Sending.{table_sync}
 use Rattle.root_workers.proofs.Crossing.{move_sync, task_sync, worker_send}
-use Rattle.cha_moves.specs.contracts.step.Move.{the_row as move_row}
+use Rattle.cha_moves.specs.contracts.chess_move.Move.{the_row as move_row}
 use Rattle.root_workers.proofs.many.hand_out.Goals as goal
 
 pub for_each_mut-requires-send-T : goal.for_each_mut-requires-send-T

@@ -45,7 +45,7 @@ returns-in-Probed-Miss-clause-stays g c =
 
 pub returns-in-Probed-Found-clause-holds : goal.returns-in-Probed-Found-clause-holds
 returns-in-Probed-Found-clause-holds g c = λ q winner valid asked.
-    true_of c.in-Probed-Found.row q winner (subst (λ p. IsValid p) c.position-position.ensures.value c.position-position.ensures.valid) valid
+    true_of c.in-Probed-Found.row q winner c.known.ensures valid
     ((let k = shard_number c.args.key.now in
     finds_key (empty c.args.self.now.entries) (pass_at c.args.pass.now k) (pass_at c.turn.new.pass k) c.args.key.now (Found c.in-Probed-Found.row)
     (subst (λ r. TakesTurn k c.args.self.now c.args.pass.now (Asked c.args.key.now) (Probed r) c.turn.new.pass) c.in-Probed-Found.field-0-is c.in-Probed-Found.ensures.turned)) ∙ asked) c.fact-fact.ensures.holds

@@ -17,7 +17,8 @@ GIVEN = sorted(glob.glob(f"{DATA}/*.pgn") + glob.glob(f"{DATA}/*.fen")) if DATA 
 PROGRAM, FILES = sys.argv[1], sys.argv[2:] or SAMPLES + GIVEN
 # The longest that a run of the program or of Node is waited for, in seconds.
 LONGEST = 240
-STYLES = [["--certs"], ["--json"], ["--json", "--fens", "--certs"]]
+# Some options by which reports are printed.
+COMPARED = [["--certs"], ["--json"], ["--json", "--fens", "--certs"]]
 # Asked of the page: the answer for words and an input in base 64, and the output's sum.
 REPORT = """
 const [words, packed, done] = arguments;
@@ -32,7 +33,7 @@ work.ask('report', { words, bytes }, async ({ answer, output }) => {
 def asked_of(file):
     """The orders that are compared for a file."""
     command = "adjudicate" if file.endswith(".pgn") else "position"
-    return [[command, *style] for style in STYLES] + ([["replay", "--json"], ["correct"], ["correct", "--changed"]] if command == "adjudicate" else [])
+    return [[command, *options] for options in COMPARED] + ([["replay", "--json"], ["correct"], ["correct", "--changed"]] if command == "adjudicate" else [])
 
 
 @functools.cache

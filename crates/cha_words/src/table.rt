@@ -38,7 +38,8 @@ pub const COMMANDS: [Command; 7] = [
     Command::Gen,
 ];
 
-/// An option: one that stands with a number, or a flag, which stands alone and counts as the number 1.
+/// An option: one that stands with a number, or a flag, which stands alone and counts as the number 1. What the flags ask of a
+/// report is its style (`Order`).
 #[derive(Clone, Copy, Debug, PartialEq, Eq)]
 pub enum Setting {
     /// `--budget`: how many positions are expanded for a side at most.
@@ -49,13 +50,13 @@ pub enum Setting {
     Depth,
     /// `--entries`: how many rows each shard of the table of facts has at most.
     Entries,
-    /// `--certs`, a flag: whether certificates are printed.
+    /// `--certs`, a flag.
     Certs,
-    /// `--json`, a flag: whether the report is printed in JSON.
+    /// `--json`, a flag.
     Json,
-    /// `--san`, a flag: whether moves are printed as words.
+    /// `--san`, a flag.
     San,
-    /// `--fens`, a flag: whether the position after each move of a line is printed, in JSON.
+    /// `--fens`, a flag.
     Fens,
     /// `--flagged-draws`, a flag: whether drawn games whose flag fell are examined.
     FlaggedDraws,

@@ -1,4 +1,4 @@
-//! The words that each style of a report has: why an item cannot be read, the results, the status of a position, and what is counted.
+//! Words that styles of a report share: why an item cannot be read, the results, the status of a position, and what is counted.
 #![tactic(auto)]
 
 mod columns;

@@ -67,7 +67,7 @@ pub struct Man {
 }
 
 /// Whether what stands on a square is a man of this side.
-pub fn is_of_side(found: Option<Man>, color: Color) -> bool
+pub(crate) fn is_of_side(found: Option<Man>, color: Color) -> bool
     ensures { result ≡ is_of color found }
 {
     match found {
@@ -77,7 +77,7 @@ pub fn is_of_side(found: Option<Man>, color: Color) -> bool
 }
 
 /// Whether what stands on a square is a man of this kind.
-pub fn is_of_kind(found: Option<Man>, kind: Kind) -> bool
+pub(crate) fn is_of_kind(found: Option<Man>, kind: Kind) -> bool
     ensures { result ≡ is_kind kind found }
 {
     match found {

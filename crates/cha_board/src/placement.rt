@@ -256,7 +256,7 @@ impl Men {
 
     /// Whether a side has exactly one king.
     #[tactic(auto, unfolding(crate::specs::Board::has_one_king))]
-    pub fn one_king(&self, of: Color) -> bool
+    pub(crate) fn one_king(&self, of: Color) -> bool
         ensures { result ≡ has_one_king self.now of }
     {
         let _men = &self.kings;

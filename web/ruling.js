@@ -83,7 +83,7 @@ function wordsOfSide(side, found, isPosition) {
             if (found.plies === 0) return [say("has_mated", { side: name }), ""];
             return [say("can_mate", { side: name }), say("can_mate_by", { line: found.san.join(" ") })];
         case "unwinnable":
-            return [say("cannot_mate", { side: name }), say(`why_${found.by}`, { side: name, nodes: counted(found.nodes ?? 0) })];
+            return [say("cannot_mate", { side: name }), why(found, name)];
         case "undecided":
             return [say("undecided", { side: name }), say("undecided_after", { positions: countedPositions(found.positions), depth: found.depth })];
         default:

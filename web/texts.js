@@ -127,6 +127,7 @@ const TEXTS = {
         why_sets: "Whatever both sides play, no man ever leaves certain squares, and no mate for {side} fits into them. Choose a man, here or on the board, to see every square on which it may ever stand.",
         why_material: "With a king and at most one man on each side no arrangement of these men is a mate for {side}, however they stand.",
         "why_lone pieces": "Minor pieces like these never mate alone: beside a king in check some square is always left on which only a man could stand that captures the checker or steps between.",
+        why_men: "The men alone show it, wherever they stand ({by}).",
         why_graph: "Every position that can still arise was looked at, {nodes} in all, and none is a mate for {side}.",
         undecided: "Not decided for {side}",
         undecided_after: "{positions} explored without a mate; there is none within {depth} plies.",
@@ -162,6 +163,12 @@ function say(name, values = {}) {
 function fault(wrong) {
     const name = `fault_${wrong.replace(/^bad FEN: /, "")}`;
     return TEXTS.en[name] ? `${wrong} (${say(name)})` : wrong;
+}
+
+/** What shows that a side cannot mate. A reason that has no text of its own is one of the men alone. */
+function why(found, side) {
+    const name = `why_${found.by}`;
+    return say(TEXTS.en[name] ? name : "why_men", { side, by: found.by, nodes: counted(found.nodes ?? 0) });
 }
 
 /** A count as this language writes it. */

@@ -1,18 +1,14 @@
 -- Runs of orders, whether they report or correct games.
-use Rattle.std.proofs.Common.{◌≡◌, ◌≢◌, ◌⊎◌, inl, inr, ℕ, ◌≤◌, List, [], length, Option, Some, None, refl, sym, subst, arith}
+use Rattle.std.proofs.Common.{inl, ℕ, List, [], Option, refl, sym, arith}
 use Rattle.std.proofs.KnownBytes.{Appends-nil, Consumes-nil}
-use Rattle.cha_outside.specs.Faults.{Rose}
 use Rattle.cha_words.specs.declared.orders.Order.{Order}
 use Rattle.cha_words.specs.declared.orders.Order.TheVariants.{CorrectGames, JudgePositions, CheckCert, GenGames, ListMates}
-use Rattle.cha_words.specs.Language.{limits_in}
-use Rattle.adjudicate.specs.declared.endings.Status.{Status}
-use Rattle.adjudicate.specs.declared.endings.Status.TheVariants.{Done, Usage, ReadFault, WriteFault, TooLong, NoMemory, NotAccepted}
+use Rattle.adjudicate.specs.declared.endings.Status.TheVariants.{NoMemory}
 use Rattle.adjudicate.specs.Jobs.{job}
 use Rattle.adjudicate.specs.Report.{demand}
-use Rattle.adjudicate.specs.Runs.{Outside, outside, IsRunOf}
-use Rattle.item_batches.specs.Items.{most_bytes}
-use Rattle.adjudicate.specs.Corrections.{Correction, correction, Noted}
-use Rattle.adjudicate.specs.Orders.{IsCorrecting, IsRunBy, IsRun}
+use Rattle.adjudicate.specs.Runs.{outside}
+use Rattle.adjudicate.specs.Corrections.{Correction, Noted}
+use Rattle.adjudicate.specs.Orders.{IsCorrecting, IsRun}
 use Rattle.adjudicate.proofs.Fronts.{front_of_none}
 use Rattle.item_batches.specs.Items.{TookAsNeeded}
 use Rattle.item_batches.specs.Readers.{GameItems, KeptItems, LineItems}
@@ -44,8 +40,3 @@ took_none order = took_nothing GameItems
 pub not_begun : (order : Order) (left a : Option (List ℕ)) (f g : ℕ) (notes : Noted) → IsRun order NoMemory (outside left f a g) (outside left f a g) notes notes
 not_begun (CorrectGames limits flagged changed) left a f g notes = nothing_corrected _ (took_nothing KeptItems) left a f g notes
 not_begun order left a f g notes = (not_begun_by (job order) (took_none order) left a f g, refl)
-
--- an order that needs no search reports
-pub plain_run : (order : Order) (s : Status) (before now : Outside) (notes notes' : Noted) → limits_in order ≡ None → IsRunOf (demand order) s before now → notes' ≡ notes → IsRun order s before now notes notes'
-plain_run (CorrectGames limits flagged changed) s before now notes notes' none run same = cc
-plain_run order s before now notes notes' none run same = (run, same)

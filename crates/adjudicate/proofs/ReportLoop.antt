@@ -23,7 +23,7 @@ use Rattle.adjudicate.specs.Statuses.{status_of_end}
 use Rattle.adjudicate.specs.Jobs.{Job}
 use Rattle.adjudicate.specs.Report.{Demand, demand_by, HasBlocks}
 use Rattle.adjudicate.specs.Runs.{Grew, outside, IsRunOf}
-use Rattle.item_batches.specs.Readers.{ItemKind, items_by, settled_by, closed_by, IsAskedOf}
+use Rattle.item_batches.specs.Readers.{ItemKind, items_by, settled_by, closed_by}
 use Rattle.adjudicate.specs.Steps.{job_on}
 use Rattle.adjudicate.proofs.RunEndings.{short_run, long_run}
 use Rattle.item_batches.specs.Items.{TookAsNeeded}
@@ -96,9 +96,6 @@ same_count k k' x n e h = subst (λ b. length (items_by b x) ≤ n) e h
 
 pub same_closed : (k k' : ItemKind) (x : List ℕ) (b : Bool) → k' ≡ k → b ≡ closed_by k' x → b ≡ closed_by k x
 same_closed k k' x b e h = subst (λ t. b ≡ closed_by t x) e h
-
-pub still_asked : (k k' : ItemKind) (question question' : Question) → k' ≡ k → question' ≡ question → IsAskedOf k question → IsAskedOf k' question'
-still_asked k k' question question' e same h = subst (λ b. IsAskedOf b question') (sym e) (subst (λ q. IsAskedOf k q) (sym same) h)
 
 pub same_answers : (question question' : Question) (item : Item) (o : Outcome) → question' ≡ question → Answers question' item o → Answers question item o
 same_answers question question' item o same h = subst (λ q. Answers q item o) same h

@@ -7,17 +7,9 @@ use Rattle.mob_sets.specs.Rows.{SetRows}
 use Rattle.cha_cert.specs.declared.nodes.Node.{Node}
 use Rattle.cha_cert.specs.declared.nodes.Part.TheVariants.{Leaf}
 use Rattle.cha_cert.specs.declared.shared.SharedNode.{SharedNode}
-use Rattle.cha_cert.specs.declared.shared.SharedPart.{SharedPart}
 use Rattle.cha_cert.specs.declared.shared.SharedPart.TheVariants.{Leaf as SharedLeaf}
-use Rattle.cha_cert.specs.Shared.{Shared, AreNamed, no_sets, node_of, part_of, expansion, leaf_added}
+use Rattle.cha_cert.specs.Shared.{Shared, AreNamed, no_sets, node_of, expansion, leaf_added}
 use Rattle.cha_cert.proofs.OnceWritten.{expansion_grown}
-
--- a node that is no leaf
-pub bare_spread : (c d : Shared) (node : Node) (q : Board) (part : SharedPart) → q ≡ node.position → part_of c.sets part ≡ node.part
-    → d ≡ record { sets = c.sets; nodes = c.nodes ++ (record { position = q; part = part }) ∷ [] } → expansion d ≡ expansion c ++ node ∷ []
-bare_spread c d node q part here same added =
-    let own : node_of c.sets (record { position = q; part = part }) ≡ node = λ i. record { position = here i; part = same i } in
-    ap expansion added ∙ map-append (node_of c.sets) c.nodes ((record { position = q; part = part }) ∷ []) ∙ ap (λ n. expansion c ++ n ∷ []) own
 
 -- a leaf, whose sets come last
 pub leaf_spread : (c d : Shared) (node : Node) (q : Board) (s : SetRows) → AreNamed c → q ≡ node.position → node.part ≡ Leaf s → d ≡ leaf_added c q s None

@@ -1,7 +1,6 @@
 -- The moves of one way, which are legal.
 use Rattle.std.proofs.Common.{◌≡◌, ℕ, ◌+◌, ◌<◌, Bool, true, false, cond, List, [], ◌∷◌, Option, Some, None, refl, sym, ap, subst, ◌∙◌, arith}
 use Rattle.std.specs.List.{Contains}
-use Rattle.std.proofs.lemmas.Option.{same_Some}
 use Rattle.cha_board.specs.declared.men.Man.{Man}
 use Rattle.cha_board.specs.declared.men.Kind.{Kind}
 use Rattle.cha_board.specs.declared.men.Kind.TheVariants.{Queen, Rook, Bishop, Knight}
@@ -73,10 +72,6 @@ knight_legal q s t man g promoted = among q s t (Some Knight) (four s t) g.from 
 -- a square is among the last ones exactly where the man is promoted there
 pub promoted_at : (q : Board) (man : Man) (last : List Bool) (t : ℕ) → t < 64 → last ≡ set_of (is_promoted q.side man.kind) → has_square last t ≡ is_promoted q.side man.kind t
 promoted_at q man last t small are = ap (λ (x : List Bool). has_square x t) are ∙ has-set_of (is_promoted q.side man.kind) t small
-
--- the man that stands there is of the kind that is told of it
-pub kind_of : (q : Board) (s : ℕ) (man : Man) → man_at q.men s ≡ Some man → (other : Man) → man_at q.men s ≡ Some other → man.kind ≡ other.kind
-kind_of q s man found other here = ap (λ (x : Man). x.kind) (same_Some man other (sym found ∙ here))
 
 -- what a move that is known asks
 pub asked : (q : Board) (s t : ℕ) (k : Option Kind) (man : Man) (m : Move) → man_at q.men s ≡ Some man → m ≡ move_of s t k → Contains (legal q) (move_of s t k)

@@ -1,6 +1,5 @@
 -- What is ordered once all the words are read.
-use Rattle.std.proofs.Common.{◌≡◌, ℕ, true, [], ◌∷◌, Option, Some, None, is_some, unwrap_or, IsSome, refl, sym, ap, ◌∙◌, arith}
-use Rattle.cha_words.specs.declared.orders.Order.{Order}
+use Rattle.std.proofs.Common.{◌≡◌, ℕ, true, [], ◌∷◌, Option, Some, None, is_some, unwrap_or, IsSome, refl, sym, ap, arith}
 use Rattle.cha_words.specs.declared.chosen.Numbers.{Numbers}
 use Rattle.cha_words.specs.declared.table.Command.{Command}
 use Rattle.cha_words.specs.declared.table.Setting.{Setting}

@@ -9,9 +9,8 @@ use Rattle.cha_board.specs.declared.men.Color.{Color}
 use Rattle.cha_board.specs.declared.men.Color.TheVariants.{White, Black}
 use Rattle.cha_limits.specs.Bounds.{Bounds}
 use Rattle.cha_words.specs.declared.orders.Order.{Order}
-use Rattle.report_style.specs.declared.styles.Notation.TheVariants as notations
 use Rattle.report_style.specs.declared.styles.Style.{Style}
-use Rattle.report_style.specs.declared.styles.Style.TheVariants as styles
+use Rattle.report_style.specs.Asked.{style_asked}
 use Rattle.cha_words.specs.declared.orders.Order.TheVariants.{AdjudicateGames, CorrectGames, JudgePositions, CheckCert, GenGames, ListMates, ReplayGames}
 use Rattle.cha_words.specs.declared.chosen.Numbers.{Numbers}
 use Rattle.cha_words.specs.declared.table.Command.{Command}
@@ -234,9 +233,7 @@ selects n = n.changed == 1
 
 -- how a report is printed, by the numbers of the options
 abbrev pub style : Numbers → Style
-style n =
-    if n.json == 1 then styles.Json (record { certs = n.certs == 1; fens = n.fens == 1 })
-    else styles.Blocks (record { certs = n.certs == 1; notation = if n.san == 1 then notations.San else notations.Coordinates })
+style n = style_asked (record { certs = n.certs == 1; json = n.json == 1; san = n.san == 1; fens = n.fens == 1 })
 
 -- the order of a command, by the numbers of its options and what its further words say
 abbrev pub made : Command → Numbers → Said → Option Order

@@ -9,7 +9,7 @@ use crate::given::Said;
 use crate::table::Command;
 use cha_board::Color;
 use cha_limits::Limits;
-use report_style::{BlockForm, Extras, Notation, Style};
+use report_style::{Asked, Style};
 
 /// What the words order.
 #[derive(Clone, Copy, Debug, PartialEq, Eq)]
@@ -127,19 +127,12 @@ pub fn made(command: Command, numbers: Numbers, said: Said) -> Option<Order>
 fn style(numbers: Numbers) -> Style
     ensures { result ≡ style_by numbers }
 {
-    let certs = numbers.certs == 1;
-    if numbers.json == 1 {
-        return Style::Json(Extras {
-            certs,
-            fens: numbers.fens == 1,
-        });
-    }
-    let notation = if numbers.san == 1 {
-        Notation::San
-    } else {
-        Notation::Coordinates
-    };
-    Style::Blocks(BlockForm { certs, notation })
+    Style::of(Asked {
+        certs: numbers.certs == 1,
+        json: numbers.json == 1,
+        san: numbers.san == 1,
+        fens: numbers.fens == 1,
+    })
 }
 
 /// What a search of verdicts may spend.

@@ -4,7 +4,7 @@ use Rattle.pgn_games.specs.declared.marks.ResultMark.{ResultMark}
 use Rattle.cha_outcome.specs.declared.rulings.Cause.{Cause}
 use Rattle.cha_outcome.specs.declared.rulings.Cause.TheVariants.{Mate511, Stalemate521, Dead522, Flag69, FlagOfMover69, Recorded, RecordedUndecided}
 use Rattle.cha_outcome.specs.declared.rulings.Judgment.{Judgment}
-use Rattle.report_words.specs.Words.{mark_text}
+use Rattle.pgn_games.specs.Cutting.{mark_text}
 use Rattle.flag_report.specs.Findings.{line}
 
 -- why a game has its result: an article of the Laws of Chess, or that it was recorded so

@@ -5,8 +5,7 @@ ghost use Rattle.flag_report.specs.Games.{cause_text, result_line};
 
 use cha_list::{NoMemory, Text};
 use cha_outcome::{Cause, Judgment};
-use pgn_games::ResultMark;
-use report_words::put_mark;
+use pgn_games::{ResultMark, put_mark};
 
 /// Appends why a game has its result.
 #[tactic(auto, unfolding(crate::specs::Games::cause_text))]

@@ -9,14 +9,8 @@ use Rattle.cha_moves.specs.Ends.{HasNoMateWithin}
 use Rattle.cha_fact.specs.declared.fact.Fact.{Fact}
 use Rattle.cha_fact.specs.declared.fact.Fact.TheVariants.{Mate as MateFact, NoneWithin as NoneFact}
 use Rattle.helpmate.specs.declared.answers.RoundAnswer.{RoundAnswer}
-use Rattle.helpmate.specs.declared.answers.RoundAnswer.TheVariants.{Mate, NoneWithin, Spent}
+use Rattle.helpmate.specs.declared.answers.RoundAnswer.TheVariants.{Mate, NoneWithin}
 use Rattle.helpmate.specs.Rounds.{IsAnswer, decided_by}
-
--- an answer for a longest line is one for a longer one
-pub answer_longer : (q : Board) (w : Color) (d most more : ℕ) (a : RoundAnswer) → most ≤ more → IsAnswer q w d most a → IsAnswer q w d more a
-answer_longer q w d most more (Mate line) longer h = (h.0, (let few = h.1 in omega arith))
-answer_longer q w d most more NoneWithin longer h = h
-answer_longer q w d most more Spent longer h = h
 
 mate_or_none : (b : Bool) (line : List Move) → (if b then None else Some (Mate line)) ≡ Some NoneWithin → ⊥
 mate_or_none true line e = cc

@@ -173,15 +173,6 @@ not_asked entries q w zero few = tt
 not_asked entries q w (suc zero) few = tt
 not_asked entries q w (suc (suc d)) few = absurd (omega (arith, few))
 
-pub shallow : {S : Type 0} (made : S → List Entry → S → Type 0) (s : S) (q : Board) (w : Color) (d units : ℕ) (answer : RoundAnswer) → made s [] s → d ≤ 1 → AreExpandedBy [] q w d answer units → Searches made s s q w d units (Ok answer)
-shallow made s q w d units answer none few expanded = record {
-  entries = [];
-  entered = none;
-  searched = λ same. not_asked [] q w d few;
-  first = λ deep. absurd (omega (arith, few, deep));
-  last = λ _ a same. (let A : RoundAnswer → Type 0 = λ x. AreExpandedBy [] q w d x units in subst A (the_answer answer a (Ok answer) refl same) expanded);
-}
-
 pub the_same : (a b : RoundAnswer) (o : Option RoundAnswer) → o ≡ Some a → o ≡ Some b → a ≡ b
 the_same a b o e f = cc
 
@@ -214,10 +205,6 @@ decides made old new q w d units reply row answer result entered is decided none
 -- a search whose position was asked for
 pub of_root : {S : Type 0} (made : S → List Entry → S → Type 0) (old new : S) (q : Board) (w : Color) (d units : ℕ) (result : Result RoundAnswer NoMemory) → RootSearches made old new q w d units result → 1 < d → Searches made old new q w d units result
 of_root made old new q w d units result h deep = record { entries = h.entries; entered = h.entered; searched = h.searched; first = λ deep. h.first; last = λ few. absurd (omega (arith, few, deep)) }
-
--- from two plies on each position is asked for
-pub asks_root : {S : Type 0} (made : S → List Entry → S → Type 0) (old new : S) (q : Board) (w : Color) (d units : ℕ) (result : Result RoundAnswer NoMemory) → Searches made old new q w d units result → 1 < d → RootSearches made old new q w d units result
-asks_root made old new q w d units result h deep = record { entries = h.entries; entered = h.entered; searched = h.searched; first = h.first deep }
 
 by_parts : (entries : List Entry) (q : Board) (w : Color) (d : ℕ) → HasProbe entries q w → HasStore entries q w d → AreSearched entries q w (d - 1) (legal q) → IsSearched entries q w d
 unfolding AreSearched

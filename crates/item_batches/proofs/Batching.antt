@@ -150,14 +150,6 @@ first_found question (Some p) all queue behind k k' t t' n n' kind taken number 
     let one = first_of question (items_by k t) n p (queue ++ behind) (subst (λ q. AreWorkFrom question (items_by k t) n (q ++ behind)) e work) in
     subst (λ x. IsWorkAt question (items_by x t') n' p) (sym kind) (subst (λ x. IsWorkAt question (items_by k x) n' p) (sym taken) (subst (λ x. IsWorkAt question (items_by k t) x p) (sym number) one))
 
--- a queue without an element, by its length
-pub empty_queue : (queue : List Progress) → length queue ≡ 0 → queue ≡ []
-empty_queue [] e = refl
-empty_queue (p ∷ queue) e = cc
-
-pub none_of : (xs ys : List Progress) → xs ≡ [] → ys ≡ [] → xs ++ ys ≡ []
-none_of xs ys e f = ap (λ x. x ++ ys) e ∙ f
-
 -- where no item is left
 pub none_left : (reader reader' : ItemReader) (question : Question) (old queue : List Progress) (failed : Bool) → IsQueued reader question old failed → queue ≡ [] → kind_of reader' ≡ kind_of reader → given_by reader' ≡ given_by reader → CanGoOn reader' → has_ended reader' ≡ true
     → IsQueued reader' question queue failed
@@ -345,11 +337,6 @@ rest_parts P part rest parts is all = λ k d less. (subst (All P) is all) (suc k
 -- of no part
 pub no_part : (P : Part → Type 0) (parts : List Part) → parts ≡ [] → All P parts
 no_part P parts none = subst (All P) (sym none) (λ k d less. absurd (omega (arith, less)))
-
--- some part is begun where some item is queued and none is cut
-pub some_part : (worked cut : List Progress) (begun : List Part) → worked ≡ [] → cut ≡ [] → 1 ≤ length (worked ++ (items_of_all begun ++ cut)) → 1 ≤ length begun
-some_part worked cut [] no_work no_cut some = absurd (omega (arith, some, queued_count worked [] cut, ap length no_work, ap length no_cut))
-some_part worked cut (part ∷ parts) no_work no_cut some = omega arith
 
 -- some item is queued where the work on one has ended, some part is begun or some item is cut
 pub some_item : (worked cut : List Progress) (begun : List Part) → All (λ part. 1 ≤ length (items_of part)) begun → 1 ≤ length worked + (length begun + length cut) → 1 ≤ length (worked ++ (items_of_all begun ++ cut))

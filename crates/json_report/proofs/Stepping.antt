@@ -74,14 +74,6 @@ array_opened old new js put = opened_by old.after_value old.text new.text new.af
 pub next_item : (old new : JsonText) (j : Json) (js : Items) → IsValue old j new → ItemsLead old (item j js) new js
 next_item old new j js is = record { text = rw (is.text, is.after) (simp (append_assoc) refl); readable = λ r. ((is.readable.0, r.0), (is.readable.1, r.1)) }
 
--- a string is an item
-pub string_is : (old new : JsonText) (bytes : List ℕ) → IsPut old (Token.string bytes) new → IsValue old (string bytes) new
-string_is old new bytes put = string_by old.after_value old new bytes refl put
-  where
-    string_by : (a : Bool) (old new : JsonText) (bytes : List ℕ) → old.after_value ≡ a → IsPut old (Token.string bytes) new → IsValue old (string bytes) new
-    string_by true old new bytes e put = record { text = rw e (rw e at put.text); after = put.after; readable = (tt, put.writable) }
-    string_by false old new bytes e put = record { text = rw e (rw e at put.text); after = put.after; readable = (tt, put.writable) }
-
 -- so is a number
 pub number_is : (old new : JsonText) (digits : List ℕ) → IsPut old (Token.number digits) new → IsValue old (number digits) new
 number_is old new digits put = number_by old.after_value old new digits refl put

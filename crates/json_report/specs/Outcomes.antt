@@ -21,7 +21,8 @@ use Rattle.helpmate_list.specs.declared.answers.Shortest.{Shortest}
 use Rattle.helpmate_list.specs.declared.answers.Shortest.TheVariants.{NoneWithin, Found}
 use Rattle.pgn_games.specs.declared.played.Span.{Span}
 use Rattle.report_words.specs.Reasons.{fen_fault_text, reason_text}
-use Rattle.report_words.specs.Words.{mark_text, status_text}
+use Rattle.pgn_games.specs.Cutting.{mark_text}
+use Rattle.report_words.specs.Words.{status_text}
 use Rattle.json.specs.Json.{Json, null, boolean, string, array, object, Items, no_items, item, Members, no_members, member}
 use Rattle.json_text.specs.Texts.{json_text}
 use Rattle.report_style.specs.declared.styles.Extras.{Extras}

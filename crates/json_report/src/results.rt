@@ -2,7 +2,7 @@
 
 ghost use Rattle.std.specs.Prelude.{◌≡◌, OnOk, codes};
 ghost use Rattle.json.specs.Json.{Members, no_members, string};
-ghost use Rattle.report_words.specs.Words.{mark_text};
+ghost use Rattle.pgn_games.specs.Cutting.{mark_text};
 ghost use Rattle.json_report.specs.Outcomes.{article_json, edge_members, flag_json, result_members, scan_json};
 ghost use Rattle.json_report.specs.Spelled.{IsMember, Leads};
 
@@ -12,8 +12,7 @@ use cha_list::{NoMemory, Text};
 use cha_outcome::{Cause, Judgment, PlayedGame, changes_result, fallen_flag};
 use cha_verdict::{Edge, Scan};
 use json_text::JsonText;
-use pgn_games::ResultMark;
-use report_words::put_mark;
+use pgn_games::{ResultMark, put_mark};
 use std::alloc::Global;
 
 /// Writes the member with the ply before the dead ones, where nothing was shown about it.

@@ -68,9 +68,6 @@ by_test x false h e = by_number x h (rw e)
 pub passes : (x : ℕ) → x < 256 → Passes x
 passes x h = by_test x (is_plain x) h refl
 
-prepend_more : (a b : List ℕ) → prepend a (Some b) ≡ Some (a ++ b)
-prepend_more a b = refl
-
 -- a string is read whole, and the lexer goes on behind its quotation mark
 pub content-escaped : (bytes r : List ℕ) → AreBytes bytes → content plain (escaped bytes ++ 34 ∷ r) ≡ Some (in_utf8 bytes)
 unfolding content

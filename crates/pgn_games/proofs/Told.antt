@@ -1,5 +1,5 @@
 -- The game that a summary tells.
-use Rattle.std.proofs.Common.{◌≡◌, ℕ, min, Bool, true, false, not, ◌||◌, List, Option, Some, None, is_some, length, nat_lt, refl, ap, ◌∙◌, arith}
+use Rattle.std.proofs.Common.{◌≡◌, ℕ, min, Bool, true, false, not, List, Option, Some, None, length, nat_lt, refl, ap, ◌∙◌, arith}
 use Rattle.std.specs.Option.{option_map, option_or, unwrap_or}
 use Rattle.std.proofs.lemmas.Bool.Decides.{nat_tests}
 use Rattle.std.proofs.lemmas.List.{length-take}
@@ -47,11 +47,6 @@ module _ (told : List Placed) (empty : Bool) (depth : ℕ) (bad : Option ℕ) (u
     fault_told a b c d e f ab abc abcd abcde all still other items ea es eb ec eo ed ee ei ef e1 e2 e3 e4 e5 =
         let last : nat_lt 12000 (length items) ≡ nat_lt 12000 (length (move_words told)) = ap (λ ws. nat_lt 12000 (length ws)) ei ∙ many_words in
         rw (e5, e4, e3, e2, e1, chain a b c d e f, ea, eb, ec, ed, ee, ef, last, es, eo, h.bad_is, h.cut_is, v.variant_is, v.fen_is, same) refl
-
-    -- the tags
-    pub tags_told : (other : Bool) (start : Option GameFault) → other ≡ passes (λ value. not (says_chess value)) variant → start ≡ start_fault fen → (cut || other || is_some start) ≡ has_bad_tag told'
-    unfolding has_bad_tag
-    tags_told other start eo es = rw (eo, es, h.cut_is, v.variant_is, v.fen_is, same) refl
 
     -- the game
     pub game_told : (start : Board) (mark : ResultMark) (forfeit fell : Bool) (before : Option ℕ) (fault : Option GameFault) → start ≡ start_of fen → mark ≡ unwrap_or recorded Unknown → forfeit ≡ passes says_forfeit termination → fell ≡ passes says_flag_fell termination

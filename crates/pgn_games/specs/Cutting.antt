@@ -21,6 +21,13 @@ mark_of (Word word) =
 mark_of Star = Some Unknown
 mark_of _ = None
 
+-- the bytes that tell a result (PGN standard, 8.1.1.7 and 8.2.6)
+abbrev pub mark_text : ResultMark → List ℕ
+mark_text WhiteWins = codes "1-0"
+mark_text BlackWins = codes "0-1"
+mark_text Draw = codes "1/2-1/2"
+mark_text Unknown = codes "*"
+
 -- what stands among the tags of a game: a tag pair, or a bracket that begins none
 unfoldable pub is_tag : Token → Bool
 is_tag (Tag name value cut) = true

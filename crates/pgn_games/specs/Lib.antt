@@ -12,4 +12,3 @@ pub mod Wins
 -- what only loops and lemmas use
 pub mod Holding
 pub mod Summing
-pub mod Told

@@ -8,7 +8,6 @@ ghost use Rattle.pgn_games.specs.Games.{is_open, fault_if, fault_of, has_bad_tag
 ghost use Rattle.pgn_games.specs.Summing.{span_with, word_outside, with_word};
 
 use crate::faults::GameFault;
-use crate::history::TokenHistory;
 use crate::marks::ResultMark;
 use crate::movetext::{bad_outside, keep_word, mark_outside, unclosed};
 use crate::played::{Game, PlacedGame, Span, Words};
@@ -17,7 +16,7 @@ use crate::tag_pairs::{
 };
 use crate::token_turns::deeper;
 use cha_list::NoMemory;
-use pgn_lex::{Placed, Token};
+use pgn_lex::{History, Placed, Token};
 use std::alloc::Global;
 use std::marker::Model;
 use std::snapshot::Snapshot;
@@ -33,7 +32,7 @@ const ROOM: usize = 128;
 /// there are.
 #[derive(Drop)]
 pub struct Summary {
-    told: TokenHistory,
+    told: History<Placed>,
     span: Span,
     empty: bool,
     depth: usize,
@@ -149,7 +148,7 @@ impl Summary {
         ensures { result ≡ [] }
     {
         Summary {
-            told: TokenHistory::new(),
+            told: History::new(),
             span: Span {
                 start: 0,
                 end: 0,

@@ -1,8 +1,8 @@
--- The bytes that a history tells.
-use Rattle.std.specs.Prelude.{ℕ, List, [], ◌∷◌, ◌++◌}
+-- What a history tells.
+use Rattle.std.specs.Prelude.{List, [], ◌∷◌, ◌++◌}
 use Rattle.pgn_lex.specs.declared.history.Told.{Told, Nothing, More'}
 
--- bytes in order, the last of them told last
-abbrev pub bytes_told : Told → List ℕ
-bytes_told Nothing = []
-bytes_told (More' shape before byte) = bytes_told before ++ byte ∷ []
+-- elements in order, the last of them told last
+abbrev pub list_told : {T : Type 0} → Told T → List T
+list_told Nothing = []
+list_told (More' shape before element) = list_told before ++ element.value ∷ []

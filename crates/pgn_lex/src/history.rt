@@ -1,37 +1,37 @@
-//! Bytes that contracts see and nobody keeps.
+//! Lists that contracts see and nobody keeps.
 
 ghost use Rattle.std.specs.Prelude.{◌≡◌, ◌++◌, ◌∷◌, []};
 
 use std::marker::Model;
 use std::snapshot::Snapshot;
 
-/// Bytes, the last of them outermost.
+/// A list as a chain, the last element outermost. Only contracts see it.
 #[derive(Drop)]
-pub enum Told {
-    /// No byte.
+pub enum Told<T> {
+    /// No element.
     Nothing,
-    /// Bytes, and one more.
-    More(Snapshot<Told>, u8),
+    /// Earlier elements, and one more behind them.
+    More(Snapshot<Told<T>>, Snapshot<T>),
 }
 
-/// Bytes, in order, which take no memory: only contracts see them.
+/// A list that only contracts see. It takes no memory.
 #[derive(Drop)]
-pub struct History {
-    told: Snapshot<Told>,
+pub struct History<T> {
+    told: Snapshot<Told<T>>,
 }
 
-impl Model for History {
-    ghost use Rattle.std.specs.Prelude.{List, ℕ};
-    ghost use Rattle.pgn_lex.specs.Told.{bytes_told};
+impl<T> Model for History<T> {
+    ghost use Rattle.std.specs.Prelude.{List};
+    ghost use Rattle.pgn_lex.specs.Told.{list_told};
 
-    ghost Value = { List ℕ };
+    ghost Value = { List T };
 
-    ghost view = { λ s. bytes_told s.told.value };
+    ghost view = { λ s. list_told s.told.value };
 }
 
-impl History {
-    /// No byte.
-    pub fn new() -> History
+impl<T> History<T> {
+    /// The empty list.
+    pub fn new() -> History<T>
         ensures { result ≡ [] }
     {
         History {
@@ -39,11 +39,11 @@ impl History {
         }
     }
 
-    /// One byte more.
-    pub fn push(&mut self, byte: u8)
-        ensures { self.new ≡ self.old ++ byte ∷ [] }
+    /// Appends an element.
+    pub fn push(&mut self, element: Snapshot<T>)
+        ensures { self.new ≡ self.old ++ element.value ∷ [] }
     {
         let before = std::mem::replace(&mut self.told, Snapshot::of(&Told::Nothing));
-        self.told = Snapshot::of(&Told::More(before, byte));
+        self.told = Snapshot::of(&Told::More(before, element));
     }
 }

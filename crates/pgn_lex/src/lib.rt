@@ -5,7 +5,7 @@
 //! rule; `pieces` has what these give, `spelling` the bytes of a word, and `order` the law of the places of tokens.
 //!
 //! `machine` is the lexer that takes single bytes, over `stages`, what each byte does, and `saying`, the tokens of pieces that
-//! ended; `history` tells contracts what was fed, and `settling` has the law of the tokens that are known before the rest.
+//! ended; `history` tells contracts what was fed or came, and `settling` has the law of the tokens that are known before the rest.
 #![tactic(auto)]
 
 mod classes;
@@ -27,6 +27,7 @@ mod tags;
 mod word_tokens;
 
 pub use classes::PgnClass;
+pub use history::History;
 pub use kinds::{Placed, Token};
 pub use machine::Lexer;
 pub use order::tokens_stand_in_order;

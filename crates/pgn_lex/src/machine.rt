@@ -14,6 +14,7 @@ use crate::stages::{Next, Stage, what_begins, what_follows};
 use cha_list::{ByteClass, Class, NoMemory};
 use std::alloc::Global;
 use std::marker::Model;
+use std::snapshot::Snapshot;
 
 /// How many bytes of a word or a name are kept.
 const WORD_KEPT: usize = 255;
@@ -25,7 +26,7 @@ const VALUE_KEPT: usize = 4097;
 #[derive(Drop)]
 pub struct Lexer {
     alloc: Global,
-    fed: History,
+    fed: History<u8>,
     stage: Stage,
     start: u64,
     start_line: u64,
@@ -191,7 +192,7 @@ impl Lexer {
                 self.stage = now;
                 self.at += 1;
                 self.feeds = feeds_with(self.feeds, byte);
-                self.fed.push(byte);
+                self.fed.push(Snapshot::of(&byte));
                 Ok(())
             }
             Next::Over => {
@@ -208,7 +209,7 @@ impl Lexer {
                 self.first = !Class::InLine.is_of(byte);
                 self.at += 1;
                 self.feeds = feeds_with(self.feeds, byte);
-                self.fed.push(byte);
+                self.fed.push(Snapshot::of(&byte));
                 Ok(())
             }
         }

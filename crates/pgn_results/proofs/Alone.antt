@@ -13,9 +13,9 @@ use Rattle.pgn_lex.proofs.InOrder.{places_inside}
 use Rattle.pgn_lex.proofs.Joining.{moved_token}
 use Rattle.pgn_games.specs.declared.marks.ResultMark.{ResultMark}
 use Rattle.pgn_games.specs.declared.marks.ResultMark.TheVariants.{WhiteWins, BlackWins, Draw, Unknown}
-use Rattle.pgn_games.specs.Cutting.{mark_of, depth_after}
+use Rattle.pgn_games.specs.Cutting.{mark_of, mark_text, depth_after}
 use Rattle.pgn_games.specs.Fields.{outside}
-use Rattle.pgn_results.specs.Replacing.{mark_text, leans, begins_word, apart, with_token, with_value, with_tag_if, is_result_tag, is_result_at, with_mark, is_word}
+use Rattle.pgn_results.specs.Replacing.{leans, begins_word, apart, with_token, with_value, with_tag_if, is_result_tag, is_result_at, with_mark, is_word}
 use Rattle.pgn_results.proofs.Standing.{one_of_all}
 use Rattle.pgn_results.proofs.TagReplaced.{drop_front, tag_within}
 use Rattle.pgn_results.proofs.Marked.{game_reads, named_tag, left_true}

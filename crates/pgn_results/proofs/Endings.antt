@@ -1,6 +1,6 @@
 -- A result ends its game.
 use Rattle.std.specs.Bool.{⊤}
-use Rattle.std.proofs.Common.{◌≡◌, ℕ, Bool, true, false, ◌&&◌, if◌then◌else◌, is_some, List, [], ◌∷◌, refl, sym, ap, ◌∙◌, subst}
+use Rattle.std.proofs.Common.{◌≡◌, ℕ, Bool, true, false, if◌then◌else◌, is_some, List, [], ◌∷◌, refl, sym, ap, ◌∙◌, subst}
 use Rattle.pgn_lex.specs.declared.kinds.Token.{Token}
 use Rattle.pgn_lex.specs.declared.kinds.Token.TheVariants.{Tag, BadTag, Word, Star, Enter, Leave, Bad, Unclosed}
 use Rattle.pgn_lex.specs.declared.kinds.Placed.{Placed}
@@ -32,10 +32,6 @@ tag_told Enter e = cc
 tag_told Leave e = cc
 tag_told Bad e = cc
 tag_told Unclosed e = cc
-
-not_both : (v w : Bool) → w ≡ false → (v && w) ≡ false
-not_both true w e = e
-not_both false w e = refl
 
 moves_on : (b : Bool) (depth : ℕ) (token : Token) (next : Place) → is_result_at depth token ≡ b → (if b then Ends else Stays (Moves (depth_after depth token))) ≡ Stays next → GoesOn depth token next
 moves_on true depth token next d e = cc

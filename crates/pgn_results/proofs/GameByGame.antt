@@ -70,17 +70,6 @@ pub written_front : (bytes : List ℕ) (marks : List (Option ResultMark))
     → written 0 bytes (placed_games bytes) marks ≡ written_games 0 bytes (placed_games bytes) marks ++ drop (end_of 0 (take (length marks) (placed_games bytes))) bytes
 written_front bytes marks = front_from (placed_games bytes) marks 0 (length bytes) bytes (placed_games_order bytes)
 
--- the same where there is word of each game
-all_of : (games : List PlacedGame) → take (length games) games ≡ games
-all_of [] = refl
-all_of (game ∷ games) = ap (λ gs. game ∷ gs) (all_of games)
-
-pub written_whole : (bytes : List ℕ) (marks : List (Option ResultMark)) → length marks ≡ length (placed_games bytes)
-    → written 0 bytes (placed_games bytes) marks ≡ written_games 0 bytes (placed_games bytes) marks ++ drop (end_of 0 (placed_games bytes)) bytes
-written_whole bytes marks e =
-    written_front bytes marks
-    ∙ ap (λ gs. written_games 0 bytes (placed_games bytes) marks ++ drop (end_of 0 gs) bytes) (ap (λ n. take n (placed_games bytes)) e ∙ all_of (placed_games bytes))
-
 -- only so many games count as there is word of
 counted : (games : List PlacedGame) (marks : List (Option ResultMark)) (start : ℕ) (bytes : List ℕ) → written_games start bytes games marks ≡ written_games start bytes (take (length marks) games) marks
 unfolding written_games

@@ -36,11 +36,6 @@ kept_between kept taken start a b bytes p q =
     between_is kept n m ∙ ap (λ ks. drop n (take m ks)) bytes ∙ ap (drop n) (sym (drop-take start m taken)) ∙ drop-drop n start (take (start + m) taken)
     ∙ ap (λ k. drop k (take (start + m) taken)) at ∙ ap (λ k. drop a (take k taken)) to
 
-pub kept_behind : (kept taken : List ℕ) (start a : ℕ) → kept ≡ drop start taken → start ≤ a → drop (a - start) kept ≡ drop a taken
-kept_behind kept taken start a bytes p =
-    let at : start + (a - start) ≡ a = omega (arith, p) in
-    ap (drop (a - start)) bytes ∙ drop-drop (a - start) start taken ∙ ap (λ k. drop k taken) at
-
 -- a text has no more games than bytes
 ordered_few : (games : List PlacedGame) (low size : ℕ) → low ≤ size → AreInOrder low size games → low + length games ≤ size
 unfolding AreInOrder
@@ -92,10 +87,6 @@ pub first_on : (given games : ℕ) (now mid before : List ℕ) → games ≡ giv
     → take given (placed_games mid) ≡ take given (placed_games before) → take given (placed_games now) ≡ take given (placed_games before)
 first_on given games now mid before e second first =
     ap (λ n. take n (placed_games now)) (sym e) ∙ second ∙ ap (λ n. take n (placed_games mid)) e ∙ first
-
--- a piece that comes where each settled game was given is needed
-pub piece_waits : (taken piece now : List ℕ) (given : ℕ) → now ≡ taken ++ piece → length piece ≤ 8388608 → settled_games taken ≤ given → Waits now given
-piece_waits taken piece now given e short needed = (piece, (taken, e, short, needed))
 
 -- all of what has come waits, where the piece that came last was handed on
 pub arrived_waits : (i : Intake) (taken : List ℕ) (given : ℕ) (ended : Bool) → IsOpen i ended → taken ≡ i.games.taken → i.games.given ≡ given → Waits (taken ++ i.piece.items) given

@@ -6,9 +6,9 @@ use Rattle.pgn_lex.specs.declared.kinds.Token.TheVariants.{Tag, BadTag, Word, St
 use Rattle.pgn_lex.specs.declared.kinds.Placed.{Placed}
 use Rattle.pgn_lex.specs.Tokens.{tokens}
 use Rattle.pgn_games.specs.declared.marks.ResultMark.{ResultMark}
-use Rattle.pgn_games.specs.Cutting.{mark_of, depth_after}
+use Rattle.pgn_games.specs.Cutting.{mark_of, mark_text, depth_after}
 use Rattle.pgn_games.specs.Fields.{value_named}
-use Rattle.pgn_results.specs.Replacing.{mark_text, with_tag_if, is_result_tag, is_result_at, with_mark}
+use Rattle.pgn_results.specs.Replacing.{with_tag_if, is_result_tag, is_result_at, with_mark}
 use Rattle.pgn_results.specs.Correcting.{corrected_games}
 use Rattle.pgn_results.proofs.TokenKinds.{kinds, kinds_append}
 use Rattle.pgn_results.proofs.TagReplaced.{tag_replaced}

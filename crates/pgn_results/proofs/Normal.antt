@@ -10,9 +10,9 @@ use Rattle.pgn_lex.specs.declared.kinds.Placed.{Placed}
 use Rattle.pgn_games.specs.declared.marks.ResultMark.{ResultMark}
 use Rattle.pgn_games.specs.declared.marks.ResultMark.TheVariants.{WhiteWins, BlackWins, Draw, Unknown}
 use Rattle.pgn_games.specs.declared.token_turns.Place.{Place}
-use Rattle.pgn_games.specs.Cutting.{mark_of, is_tag, depth_after, open_at, turn}
+use Rattle.pgn_games.specs.Cutting.{mark_of, mark_text, is_tag, depth_after, open_at, turn}
 use Rattle.pgn_games.specs.Fields.{value_named, move_word, is_bad, is_unclosed}
-use Rattle.pgn_results.specs.Replacing.{mark_text, is_result_tag, is_result_at}
+use Rattle.pgn_results.specs.Replacing.{is_result_tag, is_result_at}
 use Rattle.pgn_results.proofs.TokenKinds.{kinds, kinds_append}
 use Rattle.pgn_results.proofs.TokenReplaced.{mark_token}
 use Rattle.pgn_results.proofs.Marked.{retold, marked_kinds, expected, joined, left_true, right_true}

@@ -12,11 +12,11 @@ use Rattle.pgn_games.specs.declared.faults.GameFault.{GameFault}
 use Rattle.pgn_games.specs.declared.faults.GameFault.TheVariants.{BadToken}
 use Rattle.pgn_games.specs.declared.marks.ResultMark.{ResultMark}
 use Rattle.pgn_games.specs.declared.token_turns.Place.TheVariants.{Before}
-use Rattle.pgn_games.specs.Cutting.{mark_of, depth_after, cut}
+use Rattle.pgn_games.specs.Cutting.{mark_of, mark_text, depth_after, cut}
 use Rattle.pgn_games.specs.Fields.{outside, is_bad, first_bad}
 use Rattle.pgn_games.specs.Games.{fault_of, game_of, span_of, placed_game_of, placed_games}
 use Rattle.pgn_games.proofs.EachToken.{none_lost, none_empty}
-use Rattle.pgn_results.specs.Replacing.{mark_text, leans, begins_word, apart, with_token, with_value, with_tag_if, is_result_tag, is_result_at, with_mark, is_word, has_result, space_behind, game_with_mark}
+use Rattle.pgn_results.specs.Replacing.{leans, begins_word, apart, with_token, with_value, with_tag_if, is_result_tag, is_result_at, with_mark, is_word, has_result, space_behind, game_with_mark}
 use Rattle.pgn_results.specs.Correcting.{corrected_games, corrected, between, written}
 use Rattle.pgn_results.specs.Kept.{OnlyReadable, begins_with_result, OnlyBegun}
 use Rattle.pgn_results.proofs.Standing.{From}

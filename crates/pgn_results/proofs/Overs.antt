@@ -55,11 +55,6 @@ unfolding stepped
 stepped_low m b (Stays now) h = omega arith
 stepped_low m b Over h = omega arith
 
-read_low : (m : Machine) (bs : List ℕ) → m.start ≤ m.at → (read_from m bs).start ≤ (read_from m bs).at
-unfolding read_from
-read_low m [] h = h
-read_low m (b ∷ bs) h = read_low (stepped m b (next_stage m.stage b)) bs (stepped_low m b (next_stage m.stage b) h)
-
 stepped_strict : (m : Machine) (b : ℕ) (next : Next) → m.start ≤ m.at → (stepped m b next).start < (stepped m b next).at
 unfolding stepped
 stepped_strict m b (Stays now) h = omega arith

@@ -56,10 +56,6 @@ same_said mark xs ys e cut_same =
     let sound = bridge sound_words (sound_plain normal normal_depth normal_bad normal_word) xs ys p in
     said mark xs ∙ (rw (bad, unclosed, cut_same, variant, fen, termination, words, sound) refl) ∙ sym (said mark ys)
 
--- the first result outside variations
-first_mark : ℕ → List Placed → Option ResultMark
-first_mark depth ts = slice_get (filter_map (λ (t : Placed). mark_of t.token) (outside depth ts)) 0
-
 marks_plain : (ts : List Placed) → filter_map (λ (t : Placed). mark_of t.token) (outside 0 (map (plain (λ k. k)) ts)) ≡ filter_map (λ (t : Placed). mark_of t.token) (outside 0 ts)
 marks_plain ts =
     ap (filter_map (λ (t : Placed). mark_of t.token)) (outside_plain (λ k. k) (λ depth k. refl) 0 ts) ∙ same_tokens (λ k. k) mark_of (λ k. refl) (outside 0 ts)

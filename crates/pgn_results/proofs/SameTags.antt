@@ -10,9 +10,9 @@ use Rattle.pgn_lex.specs.Tokens.{tokens}
 use Rattle.pgn_games.specs.declared.marks.ResultMark.{ResultMark}
 use Rattle.pgn_games.specs.declared.marks.ResultMark.TheVariants.{WhiteWins, BlackWins, Draw, Unknown}
 use Rattle.pgn_games.specs.declared.token_turns.Place.TheVariants.{Before}
-use Rattle.pgn_games.specs.Cutting.{mark_of, depth_after, cut}
+use Rattle.pgn_games.specs.Cutting.{mark_of, mark_text, depth_after, cut}
 use Rattle.pgn_games.specs.Fields.{value_named, tag_value}
-use Rattle.pgn_results.specs.Replacing.{mark_text, is_result_tag, is_result_at}
+use Rattle.pgn_results.specs.Replacing.{is_result_tag, is_result_at}
 use Rattle.pgn_results.specs.Correcting.{corrected}
 use Rattle.pgn_results.specs.Kept.{told_tags}
 use Rattle.pgn_results.proofs.TokenKinds.{kinds}

@@ -10,7 +10,8 @@ use Rattle.pgn_lex.proofs.TagStages.{tag_valued, tag_in_value, tag_named, tag_in
 use Rattle.pgn_lex.proofs.TagSteps.{valued_blank, valued_closes, valued_breaks, named_blank, named_opens, named_breaks, name_goes_on, name_ends, opened_blank, opened_name, opened_breaks}
 use Rattle.pgn_games.specs.declared.marks.ResultMark.{ResultMark}
 use Rattle.pgn_games.specs.declared.marks.ResultMark.TheVariants.{WhiteWins, BlackWins, Draw, Unknown}
-use Rattle.pgn_results.specs.Replacing.{mark_text, past_value, with_value}
+use Rattle.pgn_games.specs.Cutting.{mark_text}
+use Rattle.pgn_results.specs.Replacing.{past_value, with_value}
 
 -- a chain that answers
 bind_some : {A B : Type 0} (o : Option A) (f : A → Option B) (y : B) → (o >>= f) ≡ Some y → (x : A) × (o ≡ Some x) × (f x ≡ Some y)

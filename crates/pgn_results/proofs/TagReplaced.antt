@@ -12,7 +12,8 @@ use Rattle.pgn_lex.specs.Tokens.{piece, line_after, tokens_after, tokens}
 use Rattle.pgn_lex.specs.Stages.{Machine, machine}
 use Rattle.pgn_games.specs.declared.marks.ResultMark.{ResultMark}
 use Rattle.pgn_games.specs.declared.marks.ResultMark.TheVariants.{WhiteWins, BlackWins, Draw, Unknown}
-use Rattle.pgn_results.specs.Replacing.{mark_text, with_value, with_tag}
+use Rattle.pgn_games.specs.Cutting.{mark_text}
+use Rattle.pgn_results.specs.Replacing.{with_value, with_tag}
 use Rattle.pgn_results.proofs.TokenKinds.{kinds, passed_kinds}
 use Rattle.pgn_results.proofs.PieceSorts.{tag_piece_is}
 use Rattle.pgn_results.proofs.Boundaries.{boundary}

@@ -19,8 +19,8 @@ use Rattle.pgn_lex.specs.Stages.{next_stage, Machine, machine}
 use Rattle.pgn_lex.proofs.Runs.{run_grows, run_ends, in_line}
 use Rattle.pgn_games.specs.declared.marks.ResultMark.{ResultMark}
 use Rattle.pgn_games.specs.declared.marks.ResultMark.TheVariants.{WhiteWins, BlackWins, Draw, Unknown}
-use Rattle.pgn_games.specs.Cutting.{mark_of}
-use Rattle.pgn_results.specs.Replacing.{mark_text, leans, begins_word, apart, with_token}
+use Rattle.pgn_games.specs.Cutting.{mark_of, mark_text}
+use Rattle.pgn_results.specs.Replacing.{leans, begins_word, apart, with_token}
 use Rattle.pgn_results.proofs.TokenKinds.{kinds, kinds_anywhere}
 use Rattle.pgn_results.proofs.PieceSorts.{star_piece, word_piece_is}
 use Rattle.pgn_results.proofs.Boundaries.{boundary}
@@ -70,16 +70,6 @@ run_by false x xs bs v e later = let no : false ≡ true = rw v at e in cc
 run_of : (xs bs : List ℕ) → list_all (in_pgn_class WordByte) xs ≡ true → begins_word bs ≡ false → prefix_len (in_pgn_class WordByte) (xs ++ bs) ≡ length xs
 run_of [] bs e f = none_begun bs f
 run_of (x ∷ xs) bs e f = run_by (in_pgn_class WordByte x) x xs bs refl e (λ g. run_of xs bs g f)
-
--- the rest behind a word has no byte of one
-ends_by : (v : Bool) (b : ℕ) (bs : List ℕ) → in_pgn_class WordByte b ≡ v → begins_word (drop (prefix_len (in_pgn_class WordByte) bs) bs) ≡ false
-    → begins_word (drop (prefix_len (in_pgn_class WordByte) (b ∷ bs)) (b ∷ bs)) ≡ false
-ends_by true b bs e later = rw (run_grows (in_pgn_class WordByte) b bs e) later
-ends_by false b bs e later = rw (run_ends (in_pgn_class WordByte) b bs e) e
-
-word_ends : (bs : List ℕ) → begins_word (drop (prefix_len (in_pgn_class WordByte) bs) bs) ≡ false
-word_ends [] = refl
-word_ends (b ∷ bs) = ends_by (in_pgn_class WordByte b) b bs refl (word_ends bs)
 
 -- a space is passed
 space_by : (first : Bool) (bs : List ℕ) → piece first 32 bs ≡ silent_piece 0

@@ -6,10 +6,10 @@ use Rattle.pgn_games.specs.declared.faults.GameFault.{GameFault}
 use Rattle.pgn_games.specs.declared.faults.GameFault.TheVariants.{BadToken}
 use Rattle.pgn_games.specs.declared.marks.ResultMark.{ResultMark}
 use Rattle.pgn_games.specs.declared.played.Game.{Game}
-use Rattle.pgn_games.specs.Cutting.{mark_of}
+use Rattle.pgn_games.specs.Cutting.{mark_of, mark_text}
 use Rattle.pgn_games.specs.Fields.{tag_value}
 use Rattle.pgn_games.specs.Games.{game_of}
-use Rattle.pgn_results.specs.Replacing.{mark_text, has_result}
+use Rattle.pgn_results.specs.Replacing.{has_result}
 
 -- a fault, but for where it stands
 abbrev pub placeless_fault : GameFault → GameFault

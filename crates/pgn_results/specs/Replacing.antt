@@ -8,15 +8,8 @@ use Rattle.pgn_lex.specs.declared.kinds.Placed.{Placed}
 use Rattle.pgn_lex.specs.Tokens.{tokens}
 use Rattle.pgn_games.specs.declared.marks.ResultMark.{ResultMark}
 use Rattle.pgn_games.specs.declared.marks.ResultMark.TheVariants.{WhiteWins, BlackWins, Draw, Unknown}
-use Rattle.pgn_games.specs.Cutting.{mark_of, depth_after}
+use Rattle.pgn_games.specs.Cutting.{mark_of, mark_text, depth_after}
 use Rattle.pgn_games.specs.Fields.{outside, value_named}
-
--- the bytes that tell a result (PGN standard, 8.1.1.7 and 8.2.6)
-abbrev pub mark_text : ResultMark → List ℕ
-mark_text WhiteWins = codes "1-0"
-mark_text BlackWins = codes "0-1"
-mark_text Draw = codes "1/2-1/2"
-mark_text Unknown = codes "*"
 
 -- what follows a value: its closing quote, which is the next one that no backslash escapes, and all behind that
 unfoldable pub past_value : Bool → List ℕ → List ℕ

@@ -1,22 +1,10 @@
 //! A tag pair with another value.
 
 ghost use Rattle.std.specs.Prelude.{◌≡◌, ◌++◌, OnOk, false};
-ghost use Rattle.pgn_results.specs.Replacing.{mark_text, past_value as past_value_of, with_value};
+ghost use Rattle.pgn_results.specs.Replacing.{past_value as past_value_of, with_value};
 
 use cha_list::{NoMemory, Text};
-use pgn_games::ResultMark;
-
-/// Appends the text of a result.
-pub fn put_mark(mark: ResultMark, text: &mut Text) -> Result<(), NoMemory>
-    ensures { OnOk result (text.new ≡ text.old ++ mark_text mark) }
-{
-    match mark {
-        ResultMark::WhiteWins => text.append(b"1-0"),
-        ResultMark::BlackWins => text.append(b"0-1"),
-        ResultMark::Draw => text.append(b"1/2-1/2"),
-        ResultMark::Unknown => text.append(b"*"),
-    }
-}
+use pgn_games::{ResultMark, put_mark};
 
 /// What follows a value, from its closing quote on.
 #[tactic(auto, unfolding(crate::specs::Replacing::past_value))]

@@ -7,7 +7,7 @@ ghost use Rattle.pgn_results.specs.Places.{with_token_there, with_tag_there};
 ghost use Rattle.pgn_results.specs.Replacing.{leans as leans_of, begins_word as begins_word_of, apart, with_token as with_token_of, is_word as is_word_of, game_with_mark};
 
 use crate::places::{Extent, result_places};
-use crate::quotes::{put_mark, put_with_value};
+use crate::quotes::put_with_value;
 use cha_list::{ByteClass, NoMemory, Text, text_of};
 use pgn_games::ResultMark;
 use pgn_lex::{PgnClass, tokens_of};

@@ -1,8 +1,8 @@
 //! The styles in which a report is printed, as values: the words of the command order one, and `flag_report` prints in it.
 //!
-//! `styles` has them.
+//! `styles` has them, and which one the options ask for.
 #![tactic(auto)]
 
 mod styles;
 
-pub use styles::{BlockForm, Extras, Notation, Style};
+pub use styles::{Asked, BlockForm, Extras, Notation, Style};

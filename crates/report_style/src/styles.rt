@@ -1,5 +1,8 @@
 //! How a report is printed.
 
+ghost use Rattle.std.specs.Prelude.{◌≡◌};
+ghost use Rattle.report_style.specs.Asked.{style_asked};
+
 /// How moves are written.
 #[derive(Clone, Copy, Debug, PartialEq, Eq)]
 pub enum Notation {
@@ -36,4 +39,38 @@ pub enum Style {
     Json(Extras),
     /// The last line of the blocks alone.
     SummaryAlone,
+}
+
+/// What the options ask of a report.
+#[derive(Clone, Copy, Debug, PartialEq, Eq)]
+pub struct Asked {
+    /// The certificates of sides that cannot mate.
+    pub certs: bool,
+    /// JSON.
+    pub json: bool,
+    /// Moves as words.
+    pub san: bool,
+    /// The position after each move of a line that mates.
+    pub fens: bool,
+}
+
+impl Style {
+    /// The style that is asked for. What does not bear on it has no effect.
+    pub fn of(asked: Asked) -> Style
+        ensures { result ≡ style_asked asked }
+    {
+        let certs = asked.certs;
+        if asked.json {
+            return Style::Json(Extras {
+                certs,
+                fens: asked.fens,
+            });
+        }
+        let notation = if asked.san {
+            Notation::San
+        } else {
+            Notation::Coordinates
+        };
+        Style::Blocks(BlockForm { certs, notation })
+    }
 }

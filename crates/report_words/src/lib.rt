@@ -1,4 +1,4 @@
-//! Words that styles of a report share: why an item cannot be read, the results, the status of a position, and what is counted.
+//! Words that styles of a report share: why an item cannot be read, the status of a position, and what is counted.
 #![tactic(auto)]
 
 mod columns;
@@ -9,4 +9,4 @@ mod words;
 pub use columns::Column;
 pub use counts::put_count;
 pub use reasons::{put_fen_fault, put_reason};
-pub use words::{put_mark, put_status};
+pub use words::put_status;

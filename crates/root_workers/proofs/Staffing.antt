@@ -34,9 +34,6 @@ just_hired s h none is fresh i = record {
 pub when_refused : (i : ℕ) (a b : Staff) (xs ys : List Entry) → StaffMakes i a xs b → is_refused b ≡ true → StaffMakes i a ys b
 when_refused i a b xs ys makes is = record { count = makes.count; size = makes.size; refused = makes.refused; made = λ e. cc }
 
-pub refused_now : (s : Staff) (w : Work) (i : ℕ) (xs : List Entry) → s.hired ≡ None → w.refused ≡ true → StaffMakes i s xs (record { count = s.count; entries = s.entries; hired = s.hired; idle = w })
-refused_now s w i xs none is = record { count = refl; size = (refl, refl); refused = λ e. is; made = λ e. cc }
-
 -- who is hired did something
 hired_does : (i : ℕ) (b : Staff) (old new : Hired) (xs : List Entry) → b.hired ≡ Some old → HiredMakes i old xs new → StaffMakes i b xs (record { count = b.count; entries = b.entries; hired = Some new; idle = b.idle })
 hired_does i b old new xs is makes = record {

@@ -1,6 +1,6 @@
 -- Rows in a list: where a row lies, what goes to the front, and what goes.
-use Rattle.std.proofs.Common.{◌≡◌, ◌∙◌, refl, sym, ap, subst, ℕ, zero, suc, ◌+◌, ◌-◌, ◌<◌, ◌≤◌, Bool, true, false, cond, List, [], ◌∷◌, ◌++◌, map, take, drop, length, get_or, Option, Some, None, slice_get, arith}
-use Rattle.std.proofs.lemmas.List.{take_more, take_all, length-append}
+use Rattle.std.proofs.Common.{◌≡◌, ◌∙◌, refl, sym, ap, subst, ℕ, zero, suc, ◌+◌, ◌-◌, ◌<◌, Bool, true, false, cond, List, [], ◌∷◌, ◌++◌, map, take, length, get_or, Option, Some, None, slice_get, arith}
+use Rattle.std.proofs.lemmas.List.{take_more, length-append}
 use Rattle.std.specs.List.{remove}
 use Rattle.cha_fact.specs.declared.key.Key.{Key}
 use Rattle.cha_fact.specs.Truths.{Claim}
@@ -21,9 +21,6 @@ pub none_yet : (key : Key) (rows : List Claim) (i : ℕ) (r : Claim) → find_ro
 none_yet key rows i r none inside at apart =
     let grown = take_more rows i r inside in
     subst (λ xs. find_row key xs ≡ None) (sym (grown ∙ ap (λ x. take i rows ++ x ∷ []) (sym at))) (none_more key (take i rows) r none apart)
-
-pub none_at_all : (key : Key) (rows : List Claim) (i : ℕ) → find_row key (take i rows) ≡ None → length rows ≤ i → find_row key rows ≡ None
-none_at_all key rows i none end = subst (λ xs. find_row key xs ≡ None) (take_all i rows end) none
 
 -- the first row of the key
 here : (key : Key) (r row d : Claim) (rows : List Claim) → row ≡ r → same_key key (row_key row) ≡ true → (find_row key (r ∷ rows) ≡ Some r) × (rows ≡ without key (r ∷ rows))
@@ -56,12 +53,3 @@ last_goes rows rest last n is full =
     at_end : (xs : List Claim) → (slice_get (map row_key (xs ++ last ∷ [])) (length xs) ≡ Some (row_key last)) × (xs ≡ take (length xs) (xs ++ last ∷ []))
     at_end [] = (refl, refl)
     at_end (x ∷ xs) = let h = at_end xs in (h.0, ap (λ ys. x ∷ ys) h.1)
-
--- a cache that is emptied from its front
-pub front_moves : (cached : List (Key × Claim)) (e : Key × Claim) → slice_get cached 0 ≡ Some e → cached ≡ e ∷ drop 1 cached
-front_moves [] e at = cc
-front_moves (f ∷ cached) e at = let same : f ≡ e = cc in ap (λ x. x ∷ cached) same
-
-pub none_in_front : (cached : List (Key × Claim)) → slice_get cached 0 ≡ None → cached ≡ []
-none_in_front [] none = refl
-none_in_front (f ∷ cached) none = cc

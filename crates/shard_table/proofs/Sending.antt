@@ -2,7 +2,7 @@
 use denote.Struct.Declared.{shape}
 use denote.Param.Send.{IsSend, IsSync, AllSend, sendable, struct_send, recorded_send}
 use Rattle.std.proofs.Crossing.{crosses}
-use Rattle.turn_cell.proofs.Sending.{pass_send, cell_send, cell_sync}
+use Rattle.turn_cell.proofs.Sending.{pass_send, cell_sync}
 use Rattle.lru.proofs.cache.LruCache.TheSendSync.{the_send as cache_send}
 use Rattle.cha_board.specs.contracts.kept.Kept.{the_row as kept_row}
 use Rattle.cha_fact.proofs.key.Key.TheSendSync.{the_send as key_send, the_sync as key_sync}
@@ -39,9 +39,6 @@ shard_send = search (sendable, crosses, cache_send, key_send, key_sync, proved_s
 
 pub table_pass_send : IsSend pass_row
 table_pass_send = search (sendable, pass_send, shard_send) depth 20
-
-pub table_send : IsSend table_row
-table_send = search (sendable, cell_send, shard_send) depth 20
 
 pub table_sync : IsSync table_row
 table_sync = search (sendable, cell_sync, shard_send) depth 20

@@ -1,33 +1,21 @@
 -- What is known of the work on an item, by how far it has come.
-use Rattle.std.proofs.Common.{◌≡◌, ◌∙◌, inl, inr, ℕ, ◌<◌, List, Result, Ok, Err, Option, IfOk, length, slice_index_or, slice_set, get_or-set_same, get_or-set_other, sym, subst, arith}
+use Rattle.std.proofs.Common.{◌≡◌, ◌∙◌, inl, inr, ℕ, ◌<◌, List, Result, Ok, Err, IfOk, length, slice_index_or, slice_set, get_or-set_same, get_or-set_other, sym, subst, arith}
 use Rattle.std.proofs.lemmas.List.{get_or_default}
 use Rattle.std.proofs.lemmas.Bool.{cases_eq}
 use Rattle.cha_list.specs.declared.memory.NoMemory.{NoMemory}
 use Rattle.cha_outcome.specs.declared.items.Item.{Item}
-use Rattle.cha_outcome.specs.declared.outcomes.Outcome.{Outcome}
 use Rattle.cha_limits.specs.Bounds.{Bounds}
 use Rattle.pgn_games.specs.declared.played.PlacedGame.{PlacedGame}
 use Rattle.cha_outcome.specs.declared.questions.FlaggedDraws.{FlaggedDraws}
 use Rattle.cha_outcome.specs.declared.questions.Question.{Question}
 use Rattle.cha_outcome.specs.declared.questions.Question.TheVariants.{Verdicts, Mates, Plies}
-use Rattle.cha_outcome.specs.Outcomes.{Answers, CanBeAsked, IsPrintableOutcome}
+use Rattle.cha_outcome.specs.Outcomes.{CanBeAsked}
 use Rattle.side_by_side.specs.declared.cuts.Cut.{Cut}
 use Rattle.side_by_side.specs.declared.cuts.Cut.TheVariants.{Game, KeptGame}
 use Rattle.side_by_side.specs.declared.progress.Progress.{Progress}
-use Rattle.side_by_side.specs.declared.progress.Progress.TheVariants.{Cut as OnlyCut, Read, Judged}
-use Rattle.side_by_side.specs.Cuts.{item_of_cut, IsReadable, IsAskedAbout}
+use Rattle.side_by_side.specs.declared.progress.Progress.TheVariants.{Cut as OnlyCut}
+use Rattle.side_by_side.specs.Cuts.{item_of_cut, IsAskedAbout}
 use Rattle.side_by_side.specs.Progresses.{IsOf, IsAsked, GoesOn, AreAsked, AllGoOn}
-
--- of what is cut
-pub readable : (q : Question) (p : Progress) (cut : Cut) → p ≡ OnlyCut cut → IsAsked q p → IsReadable cut
-readable q p cut is asked =
-    let P : Progress → Type 0 = λ x. IsAsked q x in
-    (subst P is asked).1.1
-
-pub asked_about : (q : Question) (p : Progress) (cut : Cut) → p ≡ OnlyCut cut → IsAsked q p → IsAskedAbout q cut
-asked_about q p cut is asked =
-    let P : Progress → Type 0 = λ x. IsAsked q x in
-    (subst P is asked).1.2
 
 pub cut_item : (q : Question) (p : Progress) (cut : Cut) (item : Item) → p ≡ OnlyCut cut → IsOf q item p → item_of_cut cut ≡ item
 cut_item q p cut item is of =
@@ -38,36 +26,6 @@ pub cut_goes_on : (q : Question) (old new : Progress) (cut : Cut) (i : Item) →
 cut_goes_on q old new cut i is same done item of =
     let P : Item → Type 0 = λ x. IsOf q x new in
     subst P (same ∙ cut_item q old cut item is of) done
-
-pub cut_answers : (q : Question) (p : Progress) (cut : Cut) (i : Item) (result : Result Outcome NoMemory) → p ≡ OnlyCut cut → i ≡ item_of_cut cut → IfOk result (Answers q i) → (item : Item) → IsOf q item p → IfOk result (Answers q item)
-cut_answers q p cut i result is same answers item of =
-    let P : Item → Type 0 = λ x. IfOk result (Answers q x) in
-    subst P (same ∙ cut_item q p cut item is of) answers
-
--- of what is read
-pub read_asked : (q : Question) (p : Progress) (i : Item) → p ≡ Read i → IsAsked q p → CanBeAsked q i
-read_asked q p i is asked =
-    let P : Progress → Type 0 = λ x. IsAsked q x in
-    let at = subst P is asked in
-    let A : Item → Type 0 = λ x. CanBeAsked q x in
-    subst A (sym at.1.0) at.1.1
-
-pub read_answers : (q : Question) (p : Progress) (i : Item) (result : Result Outcome NoMemory) → p ≡ Read i → IfOk result (Answers q i) → (item : Item) → IsOf q item p → IfOk result (Answers q item)
-read_answers q p i result is answers item of =
-    let P : Progress → Type 0 = λ x. IsOf q item x in
-    let A : Item → Type 0 = λ x. IfOk result (Answers q x) in
-    subst A (subst P is of).0 answers
-
--- of what is judged
-pub judged_answers : (q : Question) (p : Progress) (o : Outcome) (cut : Option Cut) → p ≡ Judged o cut → (item : Item) → IsOf q item p → Answers q item o
-judged_answers q p o cut is item of =
-    let P : Progress → Type 0 = λ x. IsOf q item x in
-    (subst P is of).0
-
-pub judged_printable : (q : Question) (p : Progress) (o : Outcome) (cut : Option Cut) → p ≡ Judged o cut → IsAsked q p → IsPrintableOutcome o
-judged_printable q p o cut is asked =
-    let P : Progress → Type 0 = λ x. IsAsked q x in
-    (subst P is asked).1.1
 
 -- of a game, about which verdicts are asked
 abbrev pub CanBeDecided : Result Item NoMemory → Type 0

@@ -121,13 +121,6 @@ pub first_given : (gone rest : List ℕ) (number given : ℕ) (finished : Bool) 
 first_given gone rest number given finished h nothing =
     ap (take given) (h.joins rest nothing) ∙ ap (λ n. take n (h.done ++ numbered number (lines rest))) (sym h.count) ∙ take-append_seam h.done (numbered number (lines rest))
 
--- no line is left behind the last one
-pub none_left : (gone : List ℕ) (number given : ℕ) (h : IsGone gone number given true) → length (text_lines gone) ≤ given
-unfolding numbered lines
-none_left gone number given h =
-    let all : text_lines gone ≡ h.done = ap text_lines (sym (append-nil gone)) ∙ h.joins [] (λ _. refl) ∙ append-nil h.done in
-    omega (arith, ap length all, h.count)
-
 -- no more lines are settled than were given, where no line feed follows
 pub settled_given : (gone rest : List ℕ) (number given : ℕ) (h : IsGone gone number given false) → prefix_len (in_class NotLineFeed) rest ≡ length rest → settled_lines (gone ++ rest) ≤ given
 unfolding numbered lines settled_lines

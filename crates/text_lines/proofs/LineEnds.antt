@@ -1,8 +1,7 @@
 -- Lines, one at a time.
-use Rattle.std.proofs.Common.{◌≡◌, ◌≢◌, ℕ, zero, suc, ◌+◌, ◌<◌, ◌≤◌, ◌==◌, Bool, true, false, not, ◌&&◌, if◌then◌else◌, List, [], ◌∷◌, length, take, drop, get_or, length-drop, drop-drop, refl, sym, ap, ◌∙◌, arith}
+use Rattle.std.proofs.Common.{◌≡◌, ◌≢◌, ℕ, zero, suc, ◌+◌, ◌<◌, ◌==◌, Bool, true, false, not, ◌&&◌, if◌then◌else◌, List, [], ◌∷◌, length, take, drop, get_or, refl, sym, ap, arith}
 use Rattle.std.specs.List.{prefix_len}
 use Rattle.std.proofs.lemmas.Bool.{and_parts, eqb-true}
-use Rattle.std.proofs.lemmas.List.{take_all, drop_all}
 use Rattle.std.proofs.lemmas.Bool.Decides.{nat_tests}
 use Rattle.cha_list.specs.declared.classes.Class.TheVariants.{NotLineFeed}
 use Rattle.cha_list.specs.Bytes.{in_class}
@@ -103,20 +102,3 @@ pub next_line_is : (bs : List ℕ) (n : ℕ) → n ≡ prefix_len (in_class NotL
 unfolding lines in_class
 next_line_is [] n e small = absurd (omega arith)
 next_line_is (b ∷ bs) n e small = first_step b bs n (b == 10) ((b == 13) && begins_with_line_feed bs) refl refl e small (next_line_is bs)
-
--- as the code cuts a text
-pub last_cut : (bs front rest : List ℕ) (n : ℕ) → 0 < length bs → n ≡ prefix_len (in_class NotLineFeed) bs → n ≤ length bs → front ≡ take n bs → rest ≡ drop n bs → length rest ≡ 0
-    → lines bs ≡ front ∷ lines rest
-unfolding lines
-last_cut bs front rest n some e bound front_is rest_is none =
-    let size : n ≡ length bs = omega (arith, ap length rest_is, length-drop n bs) in
-    let empty : rest ≡ [] = rest_is ∙ drop_all n bs (omega arith) in
-    let whole : front ≡ bs = front_is ∙ take_all n bs (omega arith) in
-    rw (empty, whole) (last_line bs some (sym e ∙ size))
-
-pub next_cut : (bs front rest later line : List ℕ) (n : ℕ) → n ≡ prefix_len (in_class NotLineFeed) bs → front ≡ take n bs → rest ≡ drop n bs → 0 < length rest → later ≡ drop 1 rest → line ≡ without_return front
-    → lines bs ≡ line ∷ lines later
-next_cut bs front rest later line n e front_is rest_is some later_is line_is =
-    let inside : n < length bs = omega (arith, ap length rest_is, length-drop n bs) in
-    let after : later ≡ drop (n + 1) bs = later_is ∙ ap (drop 1) rest_is ∙ drop-drop 1 n bs in
-    rw (line_is, front_is, after) (next_line_is bs n e inside)

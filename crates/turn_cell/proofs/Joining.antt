@@ -48,9 +48,6 @@ module _ {V C R : Type 0} (step : V → C → R → V → Type 0) (start : V) (s
   parts : IsPrefix v.seen (longer_of v.seen w.seen) × IsPrefix w.seen (longer_of v.seen w.seen)
   parts = both_in v.seen w.seen k.history both.0 both.1
 
-  abbrev this : TakenBack C R
-  this = taken_back w.number w.mine
-
   fits_one : Fits start k.history one_view
   fits_one = record {
     origin = fv.origin;

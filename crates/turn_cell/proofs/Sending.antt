@@ -9,8 +9,8 @@ use Rattle.turn_cell.specs.contracts.views.Said.{the_row as said_row}
 use Rattle.turn_cell.specs.contracts.views.View.{the_row as view_row}
 use Rattle.atomic_table.specs.contracts.shared.Seat.{the_row as seat_row}
 use Rattle.turn_cell.specs.contracts.cells.TurnCell.{the_row as cell_row}
-use Rattle.atomic_table.proofs.shared.Shared.TheSendSync.{the_send as shared_send, the_sync as shared_sync}
-use Rattle.atomic_table.proofs.send_lease.SendLease.TheSendSync.{the_send as lease_send, the_sync as lease_sync}
+use Rattle.atomic_table.proofs.shared.Shared.TheSendSync.{the_sync as shared_sync}
+use Rattle.atomic_table.proofs.send_lease.SendLease.TheSendSync.{the_sync as lease_sync}
 use Rattle.atomic_table.proofs.shared.Seat.TheSendSync.{the_send as seat_send}
 
 pub said_send : (C R : RattleType) → IsSend (said_row C R)
@@ -24,9 +24,6 @@ chair_send V C R v = search (seat_send, held_send)
 
 pub pass_send : (V C R : RattleType) (G : Ghosts V.Denot C.Denot R.Denot) → IsSend V → IsSend (the_row V C R G)
 pass_send V C R G v = search (sendable, chair_send) depth 20
-
-pub cell_send : (V C R : RattleType) (G : Ghosts V.Denot C.Denot R.Denot) → IsSend V → IsSend (cell_row V C R G)
-cell_send V C R G v = search (sendable, crosses, shared_send, lease_send, held_send) depth 20
 
 pub cell_sync : (V C R : RattleType) (G : Ghosts V.Denot C.Denot R.Denot) → IsSend V → IsSync (cell_row V C R G)
 cell_sync V C R G v = search (sendable, crosses, shared_sync, lease_sync, held_send) depth 20

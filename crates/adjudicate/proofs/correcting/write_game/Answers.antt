@@ -1,4 +1,4 @@
-use Rattle.std.proofs.Common.{◌≡◌, ◌≤◌, length, Some, IsSome, refl, sym, ap, ◌∙◌, subst}
+use Rattle.std.proofs.Common.{◌≤◌, length, IsSome, refl, sym, ap, ◌∙◌, subst}
 use Rattle.cha_outside.specs.Writing.{Takes}
 use Rattle.cha_outcome.specs.Outcomes.{new_result}
 use Rattle.item_batches.specs.Pieces.{game_piece}

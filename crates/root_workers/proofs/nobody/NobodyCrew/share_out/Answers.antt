@@ -1,4 +1,3 @@
-use Rattle.std.proofs.Common.{[]}
 use Rattle.root_workers.proofs.Refusing.{refused_share, refused_calls, none_grow}
 use Rattle.root_workers.proofs.nobody.NobodyCrew.share_out.Goals as goal
 

@@ -9,7 +9,7 @@ ghost use Rattle.pgn_results.specs.Replacing.{leans as leans_of, begins_word as 
 use crate::places::{Extent, result_places};
 use crate::quotes::put_with_value;
 use cha_list::{ByteClass, NoMemory, Text, text_of};
-use pgn_games::ResultMark;
+use pgn_games::{ResultMark, put_mark};
 use pgn_lex::{PgnClass, tokens_of};
 use std::alloc::Global;
 

@@ -24,7 +24,8 @@ use std::sync::Wait;
 use std::thread;
 use std::thread::Threads;
 
-/// The workers of a crew with the table at which they take their turns. Each searches its root moves in a thread of its own.
+/// The workers of a crew with the table at which they take their turns. Each searches its root moves in a thread of its own, but
+/// in a round of few plies, which they search one after the other.
 #[derive(Drop)]
 pub struct Many<'a, R: Threads + Wait + Sync> {
     rt: &'a R,
@@ -103,7 +104,10 @@ fn work_on<R: Wait>(
     worker.work = share_of(alloc, task, moves, worker.number, count, &mut facts);
 }
 
-/// Each worker's part of a round, in a thread of its own.
+/// The most plies of a round whose parts are searched one after the other, since it is over before a thread has begun.
+const IN_TURN: u8 = 3;
+
+/// Each worker's part of a round, in a thread of its own where the round is long enough.
 pub(crate) fn hand_out<R: Threads + Wait + Sync>(
     rt: &R,
     alloc: Global,
@@ -121,10 +125,11 @@ pub(crate) fn hand_out<R: Threads + Wait + Sync>(
     ensures done { (i : ℕ) (d : Worker) → i < length crew.old → WorkerDone table.now task.now moves.now (length crew.old) (slice_index_or crew.old i d) (slice_index_or crew.new i d) }
 {
     let count = crew.len() as u32;
+    let threads = if task.depth <= IN_TURN { 1 } else { 16 };
     thread::for_each_mut(
         rt,
         crew,
-        16,
+        threads,
         &|_, worker: &mut Worker|
             requires { IsOfTable table.now worker.now.pass × (worker.now.number < count) × (count ≤ 16) × (moves.now ≡ legal_moves task.now.position) × (1 ≤ task.now.depth) × (task.now.depth ≤ 8) × (IsNone task.now.allowance → task.now.depth ≤ 3) }
             ensures { WorkerDone table.entry.now task.entry.now moves.entry.now count worker.entry.now worker.exit.now }

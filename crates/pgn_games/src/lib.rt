@@ -3,7 +3,7 @@
 //! `played`, `marks` and `faults` have the game that is given, `reading` the reader, and `splitting` the splitter of pieces; `token_turns`
 //! says what a token does to a game, and `cutter` keeps what a reader needs of its source, over `filling`, which reads it in pieces, and
 //! `gathering`, which moves tokens to their game. `summary` keeps what the tokens of one game say, by `tag_pairs` and `movetext`, and
-//! `history` tells contracts which tokens they were. `whole` has the law that no token is lost, `settling` that of the games that are
+//! tells contracts which tokens they were. `whole` has the law that no token is lost, `settling` that of the games that are
 //! known before the rest, `order` that of their order, `opening` that of the opening position, and `joining` that of closed texts.
 #![tactic(auto)]
 

@@ -42,7 +42,8 @@ use Rattle.cha_outcome.specs.declared.questions.Question.TheVariants.{Verdicts}
 use Rattle.cha_outcome.specs.Items.{played, played_item, item_unless, game_item, kept_item}
 use Rattle.cha_outcome.specs.Outcomes.{item_of, new_result, IsSoundOutcome, HasSoundVerdicts, AllSound}
 use Rattle.cha_outcome.specs.Rulings.{winner_ruling_of, recorded_ruling_of, running_ruling_of, ruling_of, claimant_by, is_changed, was_dead, judgment_of}
-use Rattle.item_batches.specs.Items.{kept_items}
+use Rattle.side_by_side.specs.declared.cuts.Purpose.TheVariants.{Corrected}
+use Rattle.item_batches.specs.Items.{game_items}
 use Rattle.adjudicate.proofs.OpeningLives.{move, black_mates, opening_runs}
 
 -- a game at the opening position, of which nothing but a result is told
@@ -162,6 +163,6 @@ only_begun limits draws (slice ∷ slices) (o ∷ os) bare e sound =
     let behind : map item_of os ≡ map kept_item (map placed_game_of slices) = cc in
     begun_by limits draws slice slices o (map new_result os) (All-head Bare slice slices bare) here sound.0 (only_begun limits draws slices os (All-tail Bare slice slices bare) behind sound.1) (new_result o) refl
 
-pub results_of_begun : (limits : Bounds) (draws : FlaggedDraws) (bytes : List ℕ) (os : List Outcome) → map item_of os ≡ kept_items bytes → AllSound (Verdicts limits draws) os → OnlyBegun (cut Before (tokens bytes)) (map new_result os)
+pub results_of_begun : (limits : Bounds) (draws : FlaggedDraws) (bytes : List ℕ) (os : List Outcome) → map item_of os ≡ game_items Corrected bytes → AllSound (Verdicts limits draws) os → OnlyBegun (cut Before (tokens bytes)) (map new_result os)
 unfolding placed_games
 results_of_begun limits draws bytes os e sound = only_begun limits draws (cut Before (tokens bytes)) os (result_alone (tokens bytes)) e sound

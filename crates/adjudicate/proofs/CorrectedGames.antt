@@ -25,7 +25,8 @@ use Rattle.cha_outcome.specs.Items.{item_unless, game_item, kept_item}
 use Rattle.cha_outcome.specs.declared.questions.FlaggedDraws.{FlaggedDraws}
 use Rattle.cha_outcome.specs.declared.questions.Question.TheVariants.{Verdicts}
 use Rattle.cha_outcome.specs.Outcomes.{item_of, new_result, AllSound}
-use Rattle.item_batches.specs.Items.{kept_items}
+use Rattle.side_by_side.specs.declared.cuts.Purpose.TheVariants.{Corrected}
+use Rattle.item_batches.specs.Items.{game_items}
 use Rattle.adjudicate.proofs.BegunGames.{results_of_begun}
 
 -- a game gets a result only where it was played
@@ -65,12 +66,12 @@ only_readable (slice ∷ slices) (o ∷ os) e =
     let behind : map item_of os ≡ map kept_item (map placed_game_of slices) = cc in
     only_if slice slices o (map new_result os) here (only_readable slices os behind) (new_result o) refl
 
-pub results_of_readable : (bytes : List ℕ) (os : List Outcome) → map item_of os ≡ kept_items bytes → OnlyReadable (cut Before (tokens bytes)) (map new_result os)
+pub results_of_readable : (bytes : List ℕ) (os : List Outcome) → map item_of os ≡ game_items Corrected bytes → OnlyReadable (cut Before (tokens bytes)) (map new_result os)
 unfolding placed_games
 results_of_readable bytes os e = only_readable (cut Before (tokens bytes)) os e
 
 -- the corrected text is what is written of all games, and what stands behind the last one
-pub corrected_whole : (limits : Bounds) (draws : FlaggedDraws) (bytes : List ℕ) (os : List Outcome) → AllSound (Verdicts limits draws) os → map item_of os ≡ kept_items bytes
+pub corrected_whole : (limits : Bounds) (draws : FlaggedDraws) (bytes : List ℕ) (os : List Outcome) → AllSound (Verdicts limits draws) os → map item_of os ≡ game_items Corrected bytes
     → corrected bytes (map new_result os) ≡ written_games 0 bytes (placed_games bytes) (map new_result os) ++ drop (end_of 0 (take (length (map new_result os)) (placed_games bytes))) bytes
 corrected_whole limits draws bytes os sound e =
     one_by_one bytes (map new_result os) (results_of_readable bytes os e) (results_of_begun limits draws bytes os e sound) ∙ written_front bytes (map new_result os)

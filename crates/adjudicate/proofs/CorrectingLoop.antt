@@ -38,13 +38,17 @@ use Rattle.flag_report.specs.Styles.{summary}
 use Rattle.adjudicate.specs.declared.endings.Status.{Status}
 use Rattle.adjudicate.specs.declared.endings.Status.TheVariants.{Done, ReadFault, WriteFault, TooLong, NoMemory}
 use Rattle.adjudicate.specs.Statuses.{status_of_end}
-use Rattle.item_batches.specs.Items.{kept_items}
+use Rattle.item_batches.specs.Items.{game_items}
 use Rattle.adjudicate.specs.Jobs.{on_kept_games, last}
 use Rattle.adjudicate.specs.Report.{IsFront}
 use Rattle.adjudicate.specs.Runs.{Grew, outside}
 use Rattle.adjudicate.specs.Corrections.{Correction, corrected_text, corrected_front, Noted, HasAll, HasFirst, WritesWhole, EndedCorrecting}
 use Rattle.adjudicate.specs.Orders.{IsCorrecting}
-use Rattle.item_batches.specs.Readers.{ItemKind, GameItems, KeptItems, items_by, IsAskedOf}
+use Rattle.side_by_side.specs.declared.cuts.Purpose.TheVariants.{Corrected}
+use Rattle.side_by_side.specs.declared.cuts.ItemKind.{ItemKind}
+use Rattle.side_by_side.specs.declared.cuts.ItemKind.TheVariants.{Games as GamesFor}
+use Rattle.side_by_side.specs.Cuts.{IsAskedOf}
+use Rattle.item_batches.specs.Readers.{items_by}
 use Rattle.item_batches.specs.Pieces.{game_piece, end_piece}
 use Rattle.adjudicate.specs.Steps.{place_of, IsEnded}
 use Rattle.item_batches.specs.Items.{TookAsNeeded}
@@ -55,7 +59,7 @@ use Rattle.adjudicate.proofs.Progress.{sound_more, totals_more}
 
 -- So many games of the bytes taken were judged, with these totals; the last of them ends at a place.
 pub record IsJudged (q : Question) (taken : List ℕ) (given written : ℕ) (s : Totals) (os : List Outcome) : Type 0 where
-  pub first : take given (kept_items taken) ≡ map item_of os
+  pub first : take given (game_items Corrected taken) ≡ map item_of os
   pub number : length os ≡ given
   pub sound : AllSound q os
   pub totals : s ≡ totals_of os
@@ -97,7 +101,7 @@ game_at [] n item e = cc
 game_at (game ∷ games) zero item e = (game, refl, cc)
 game_at (game ∷ games) (suc n) item e = game_at games n item e
 
-pub game_of_item : (kind : ItemKind) (taken : List ℕ) (n : ℕ) (item : Item) → kind ≡ KeptItems → slice_get (items_by kind taken) n ≡ Some item → (game : PlacedGame) × (slice_get (placed_games taken) n ≡ Some game) × (item ≡ kept_item game)
+pub game_of_item : (kind : ItemKind) (taken : List ℕ) (n : ℕ) (item : Item) → kind ≡ GamesFor Corrected → slice_get (items_by kind taken) n ≡ Some item → (game : PlacedGame) × (slice_get (placed_games taken) n ≡ Some game) × (item ≡ kept_item game)
 game_of_item kind taken n item is e = game_at (placed_games taken) n item (subst (λ k. slice_get (items_by k taken) n ≡ Some item) is e)
 
 -- the outcome of work on an item is one of its game
@@ -194,7 +198,7 @@ retook q changed ended old now taken taken' more given written written' s at e s
 judged_more : (q : Question) (taken : List ℕ) (given given' written written' : ℕ) (s : Totals) (os : List Outcome) (o : Outcome) (game : PlacedGame) → IsJudged q taken given written s os → slice_get (placed_games taken) given ≡ Some game
     → Answers q (kept_item game) o → given' ≡ given + 1 → written' ≡ game.span.end → IsJudged q taken given' written' (counted s o) (os ++ o ∷ [])
 judged_more q taken given given' written written' s os o game j found answers e w = record {
-  first = ap (λ n. take n (kept_items taken)) e ∙ take_more (kept_items taken) given (kept_item game) (item_at kept_item (placed_games taken) given game found) ∙ ap (λ xs. xs ++ kept_item game ∷ []) j.first
+  first = ap (λ n. take n (game_items Corrected taken)) e ∙ take_more (game_items Corrected taken) given (kept_item game) (item_at kept_item (placed_games taken) given game found) ∙ ap (λ xs. xs ++ kept_item game ∷ []) j.first
       ∙ ap (λ x. map item_of os ++ x ∷ []) (sym answers.0) ∙ sym (map-append item_of os (o ∷ []));
   number = length-append os (o ∷ []) ∙ ap (λ n. n + 1) j.number ∙ sym e;
   sound = sound_more q os o j.sound answers.1;
@@ -241,7 +245,7 @@ room_at q changed old now taken given written s at few =
     record { few_items = omega arith; few_refused = omega arith; few_changed = omega arith; few_dead = omega arith; few_undecided = omega arith; few_found = omega arith }
 
 -- the whole output is the front up to the last game, and what stands behind it
-whole_text : (q : Question) (changed : Bool) (taken : List ℕ) (given written : ℕ) (s : Totals) (os : List Outcome) → IsAskedOf GameItems q → IsJudged q taken given written s os → map item_of os ≡ kept_items taken
+whole_text : (q : Question) (changed : Bool) (taken : List ℕ) (given written : ℕ) (s : Totals) (os : List Outcome) → IsAskedOf (GamesFor Corrected) q → IsJudged q taken given written s os → map item_of os ≡ game_items Corrected taken
     → corrected_text changed taken os ≡ corrected_front changed taken os ++ end_piece changed taken written
 whole_text q true taken given written s os asked j all = sym (append-nil (corrected_front true taken os))
 whole_text (Verdicts limits draws) false taken given written s os asked j all =
@@ -254,7 +258,7 @@ abbrev pub of : Question → Bool → Correction
 of q changed = record { judging = on_kept_games q; changed = changed }
 
 -- How a run ends, where so many games were judged and written.
-module _ (q : Question) (changed : Bool) (asked : IsAskedOf GameItems q) (old now : Option (List ℕ)) (g : ℕ) (taken : List ℕ) (given written : ℕ) (s : Totals) (at : IsAt q changed old now taken given written s)
+module _ (q : Question) (changed : Bool) (asked : IsAskedOf (GamesFor Corrected) q) (old now : Option (List ℕ)) (g : ℕ) (taken : List ℕ) (given written : ℕ) (s : Totals) (at : IsAt q changed old now taken given written s)
     (took : TookAsNeeded settled_games taken given) (left left' : Option (List ℕ)) (f f' : ℕ) (consumed : Consumes left left' taken) (source_later : f ≤ f') (notes : Noted) where
   -- so many games may be written: they are settled, or nothing is left
   abbrev pub MayHave : ℕ → Type 0
@@ -262,8 +266,8 @@ module _ (q : Question) (changed : Bool) (asked : IsAskedOf GameItems q) (old no
 
   first_of : (next : Option (List ℕ)) (g' : ℕ) → MayHave given → HasFirst (on_kept_games q) (outside left' f' next g') taken at.os
   first_of next g' may = (
-    drop given (kept_items taken),
-    sym (take-append-drop given (kept_items taken)) ∙ ap (λ x. x ++ drop given (kept_items taken)) at.judged.first,
+    drop given (game_items Corrected taken),
+    sym (take-append-drop given (game_items Corrected taken)) ∙ ap (λ x. x ++ drop given (game_items Corrected taken)) at.judged.first,
     at.judged.sound,
     subst MayHave (sym at.judged.number) may,
   )
@@ -325,8 +329,8 @@ module _ (q : Question) (changed : Bool) (asked : IsAskedOf GameItems q) (old no
       let front = corrected_front changed taken at.os in
       let j = judged_more q taken given (given + 1) written game.span.end s at.os o game at.judged found answers refl refl in
       let more : HasFirst (on_kept_games q) (outside left' f' next g') taken (at.os ++ o ∷ []) = (
-        drop (given + 1) (kept_items taken),
-        sym (take-append-drop (given + 1) (kept_items taken)) ∙ ap (λ x. x ++ drop (given + 1) (kept_items taken)) j.first,
+        drop (given + 1) (game_items Corrected taken),
+        sym (take-append-drop (given + 1) (game_items Corrected taken)) ∙ ap (λ x. x ++ drop (given + 1) (game_items Corrected taken)) j.first,
         j.sound,
         subst MayHave (sym j.number) may,
       ) in
@@ -366,8 +370,8 @@ module _ (q : Question) (changed : Bool) (asked : IsAskedOf GameItems q) (old no
       later : g ≤ g'
       later = omega (arith, before, w.later)
 
-      every_item : map item_of at.os ≡ kept_items taken
-      every_item = sym at.judged.first ∙ take_whole (kept_items taken) given (omega (arith, all, length-map (placed_games taken) kept_item))
+      every_item : map item_of at.os ≡ game_items Corrected taken
+      every_item = sym at.judged.first ∙ take_whole (game_items Corrected taken) given (omega (arith, all, length-map (placed_games taken) kept_item))
 
       every : HasAll (on_kept_games q) taken at.os
       every = (every_item, at.judged.sound)

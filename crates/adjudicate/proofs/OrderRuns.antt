@@ -11,7 +11,8 @@ use Rattle.adjudicate.specs.Corrections.{Correction, Noted}
 use Rattle.adjudicate.specs.Orders.{IsCorrecting, IsRun}
 use Rattle.adjudicate.proofs.Fronts.{front_of_none}
 use Rattle.item_batches.specs.Items.{TookAsNeeded}
-use Rattle.item_batches.specs.Readers.{GameItems, KeptItems, LineItems}
+use Rattle.side_by_side.specs.declared.cuts.Purpose.TheVariants.{Judged, Corrected}
+use Rattle.side_by_side.specs.declared.cuts.ItemKind.TheVariants.{Games as GamesFor, Lines as LineItems}
 use Rattle.item_batches.proofs.Settling.{took_nothing}
 use Rattle.adjudicate.proofs.RunEndings.{took_all, not_begun_by}
 
@@ -35,8 +36,8 @@ took_none (JudgePositions limits style) = took_nothing LineItems
 took_none (ListMates side workers depth style) = took_nothing LineItems
 took_none CheckCert = took_all (λ _. 0) (λ _. refl) []
 took_none (GenGames limits seed count) = took_all (λ _. 0) (λ _. refl) []
-took_none order = took_nothing GameItems
+took_none order = took_nothing (GamesFor Judged)
 
 pub not_begun : (order : Order) (left a : Option (List ℕ)) (f g : ℕ) (notes : Noted) → IsRun order NoMemory (outside left f a g) (outside left f a g) notes notes
-not_begun (CorrectGames limits flagged changed) left a f g notes = nothing_corrected _ (took_nothing KeptItems) left a f g notes
+not_begun (CorrectGames limits flagged changed) left a f g notes = nothing_corrected _ (took_nothing (GamesFor Corrected)) left a f g notes
 not_begun order left a f g notes = (not_begun_by (job order) (took_none order) left a f g, refl)

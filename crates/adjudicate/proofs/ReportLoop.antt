@@ -23,8 +23,9 @@ use Rattle.adjudicate.specs.Statuses.{status_of_end}
 use Rattle.adjudicate.specs.Jobs.{Job}
 use Rattle.adjudicate.specs.Report.{Demand, demand_by, HasBlocks}
 use Rattle.adjudicate.specs.Runs.{Grew, outside, IsRunOf}
-use Rattle.item_batches.specs.Readers.{ItemKind, items_by, settled_by, closed_by}
-use Rattle.adjudicate.specs.Steps.{job_on}
+use Rattle.side_by_side.specs.declared.cuts.ItemKind.{ItemKind}
+use Rattle.item_batches.specs.Readers.{items_by, settled_by, closed_by}
+use Rattle.adjudicate.specs.Jobs.{job_on}
 use Rattle.adjudicate.proofs.RunEndings.{short_run, long_run}
 use Rattle.item_batches.specs.Items.{TookAsNeeded}
 use Rattle.item_batches.proofs.Batching.{took_later}
@@ -124,10 +125,10 @@ gathered a b c x y z one two =
     (one.0 ++ two.0, Consumes-trans a b c one.0 two.0 one.1 two.1, two.2 ∙ ap (λ t. t ++ two.0) one.2 ∙ append_assoc x one.0 two.0)
 
 abbrev pub of_job : ItemKind → Question → Form → Demand
-of_job k question form = demand_by (Some (job_on k question form))
+of_job k question form = demand_by (Some (job_on k question form.style form.subject))
 
 -- How a run ends, where so many items were judged: what was taken is no more than an input may have, but where it was too long.
-module _ (k : ItemKind) (question : Question) (form : Form) (old now : Option (List ℕ)) (g g' : ℕ) (taken : List ℕ) (given : ℕ) (s : Totals) (at : IsAt (job_on k question form) old now taken given s)
+module _ (k : ItemKind) (question : Question) (form : Form) (old now : Option (List ℕ)) (g g' : ℕ) (taken : List ℕ) (given : ℕ) (s : Totals) (at : IsAt (job_on k question form.style form.subject) old now taken given s)
     (took : TookAsNeeded (settled_by k) taken given) (left left' : Option (List ℕ)) (f f' : ℕ) (consumed : Consumes left left' taken) (source_later : f ≤ f') where
   -- so many items may have a block: they are settled, or nothing is left
   abbrev pub MayHave : ℕ → Type 0
@@ -138,9 +139,9 @@ module _ (k : ItemKind) (question : Question) (form : Form) (old now : Option (L
   Allowed least count = (least ≤ count) × MayHave count × TookAsNeeded (settled_by k) taken count
 
   -- so far whole blocks were written
-  whole : (least : ℕ) → least ≤ given → MayHave given → Grew old now (HasBlocks (job_on k question form) (Allowed least) taken)
+  whole : (least : ℕ) → least ≤ given → MayHave given → Grew old now (HasBlocks (job_on k question form.style form.subject) (Allowed least) taken)
   whole least due may =
-      whole_blocks (job_on k question form) taken (drop given (items_by k taken)) old now s (Allowed least) at.written (omega (arith, at.number, due), subst MayHave (sym at.number) may, subst (TookAsNeeded (settled_by k) taken) (sym at.number) took)
+      whole_blocks (job_on k question form.style form.subject) taken (drop given (items_by k taken)) old now s (Allowed least) at.written (omega (arith, at.number, due), subst MayHave (sym at.number) may, subst (TookAsNeeded (settled_by k) taken) (sym at.number) took)
 
   -- a block that was cut is not one for which more was read
   abbrev AllowsCut : ℕ → Type 0
@@ -149,8 +150,8 @@ module _ (k : ItemKind) (question : Question) (form : Form) (old now : Option (L
   for_cut : MayHave (given + 1) → AllowsCut (given + 1)
   for_cut may = (may, took_later (settled_by k) taken given (given + 1 - 1) (omega arith) took)
 
-  none_left : length (items_by k taken) ≤ given → WroteUpTo (job_on k question form) (items_by k taken) [] old now s
-  none_left few = subst (λ x. WroteUpTo (job_on k question form) (items_by k taken) x old now s) (drop_all given (items_by k taken) few) at.written
+  none_left : length (items_by k taken) ≤ given → WroteUpTo (job_on k question form.style form.subject) (items_by k taken) [] old now s
+  none_left few = subst (λ x. WroteUpTo (job_on k question form.style form.subject) (items_by k taken) x old now s) (drop_all given (items_by k taken) few) at.written
 
   -- it could not be read to its end
   pub not_read : (end : ReadEnd) (status : Status) → status ≡ status_of_end end → g ≤ g' → (end ≡ ends.ReadFault → Rose f f') → (end ≡ ends.ReadFault → settled_by k taken ≤ given) → ((end ≡ ends.TooLong) ↔ (268435456 < length taken)) → length taken ≤ 268435456 + 4096
@@ -175,7 +176,7 @@ module _ (k : ItemKind) (question : Question) (form : Form) (old now : Option (L
       → slice_get (items_by k taken) given ≡ Some item → Answers question item o → text ≡ block form.style (s.items + 1) o → text ≢ [] → Appends now next (take n text)
       → MayHave (given + 1) → IsRunOf (of_job k question form) WriteFault (outside left f old g) (outside left' f' next g')
   cut_item next item o text n later rose few found answers text_is some added may =
-      let cut = cut_block (job_on k question form) taken (drop given (items_by k taken)) (drop (given + 1) (items_by k taken)) item o old now next s text n at.written (next_is (items_by k taken) given item found) answers text_is some added AllowsCut (subst (λ n. AllowsCut (n + 1)) (sym at.number) (for_cut may)) in
+      let cut = cut_block (job_on k question form.style form.subject) taken (drop given (items_by k taken)) (drop (given + 1) (items_by k taken)) item o old now next s text n at.written (next_is (items_by k taken) given item found) answers text_is some added AllowsCut (subst (λ n. AllowsCut (n + 1)) (sym at.number) (for_cut may)) in
       short_run (of_job k question form) (outside left f old g) (outside left' f' next g') refl source_later later WriteFault
       (taken, consumed, (cut.0, cut.1, inl cut.2))
       (λ h. cc) (λ _. rose) (λ h. cc) (taken, consumed, few)
@@ -190,19 +191,19 @@ module _ (k : ItemKind) (question : Question) (form : Form) (old now : Option (L
       elim either [
         | inl is ↦ (
             let run : IsRunOf (of_job k question form) Done (outside left f old g) (outside left' f' next g') =
-            short_run (of_job k question form) (outside left f old g) (outside left' f' next g') refl source_later later Done (taken, consumed, end, tt, finished (job_on k question form) taken old now next s all_written (subst (λ b. Appends now next (summary form.style form.subject b s)) shut (done is)))
+            short_run (of_job k question form) (outside left f old g) (outside left' f' next g') refl source_later later Done (taken, consumed, end, tt, finished (job_on k question form.style form.subject) taken old now next s all_written (subst (λ b. Appends now next (summary form.style form.subject b s)) shut (done is)))
             (λ h. cc) (λ h. cc) (λ h. cc) (taken, consumed, few) in
             subst (λ x. IsRunOf (of_job k question form) x (outside left f old g) (outside left' f' next g')) (sym is) run)
         | inr (inl is) ↦ (
             let part = cut is in
-            let out = cut_summary (job_on k question form) taken old now next s part.0 all_written (subst (λ b. Appends now next (take part.0 (summary form.style form.subject b s))) shut part.1) in
+            let out = cut_summary (job_on k question form.style form.subject) taken old now next s part.0 all_written (subst (λ b. Appends now next (take part.0 (summary form.style form.subject b s))) shut part.1) in
             let run : IsRunOf (of_job k question form) WriteFault (outside left f old g) (outside left' f' next g') =
             short_run (of_job k question form) (outside left f old g) (outside left' f' next g') refl source_later later WriteFault (taken, consumed, (out.0, out.1, inr (end, out.2)))
             (λ h. cc) (λ _. cause is) (λ h. cc) (taken, consumed, few) in
             subst (λ x. IsRunOf (of_job k question form) x (outside left f old g) (outside left' f' next g')) (sym is) run)
         | inr (inr is) ↦ (
             let run : IsRunOf (of_job k question form) NoMemory (outside left f old g) (outside left' f' next g') =
-            short_run (of_job k question form) (outside left f old g) (outside left' f' next g') refl source_later later NoMemory (taken, consumed, subst (λ w. Grew old w (HasBlocks (job_on k question form) (Allowed 0) taken)) (sym (refused is)) (whole 0 (omega arith) (inr end)))
+            short_run (of_job k question form) (outside left f old g) (outside left' f' next g') refl source_later later NoMemory (taken, consumed, subst (λ w. Grew old w (HasBlocks (job_on k question form.style form.subject) (Allowed 0) taken)) (sym (refused is)) (whole 0 (omega arith) (inr end)))
             (λ h. cc) (λ h. cc) (λ h. cc) (taken, consumed, few) in
             subst (λ x. IsRunOf (of_job k question form) x (outside left f old g) (outside left' f' next g')) (sym is) run)
       ]

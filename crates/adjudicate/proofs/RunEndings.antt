@@ -23,7 +23,10 @@ use Rattle.adjudicate.specs.declared.endings.Status.{Status}
 use Rattle.adjudicate.specs.declared.endings.Status.TheVariants.{Done, Usage, ReadFault, WriteFault, TooLong, NoMemory, NotAccepted}
 use Rattle.adjudicate.specs.Statuses.{status_of_end}
 use Rattle.adjudicate.specs.CertFindings.{IsTextOf, IsUnwinnableAtFirst}
-use Rattle.adjudicate.specs.Jobs.{Job, on_games, on_made}
+use Rattle.adjudicate.specs.Jobs.{Job, job_on, on_made}
+use Rattle.side_by_side.specs.declared.cuts.Purpose.TheVariants.{Judged}
+use Rattle.side_by_side.specs.declared.cuts.ItemKind.TheVariants.{Games as GamesFor}
+use Rattle.flag_report.specs.declared.styles.Subject.TheVariants.{Games}
 use Rattle.item_batches.specs.Items.{game_items, TookAsNeeded}
 use Rattle.adjudicate.specs.Report.{Demand, demand, demand_by, HasBlocks, HasReport, HasCutBlock}
 use Rattle.adjudicate.specs.Runs.{Outside, outside, Ended, AreWhole, BeginsWhole, Takes, HasReadAll, IsRunOf}
@@ -187,7 +190,7 @@ not_begun_by j took left a f g =
 -- A run over games that were made, by the run over their text: how each status of the one is a status of the other.
 module _ (question : Question) (seed count : ℕ) (left a a' : Option (List ℕ)) (f g g' : ℕ) (text rest : List ℕ) (f' : ℕ) (text_is : text ≡ made seed count) where
   abbrev pub of_games : Demand
-  of_games = demand_by (Some (on_games question SummaryAlone))
+  of_games = demand_by (Some (job_on (GamesFor Judged) question SummaryAlone Games))
 
   abbrev pub of_made : Demand
   of_made = demand_by (Some (on_made question seed count))
@@ -200,19 +203,19 @@ module _ (question : Question) (seed count : ℕ) (left a a' : Option (List ℕ)
   no_blocks n [] = refl
   no_blocks n (o ∷ os) = no_blocks (n + 1) os
 
-  reported : (bytes out : List ℕ) → bytes ≡ made seed count → HasReport (on_games question SummaryAlone) bytes out → HasReport (on_made question seed count) [] out
-  reported bytes out all report = (report.0, report.1 ∙ ap game_items all, report.2, report.3)
+  reported : (bytes out : List ℕ) → bytes ≡ made seed count → HasReport (job_on (GamesFor Judged) question SummaryAlone Games) bytes out → HasReport (on_made question seed count) [] out
+  reported bytes out all report = (report.0, report.1 ∙ ap (game_items Judged) all, report.2, report.3)
 
   -- any number of games that are made may have a block
   abbrev Allowed : ℕ → Type 0
   Allowed many = (0 ≤ many) × AreWhole false (outside left f a' g') 0 many × TookAsNeeded (λ _. 0) [] many
 
-  nothing_out : (bytes out : List ℕ) (least : ℕ) → HasBlocks (on_games question SummaryAlone) (λ many. (least ≤ many) × AreWhole true (outside (Some rest) f' a' g') (settled_games bytes) many × TookAsNeeded settled_games bytes many) bytes out
+  nothing_out : (bytes out : List ℕ) (least : ℕ) → HasBlocks (job_on (GamesFor Judged) question SummaryAlone Games) (λ many. (least ≤ many) × AreWhole true (outside (Some rest) f' a' g') (settled_games bytes) many × TookAsNeeded settled_games bytes many) bytes out
       → HasBlocks (on_made question seed count) Allowed [] out
   unfolding blocks
-  nothing_out bytes out least h = ([], game_items (made seed count), refl, tt, h.4 ∙ no_blocks 1 h.0, (omega arith, inr tt, took_all (λ _. 0) (λ _. refl) []))
+  nothing_out bytes out least h = ([], game_items Judged (made seed count), refl, tt, h.4 ∙ no_blocks 1 h.0, (omega arith, inr tt, took_all (λ _. 0) (λ _. refl) []))
 
-  no_cut : (bytes out : List ℕ) → HasCutBlock (on_games question SummaryAlone) (λ many. AreWhole true (outside (Some rest) f' a' g') (settled_games bytes) many × TookAsNeeded settled_games bytes (many - 1)) bytes out → ⊥
+  no_cut : (bytes out : List ℕ) → HasCutBlock (job_on (GamesFor Judged) question SummaryAlone Games) (λ many. AreWhole true (outside (Some rest) f' a' g') (settled_games bytes) many × TookAsNeeded settled_games bytes (many - 1)) bytes out → ⊥
   unfolding block
   no_cut bytes out h = h.9 refl
 

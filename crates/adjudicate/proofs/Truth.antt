@@ -13,6 +13,7 @@ use Rattle.true_blocks.specs.Shown.{ShowsOnlyTruth}
 use Rattle.adjudicate.specs.declared.endings.Status.{Status}
 use Rattle.adjudicate.specs.declared.endings.Status.TheVariants.{Done}
 use Rattle.adjudicate.specs.Corrections.{Noted}
+use Rattle.side_by_side.specs.declared.cuts.Purpose.TheVariants.{Judged}
 use Rattle.item_batches.specs.Items.{game_items, position_items}
 use Rattle.adjudicate.specs.Orders.{IsRun}
 use Rattle.adjudicate.specs.Runs.{outside, Grew}
@@ -49,11 +50,11 @@ both_search words o e none (inl is) = games_search words o e none is
 both_search words o e none (inr is) = positions_search words o e none is
 
 module _ (left left' a a' : Option (List ℕ)) (f f' g g' : ℕ) (notes notes' : Noted) where
-  games_done : IsRun (AdjudicateGames usual false usually) Done (outside left f a g) (outside left' f' a' g') notes notes' → ReportsTruth game_items Games left left' a a'
+  games_done : IsRun (AdjudicateGames usual false usually) Done (outside left f a g) (outside left' f' a' g') notes notes' → ReportsTruth (game_items Judged) Games left left' a a'
   games_done run =
       let r = run.0.ended in
       let report = r.4.2 in
-      (r.0, r.1, r.2, (r.4.0, r.4.1, true_report usual Stand Games (game_items r.0) report.0 r.4.0 report.1 (all_meant usual Stand report.0 report.2) report.3))
+      (r.0, r.1, r.2, (r.4.0, r.4.1, true_report usual Stand Games (game_items Judged r.0) report.0 r.4.0 report.1 (all_meant usual Stand report.0 report.2) report.3))
 
   positions_done : IsRun (JudgePositions usual usually) Done (outside left f a g) (outside left' f' a' g') notes notes' → ReportsTruth position_items Positions left left' a a'
   positions_done run =
@@ -83,7 +84,7 @@ module _ (left left' a a' : Option (List ℕ)) (f f' g g' : ℕ) (notes notes' :
       let same : o ≡ expected = cc in
       subst (λ x. Ran expected x) done (subst (λ x. Ran x s) same run)
 
-  pub games_true : (words : List (List ℕ)) (o : Order) (s : Status) → order_of words ≡ Some o → Ran o s → words ≡ codes "adjudicate" ∷ [] → s ≡ Done → ReportsTruth game_items Games left left' a a'
+  pub games_true : (words : List (List ℕ)) (o : Order) (s : Status) → order_of words ≡ Some o → Ran o s → words ≡ codes "adjudicate" ∷ [] → s ≡ Done → ReportsTruth (game_items Judged) Games left left' a a'
   games_true words o s e run is done = games_done (ordered words (codes "adjudicate" ∷ []) o (AdjudicateGames usual false usually) s e games_alone is done run)
 
   pub positions_true : (words : List (List ℕ)) (o : Order) (s : Status) → order_of words ≡ Some o → Ran o s → words ≡ codes "position" ∷ [] → s ≡ Done → ReportsTruth position_items Positions left left' a a'

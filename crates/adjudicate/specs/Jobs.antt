@@ -1,8 +1,6 @@
 -- What an order asks for (this project).
 use Rattle.std.specs.Prelude.{ℕ, Bool, true, false, if◌then◌else◌, List, Option, Some, None}
-use Rattle.text_lines.specs.Lines.{settled_lines}
 use Rattle.pgn_games.specs.Games.{is_closed}
-use Rattle.pgn_games.specs.Settling.{settled_games}
 use Rattle.random_games.specs.Made.{made}
 use Rattle.cha_outcome.specs.declared.items.Item.{Item}
 use Rattle.cha_outcome.specs.declared.outcomes.Outcome.{Outcome}
@@ -16,7 +14,11 @@ use Rattle.report_style.specs.declared.styles.Style.TheVariants.{SummaryAlone}
 use Rattle.flag_report.specs.declared.styles.Subject.{Subject}
 use Rattle.flag_report.specs.declared.styles.Subject.TheVariants.{Games, Positions, Mates, Plies}
 use Rattle.flag_report.specs.Styles.{summary}
-use Rattle.item_batches.specs.Items.{position_items, game_items, kept_items, replay_items}
+use Rattle.side_by_side.specs.declared.cuts.Purpose.TheVariants.{Judged, Corrected, Told}
+use Rattle.side_by_side.specs.declared.cuts.ItemKind.{ItemKind}
+use Rattle.side_by_side.specs.declared.cuts.ItemKind.TheVariants.{Games as GamesFor, Lines}
+use Rattle.item_batches.specs.Items.{game_items}
+use Rattle.item_batches.specs.Readers.{items_by, settled_by, closed_by}
 use Rattle.cha_words.specs.declared.orders.Order.{Order}
 use Rattle.cha_words.specs.declared.orders.Order.TheVariants.{AdjudicateGames, CorrectGames, JudgePositions, CheckCert, GenGames, ListMates, ReplayGames}
 
@@ -31,23 +33,17 @@ pub record Job : Type 0 where
   pub style : Style
   pub subject : Subject
 
--- a job on games as they come, on lines as they come, and on games whose moves are told as they come
-abbrev pub on_games : Question → Style → Job
-on_games question style = record { reads = true; items = game_items; settled = settled_games; question = question; closed = is_closed; style = style; subject = Games }
-
-abbrev pub on_lines : Question → Style → Subject → Job
-on_lines question style subject = record { reads = true; items = position_items; settled = settled_lines; question = question; closed = λ _. true; style = style; subject = subject }
-
-abbrev pub on_replays : Question → Style → Job
-on_replays question style = record { reads = true; items = replay_items; settled = settled_games; question = question; closed = is_closed; style = style; subject = Plies }
+-- a job on items of a kind as they come
+abbrev pub job_on : ItemKind → Question → Style → Subject → Job
+job_on kind question style subject = record { reads = true; items = items_by kind; settled = settled_by kind; question = question; closed = closed_by kind; style = style; subject = subject }
 
 -- a job on games whose results may be corrected; its report is the summary alone
 abbrev pub on_kept_games : Question → Job
-on_kept_games question = record { reads = true; items = kept_items; settled = settled_games; question = question; closed = is_closed; style = SummaryAlone; subject = Games }
+on_kept_games question = job_on (GamesFor Corrected) question SummaryAlone Games
 
 -- a job on games that are made of a seed, whose blocks are not printed
 abbrev pub on_made : Question → ℕ → ℕ → Job
-on_made question seed count = record { reads = false; items = λ _. game_items (made seed count); settled = λ _. 0; question = question; closed = λ _. is_closed (made seed count); style = SummaryAlone; subject = Games }
+on_made question seed count = record { reads = false; items = λ _. game_items Judged (made seed count); settled = λ _. 0; question = question; closed = λ _. is_closed (made seed count); style = SummaryAlone; subject = Games }
 
 -- what becomes of drawn games whose flag fell
 abbrev pub draws_by : Bool → FlaggedDraws
@@ -55,13 +51,13 @@ draws_by flagged = if flagged then Examined else Stand
 
 -- the job that an order is; the check of a certificate is none
 abbrev pub job : Order → Option Job
-job (AdjudicateGames limits flagged style) = Some (on_games (questions.Verdicts limits (draws_by flagged)) style)
+job (AdjudicateGames limits flagged style) = Some (job_on (GamesFor Judged) (questions.Verdicts limits (draws_by flagged)) style Games)
 job (CorrectGames limits flagged changed) = Some (on_kept_games (questions.Verdicts limits (draws_by flagged)))
-job (JudgePositions limits style) = Some (on_lines (questions.Verdicts limits Stand) style Positions)
+job (JudgePositions limits style) = Some (job_on Lines (questions.Verdicts limits Stand) style Positions)
 job CheckCert = None
 job (GenGames limits seed count) = Some (on_made (questions.Verdicts limits Stand) seed count)
-job (ListMates side workers depth style) = Some (on_lines (questions.Mates side depth) style Mates)
-job (ReplayGames style) = Some (on_replays questions.Plies style)
+job (ListMates side workers depth style) = Some (job_on Lines (questions.Mates side depth) style Mates)
+job (ReplayGames style) = Some (job_on (GamesFor Told) questions.Plies style Plies)
 
 -- what is printed at the end of a job on an input with these outcomes
 abbrev pub last : Job → List ℕ → List Outcome → List ℕ

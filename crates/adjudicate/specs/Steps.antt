@@ -1,5 +1,5 @@
 -- What the writing of an answer gives.
-use Rattle.std.specs.Prelude.{◌≡◌, ◌≢◌, ℕ, ◌≤◌, ◌⊎◌, Bool, true, false, if◌then◌else◌, List, [], Option, Some, None}
+use Rattle.std.specs.Prelude.{◌≡◌, ◌≢◌, ℕ, ◌≤◌, ◌⊎◌, Bool, if◌then◌else◌, List, Option, Some, None}
 use Rattle.std.specs.Io.KnownBytes.{Appends}
 use Rattle.cha_outside.specs.Faults.{Rose}
 use Rattle.pgn_games.specs.declared.played.Span.{Span}
@@ -7,12 +7,6 @@ use Rattle.cha_outcome.specs.declared.items.Item.{Item}
 use Rattle.cha_outcome.specs.declared.items.Item.TheVariants.{Position, RefusedLine, Played, UnreadableGame, Replayed}
 use Rattle.adjudicate.specs.declared.endings.Status.{Status}
 use Rattle.adjudicate.specs.declared.endings.Status.TheVariants.{Done, Usage, ReadFault, WriteFault, TooLong, NoMemory, NotAccepted}
-use Rattle.cha_outcome.specs.declared.questions.Question.{Question}
-use Rattle.item_batches.specs.Readers.{ItemKind, GameItems, LineItems, ReplayItems, items_by, settled_by, closed_by}
-use Rattle.adjudicate.specs.declared.jobs.Kind.{Kind}
-use Rattle.adjudicate.specs.declared.jobs.Kind.TheVariants as kinds
-use Rattle.adjudicate.specs.declared.reports.Form.{Form}
-use Rattle.adjudicate.specs.Jobs.{Job}
 use Rattle.adjudicate.specs.Report.{Demand, IsFront}
 use Rattle.adjudicate.specs.Runs.{Grew}
 use Rattle.adjudicate.specs.Corrections.{Noted}
@@ -57,14 +51,3 @@ pub record IsEnded (status : Status) (text summary : List ℕ) (old : Option (Li
   pub either : (status ≡ Done) ⊎ ((status ≡ WriteFault) ⊎ (status ≡ NoMemory))
   pub later : faults ≤ faults'
   pub notes_later : notes.faults ≤ notes'.faults
-
--- the kind of items that these are
-abbrev pub kind_by : Kind → ItemKind
-kind_by kinds.Games = GameItems
-kind_by kinds.Lines = LineItems
-kind_by kinds.Replays = ReplayItems
-
--- the job on items of a kind
-abbrev pub job_on : ItemKind → Question → Form → Job
-job_on kind question form =
-    record { reads = true; items = items_by kind; settled = settled_by kind; question = question; closed = closed_by kind; style = form.style; subject = form.subject }

@@ -22,6 +22,7 @@ ghost use Rattle.adjudicate.specs.Corrections.{noted, HasAll, HasSameGames};
 ghost use Rattle.flag_report.specs.declared.styles.Subject.TheVariants.{Games, Positions};
 ghost use Rattle.true_blocks.specs.Shown.{ShowsOnlyTruth};
 ghost use Rattle.adjudicate.specs.Jobs.{on_kept_games};
+ghost use Rattle.side_by_side.specs.declared.cuts.Purpose.TheVariants.{Judged};
 ghost use Rattle.item_batches.specs.Items.{game_items, position_items};
 ghost use Rattle.adjudicate.specs.Orders.{IsRun};
 ghost use Rattle.adjudicate.specs.Runs.{outside, Grew};
@@ -57,7 +58,7 @@ pub fn run_alone<S: Source, K: Sink, N: Sink>(
     ensures run { IfSome (order words.now) (λ o. IsRun o result (outside (S.left source.old) (S.faults source.old) (K.written sink.old) (K.faults sink.old)) (outside (S.left source.new) (S.faults source.new) (K.written sink.new) (K.faults sink.new)) (noted (N.written notes.old) (N.faults notes.old)) (noted (N.written notes.new) (N.faults notes.new))) }
 
     // The words `adjudicate` alone, and `position` alone: on Done, what was written says of each item what is true of it in chess.
-    ensures games { map string_bytes words.now ≡ codes "adjudicate" ∷ [] → result ≡ Status.Done → ReportsTruth game_items Games (S.left source.old) (S.left source.new) (K.written sink.old) (K.written sink.new) }
+    ensures games { map string_bytes words.now ≡ codes "adjudicate" ∷ [] → result ≡ Status.Done → ReportsTruth (game_items Judged) Games (S.left source.old) (S.left source.new) (K.written sink.old) (K.written sink.new) }
     ensures positions { map string_bytes words.now ≡ codes "position" ∷ [] → result ≡ Status.Done → ReportsTruth position_items Positions (S.left source.old) (S.left source.new) (K.written sink.old) (K.written sink.new) }
 
     // However their input was read, each block is true of the position whose FEN it shows.

@@ -16,7 +16,7 @@ ghost use Rattle.adjudicate.specs.Runs.{IsRunOf, outside};
 use crate::checking::check_cert;
 use crate::correcting::correct_games;
 use crate::endings::Status;
-use crate::jobs::{Kind, report, report_made};
+use crate::jobs::{report, report_made};
 use crate::reports::Form;
 use cha_judge::{MatesJudge, PliesJudge, VerdictsJudge};
 use cha_outcome::FlaggedDraws;
@@ -24,7 +24,7 @@ use cha_outside::{Sink, Source};
 use cha_words::Order;
 use flag_report::Subject;
 use root_workers::Crew;
-use side_by_side::Hands;
+use side_by_side::{Hands, ItemKind, Purpose};
 use std::alloc::Global;
 
 /// What becomes of drawn games whose flag fell.
@@ -71,7 +71,8 @@ pub fn carry_out<H: Hands, C: Crew, S: Source, K: Sink, N: Sink>(
                 style: *style,
                 subject: Subject::Games,
             };
-            report(alloc, Kind::Games, form, hands, &mut judge, source, sink)
+            let games = ItemKind::Games(Purpose::Judged);
+            report(alloc, games, form, hands, &mut judge, source, sink)
         }
         Order::CorrectGames {
             limits,
@@ -95,7 +96,15 @@ pub fn carry_out<H: Hands, C: Crew, S: Source, K: Sink, N: Sink>(
                 style: *style,
                 subject: Subject::Positions,
             };
-            report(alloc, Kind::Lines, form, hands, &mut judge, source, sink)
+            report(
+                alloc,
+                ItemKind::Lines,
+                form,
+                hands,
+                &mut judge,
+                source,
+                sink,
+            )
         }
         Order::GenGames {
             limits,
@@ -145,22 +154,23 @@ pub fn carry_out_plain<H: Hands, S: Source, K: Sink>(
                 style: *style,
                 subject: Subject::Mates,
             };
-            report(alloc, Kind::Lines, form, hands, &mut judge, source, sink)
+            report(
+                alloc,
+                ItemKind::Lines,
+                form,
+                hands,
+                &mut judge,
+                source,
+                sink,
+            )
         }
         Order::ReplayGames { style } => {
             let form = Form {
                 style: *style,
                 subject: Subject::Plies,
             };
-            report(
-                alloc,
-                Kind::Replays,
-                form,
-                hands,
-                &mut PliesJudge,
-                source,
-                sink,
-            )
+            let games = ItemKind::Games(Purpose::Told);
+            report(alloc, games, form, hands, &mut PliesJudge, source, sink)
         }
         _ => unreachable!(),
     }

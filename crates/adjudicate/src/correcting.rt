@@ -19,7 +19,9 @@ ghost use Rattle.cha_outcome.specs.declared.questions.Question.TheVariants.{Verd
 ghost use Rattle.adjudicate.specs.Corrections.{noted, HasAll, HasSameGames};
 ghost use Rattle.adjudicate.specs.Jobs.{on_kept_games};
 ghost use Rattle.adjudicate.specs.Orders.{IsCorrecting};
-ghost use Rattle.item_batches.specs.Readers.{GameItems, KeptItems, IsAskedOf};
+ghost use Rattle.side_by_side.specs.declared.cuts.Purpose.TheVariants.{Corrected};
+ghost use Rattle.side_by_side.specs.declared.cuts.ItemKind.TheVariants.{Games as GamesFor};
+ghost use Rattle.side_by_side.specs.Cuts.{IsAskedOf};
 ghost use Rattle.adjudicate.specs.Runs.{outside};
 
 use crate::endings::Status;
@@ -29,11 +31,11 @@ use cha_list::{NoMemory, Text};
 use cha_outcome::{Outcome, Totals};
 use cha_outside::{Sink, Source, Wrote};
 use flag_report::{Subject, put_summary};
-use item_batches::{Batches, ItemReader};
+use item_batches::Batches;
 use pgn_games::Span;
-use pgn_results::{KeptReader, corrected_games_stay_the_same};
+use pgn_results::corrected_games_stay_the_same;
 use report_style::Style;
-use side_by_side::{Hands, finish};
+use side_by_side::{Hands, ItemKind, Purpose, finish};
 use std::alloc::Global;
 
 /// Reads a source to its end and writes its games with the results that the Laws give them, each as soon as it is judged, and the
@@ -49,15 +51,15 @@ pub fn correct_games<H: Hands, J: Judge, S: Source, K: Sink, N: Sink>(
 ) -> Status
     requires hands { H.ready hands.now }
     requires ready { J.ready judge.old }
-    requires asked { IsAskedOf GameItems (J.question judge.old) }
+    requires asked { IsAskedOf (GamesFor Corrected) (J.question judge.old) }
     ensures stays_ready { J.ready judge.new }
     ensures worked { J.worked judge.old judge.new }
     ensures run { IsCorrecting (record { judging = on_kept_games (J.question judge.old); changed = changed }) result (outside (S.left source.old) (S.faults source.old) (K.written sink.old) (K.faults sink.old)) (outside (S.left source.new) (S.faults source.new) (K.written sink.new) (K.faults sink.new)) (noted (N.written notes.old) (N.faults notes.old)) (noted (N.written notes.new) (N.faults notes.new)) }
 {
-    let Ok(reader) = KeptReader::new(alloc) else {
+    let kind = ItemKind::Games(Purpose::Corrected);
+    let Ok(mut games) = Batches::new(alloc, hands, kind, judge.question()) else {
         return Status::NoMemory;
     };
-    let mut games = Batches::new(alloc, hands, ItemReader::Kept(reader), judge.question());
     let status = write_games(alloc, changed, &mut games, judge, source, sink, notes);
     games.end();
     status
@@ -74,8 +76,8 @@ fn write_games<H: Hands, J: Judge, S: Source, K: Sink, N: Sink>(
     notes: &mut N,
 ) -> Status
     requires ready { J.ready judge.old }
-    requires asked { IsAskedOf GameItems (J.question judge.old) }
-    requires first { games.old ≡ record { kind = KeptItems; question = J.question judge.old; taken = []; written = 0; given = 0; ended = false; failed = false } }
+    requires asked { IsAskedOf (GamesFor Corrected) (J.question judge.old) }
+    requires first { games.old ≡ record { kind = GamesFor Corrected; question = J.question judge.old; taken = []; written = 0; given = 0; ended = false; failed = false } }
     ensures stays_ready { J.ready judge.new }
     ensures worked { J.worked judge.old judge.new }
     ensures run { IsCorrecting (record { judging = on_kept_games (J.question judge.old); changed = changed }) result (outside (S.left source.old) (S.faults source.old) (K.written sink.old) (K.faults sink.old)) (outside (S.left source.new) (S.faults source.new) (K.written sink.new) (K.faults sink.new)) (noted (N.written notes.old) (N.faults notes.old)) (noted (N.written notes.new) (N.faults notes.new)) }
@@ -111,7 +113,7 @@ fn write_game<H: Hands, K: Sink>(
     sink: &mut K,
 ) -> Result<Wrote, NoMemory>
     requires room { HasRoom totals.old }
-    requires kept { games.old.kind ≡ KeptItems }
+    requires kept { games.old.kind ≡ GamesFor Corrected }
     requires goes_on { games.old.failed ≡ false }
     requires place { (span : Place) × (place_of (item_of outcome) ≡ Some span) × ((games.old.written ≤ span.start) × (span.start ≤ span.end) × (span.end ≤ length games.old.taken)) }
     ensures counted { totals.new ≡ counted totals.old outcome }
@@ -155,7 +157,7 @@ fn end_text<H: Hands, K: Sink, N: Sink>(
     sink: &mut K,
     notes: &mut N,
 ) -> Status
-    requires kept { games.now.kind ≡ KeptItems }
+    requires kept { games.now.kind ≡ GamesFor Corrected }
     requires ended { (games.now.failed ≡ false) × (games.now.ended ≡ true) }
     ensures { IsEnded result (end_piece changed games.now.taken games.now.written) (summary SummaryAlone Games (is_closed games.now.taken) totals.now) (K.written sink.old) (K.faults sink.old) (K.written sink.new) (K.faults sink.new) (noted (N.written notes.old) (N.faults notes.old)) (noted (N.written notes.new) (N.faults notes.new)) }
 {

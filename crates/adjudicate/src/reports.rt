@@ -8,7 +8,7 @@ ghost use Rattle.cha_outcome.specs.Outcomes.{IsPrintableOutcome};
 ghost use Rattle.cha_outcome.specs.Totals.{counted, HasRoom};
 ghost use Rattle.report_words.specs.LegalLines.{HasLegalLines};
 ghost use Rattle.flag_report.specs.Styles.{block, summary as summary_of};
-ghost use Rattle.adjudicate.specs.Steps.{job_on};
+ghost use Rattle.adjudicate.specs.Jobs.{job_on};
 ghost use Rattle.adjudicate.specs.Report.{demand_by};
 ghost use Rattle.item_batches.specs.Items.{most_bytes};
 ghost use Rattle.adjudicate.specs.Runs.{IsRunOf, outside};
@@ -53,7 +53,7 @@ pub fn write_report<H: Hands, J: Judge, S: Source, K: Sink>(
     requires ended { items.old.ended ≡ true → IsAtEnd (S.left source.old) }
     ensures stays_ready { J.ready judge.new }
     ensures worked { J.worked judge.old judge.new }
-    ensures run { (left : Option (List ℕ)) (faults : ℕ) → Consumes left (S.left source.old) items.old.taken → faults ≤ S.faults source.old → IsRunOf (demand_by (Some (job_on items.old.kind (J.question judge.old) form))) result (outside left faults (K.written sink.old) (K.faults sink.old)) (outside (S.left source.new) (S.faults source.new) (K.written sink.new) (K.faults sink.new)) }
+    ensures run { (left : Option (List ℕ)) (faults : ℕ) → Consumes left (S.left source.old) items.old.taken → faults ≤ S.faults source.old → IsRunOf (demand_by (Some (job_on items.old.kind (J.question judge.old) form.style form.subject))) result (outside left faults (K.written sink.old) (K.faults sink.old)) (outside (S.left source.new) (S.faults source.new) (K.written sink.new) (K.faults sink.new)) }
 {
     let mut totals = Totals::new();
     let mut text = Text::new(alloc);

@@ -23,6 +23,7 @@ ghost use Rattle.adjudicate.specs.Corrections.{noted, HasAll, HasSameGames};
 ghost use Rattle.flag_report.specs.declared.styles.Subject.TheVariants.{Games, Positions};
 ghost use Rattle.true_blocks.specs.Shown.{ShowsOnlyTruth};
 ghost use Rattle.adjudicate.specs.Jobs.{on_kept_games};
+ghost use Rattle.side_by_side.specs.declared.cuts.Purpose.TheVariants.{Judged};
 ghost use Rattle.item_batches.specs.Items.{game_items, position_items};
 ghost use Rattle.adjudicate.specs.Orders.{IsRun};
 ghost use Rattle.adjudicate.specs.Runs.{outside, Grew};
@@ -67,7 +68,7 @@ pub fn run<R: Threads + Wait + Sync, S: Source, K: Sink, N: Sink>(
     ensures one_history { IfSome (order words.now) (λ o. IfSome (limits_in o) (λ limits. DidAsOne limits.workers limits.entries)) }
 
     // The words `adjudicate` alone, and `position` alone: on Done, what was written says of each item what is true of it in chess.
-    ensures games { map string_bytes words.now ≡ codes "adjudicate" ∷ [] → result ≡ Status.Done → ReportsTruth game_items Games (S.left source.old) (S.left source.new) (K.written sink.old) (K.written sink.new) }
+    ensures games { map string_bytes words.now ≡ codes "adjudicate" ∷ [] → result ≡ Status.Done → ReportsTruth (game_items Judged) Games (S.left source.old) (S.left source.new) (K.written sink.old) (K.written sink.new) }
     ensures positions { map string_bytes words.now ≡ codes "position" ∷ [] → result ≡ Status.Done → ReportsTruth position_items Positions (S.left source.old) (S.left source.new) (K.written sink.old) (K.written sink.new) }
 
     // However their input was read, each block is true of the position whose FEN it shows.

@@ -7,7 +7,7 @@ ghost use Rattle.cha_cert.specs.declared.checking.Checked.TheVariants.{Accepted}
 ghost use Rattle.cha_cert.specs.Certificates.{IsValidCert, Answers, NodeHolds, FirstFailing};
 ghost use Rattle.cha_cert.specs.Indexed.{IsIndexOf};
 ghost use Rattle.cha_cert.specs.Shared.{expansion};
-ghost use Rattle.cert_par.specs.Failing.{TellsFailing, Found, HoldBefore, FirstBefore};
+ghost use Rattle.cert_par.specs.Failing.{Found, HoldBefore, FirstBefore};
 
 use crate::nodes::node_fails;
 use cha_board::{Color, Position, same_position};

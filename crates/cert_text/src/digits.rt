@@ -1,6 +1,6 @@
 //! Numbers as digits.
 
-ghost use Rattle.std.specs.Prelude.{◌≡◌, ◌<◌, ◌≤◌, ◌^◌, ◌++◌, length, OnOk};
+ghost use Rattle.std.specs.Prelude.{◌≡◌, ◌<◌, ◌≤◌, ◌++◌, length, OnOk};
 ghost use Rattle.cert_text.specs.Digits.{hex_digit, hex_digits, digit_value, value_of};
 
 use cha_list::{NoMemory, Text};

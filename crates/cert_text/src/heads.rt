@@ -1,6 +1,6 @@
 //! The second and the third line of a text.
 
-ghost use Rattle.std.specs.Prelude.{◌≤◌, drop, length, ◌≡◌, ◌<◌, ◌^◌, IfOk, IfSome};
+ghost use Rattle.std.specs.Prelude.{◌≤◌, drop, length, ◌≡◌, ◌<◌, IfOk};
 ghost use Rattle.cert_text.specs.declared.faults.CertKind.TheVariants.{Winner, Count};
 ghost use Rattle.cert_text.specs.TextLines.{lines_of, tail_of};
 ghost use Rattle.cert_text.specs.Texts.{winner_of, count_of, wanted};

@@ -1,6 +1,6 @@
 //! A shared certificate read from its text.
 
-ghost use Rattle.std.specs.Prelude.{◌≤◌, drop, length, ◌≡◌, ◌≢◌, ◌<◌, ◌^◌, Ok, Err, IfOk, IfErr};
+ghost use Rattle.std.specs.Prelude.{length, ◌≡◌, ◌≢◌, ◌<◌, ◌^◌, Ok, Err, IfOk, IfErr};
 ghost use Rattle.cert_text.specs.declared.faults.CertKind.TheVariants.{NoMemory};
 ghost use Rattle.cert_text.specs.SharedSpelled.{shared_text};
 ghost use Rattle.cert_text.specs.SharedTexts.{shared_cert_of};

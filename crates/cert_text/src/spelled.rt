@@ -1,6 +1,6 @@
 //! The text of a certificate, written.
 
-ghost use Rattle.std.specs.Prelude.{◌≡◌, ◌<◌, ◌≤◌, ◌^◌, ◌++◌, [], ◌∷◌, Ok, length, map, OnOk, IfOk};
+ghost use Rattle.std.specs.Prelude.{◌≡◌, ◌<◌, ◌^◌, ◌++◌, [], ◌∷◌, Ok, length, map, OnOk, IfOk};
 ghost use Rattle.std.specs.List.{All, flat_map};
 ghost use Rattle.mob_sets.specs.Tidy.{AreTidy};
 ghost use Rattle.cert_text.specs.Spelled.{header_line, winner_line, count_line, loose_line, row_line, node_lines, IsInnerOrLeaf, AreInnerOrLeaves, lines_text, cert_text};

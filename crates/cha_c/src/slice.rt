@@ -1,6 +1,6 @@
 //! Bytes that a caller lends, as a source.
 
-ghost use Rattle.std.specs.Prelude.{◌≡◌, ◌<◌, length, drop};
+ghost use Rattle.std.specs.Prelude.{◌≡◌, ◌<◌, length};
 ghost use Rattle.std.specs.declared.option.Option.TheVariants.{Some};
 ghost use Rattle.cha_outside.specs.Reading.{GivesWithin, Gives, ReadCause};
 

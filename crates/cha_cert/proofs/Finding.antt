@@ -18,7 +18,7 @@ use Rattle.cha_cert.specs.declared.indexing.Place.{Place}
 use Rattle.cha_cert.specs.declared.nodes.Node.{Node}
 use Rattle.cha_cert.specs.declared.nodes.Part.TheVariants.{Inner}
 use Rattle.cha_cert.specs.Certificates.{AllValid, positions_of}
-use Rattle.cha_cert.specs.Indexed.{packed_of, places_from, words_in, IsIndexOf, AreSorted, Shows}
+use Rattle.cha_cert.specs.Indexed.{packed_of, places_from, words_in, IsIndexOf, AreSorted}
 
 -- packed positions are their words
 packed_same : (a b : Packed) → a.words ≡ b.words → a ≡ b
@@ -150,6 +150,11 @@ packed_shows nodes valid q good = (
       let one = sym (position_at nodes (there.0) q (node_of q) inside) ∙ there.2 in
       (there.0, omega (arith, length-map nodes (λ node. packed_of node.position)), packed_at nodes (there.0) (packed_of q) (node_of q) inside ∙ ap packed_of one)),
 )
+
+-- a position is that of some node exactly where its words are in the list
+abbrev pub Shows : List Node → List Place → Type 0
+Shows nodes places =
+    (q : Board) → IsValid q → Contains (words_in places) (packed_of q) ↔ Contains (positions_of nodes) q
 
 -- an index shows the positions of its nodes
 pub index_shows : (nodes : List Node) (places : List Place) → IsIndexOf nodes places → Shows nodes places

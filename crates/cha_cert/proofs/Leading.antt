@@ -13,7 +13,8 @@ use Rattle.cha_moves.proofs.Validity.{after_is_valid}
 use Rattle.cha_cert.specs.declared.indexing.Place.{Place}
 use Rattle.cha_cert.specs.declared.nodes.Node.{Node}
 use Rattle.cha_cert.specs.Certificates.{positions_of, InnerHolds}
-use Rattle.cha_cert.specs.Indexed.{packed_of, words_in, Shows, LeadsInto}
+use Rattle.cha_cert.specs.Indexed.{packed_of, words_in, LeadsInto}
+use Rattle.cha_cert.proofs.Finding.{Shows}
 
 -- one more move leads to a position of the index
 pub leads_more : (places : List Place) (q : Board) (moves : List Move) (k : ℕ) → ((j : ℕ) (d : Move) → j < k → Contains (words_in places) (packed_of (after q (get_or moves j d))))

@@ -1,12 +1,12 @@
 -- What an index of positions shows (this project).
-use Rattle.std.specs.Prelude.{◌↔◌, ℕ, ◌+◌, List, [], ◌∷◌, map}
+use Rattle.std.specs.Prelude.{ℕ, ◌+◌, List, [], ◌∷◌, map}
 use Rattle.std.specs.List.{Contains}
 use Rattle.std.specs.List.Sorted.{IsPermutation, IsSortedBy}
 use Rattle.std.specs.Ordering.{nat_cmp, is_lt}
 use Rattle.std.specs.Cmp.Lexicographic.{slice_cmp}
 use Rattle.cha_board.specs.declared.men.Color.{Color}
 use Rattle.cha_board.specs.Men.{other_color}
-use Rattle.cha_board.specs.Board.{Board, IsValid}
+use Rattle.cha_board.specs.Board.{Board}
 use Rattle.cha_board.specs.Packing.{words_of}
 use Rattle.cha_board.specs.declared.packed.Packed.{Packed}
 use Rattle.cha_moves.specs.Step.{Move}
@@ -38,11 +38,6 @@ words_in places = map (λ (place : Place). place.packed) places
 -- the words rise, one word after the other
 abbrev pub AreSorted : List Place → Type 0
 AreSorted places = IsSortedBy (λ (a b : Place). is_lt (slice_cmp nat_cmp a.packed.words b.packed.words)) places
-
--- a position is that of some node exactly where its words are in the list
-abbrev pub Shows : List Node → List Place → Type 0
-Shows nodes places =
-    (q : Board) → IsValid q → Contains (words_in places) (packed_of q) ↔ Contains (positions_of nodes) q
 
 -- q is no mate for w, and each legal move leads to a position whose words are in the list
 pub record LeadsInto (w : Color) (places : List Place) (q : Board) : Type 0 where

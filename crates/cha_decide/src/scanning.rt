@@ -1,6 +1,6 @@
 //! From where on a game was dead.
 
-ghost use Rattle.std.specs.Prelude.{◌≡◌, ◌+◌, ◌<◌, ◌≤◌, length, IfOk, IfSome, MatchOption};
+ghost use Rattle.std.specs.Prelude.{◌≡◌, ◌+◌, ◌<◌, ◌≤◌, length, IfOk, IfSome};
 ghost use Rattle.cha_verdict.specs.Verdicts.{is_winnable as can_mate};
 ghost use Rattle.cha_verdict.specs.Scans.{HasScan, IsPrintableScan};
 ghost use Rattle.cha_fact.specs.Entries.{MadeSome};

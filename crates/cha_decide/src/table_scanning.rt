@@ -1,6 +1,6 @@
 //! From where on a game was dead, by workers that are threads at one table.
 
-ghost use Rattle.std.specs.Prelude.{◌≡◌, ◌<◌, ◌≤◌, true, false, length, IfOk, IfSome, MatchOption};
+ghost use Rattle.std.specs.Prelude.{◌<◌, ◌≤◌, length, IfOk, IfSome};
 ghost use Rattle.cha_verdict.specs.Scans.{HasScan, IsPrintableScan};
 ghost use Rattle.root_workers.specs.Crews.{IsCrew, AllKnowWell, CrewMakes};
 ghost use Rattle.cha_fact.specs.Entries.{MadeSome};

@@ -1,6 +1,6 @@
 //! A list that grows, seen by contracts as the list of its items.
 
-ghost use Rattle.std.specs.Prelude.{◌≡◌, ◌<◌, ◌^◌, [], ◌∷◌, ◌++◌, length, decimal, OnOk, OnErr, IfOk, IfErr, IfSome, IfNone};
+ghost use Rattle.std.specs.Prelude.{◌≡◌, ◌<◌, [], ◌∷◌, ◌++◌, decimal, OnOk, OnErr, IfOk, IfErr, IfSome, IfNone};
 
 use crate::memory::NoMemory;
 use std::alloc::Global;

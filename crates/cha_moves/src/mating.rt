@@ -1,10 +1,10 @@
 //! Moves that mate at once.
 
-ghost use Rattle.std.specs.Prelude.{ℕ, ◌≡◌, ◌<◌, [], ◌∷◌, true, Some, IsTrue, ◌↔◌, IfSome, IfNone, Contains};
+ghost use Rattle.std.specs.Prelude.{◌≡◌, ◌<◌, [], ◌∷◌, true, Some, IsTrue, ◌↔◌, IfSome, IfNone, Contains};
 ghost use Rattle.cha_board.specs.declared.men.Kind.{Kind as ManKind};
 ghost use Rattle.cha_board.specs.Men.{other_color};
-ghost use Rattle.cha_board.specs.Board.{man_at, king_of};
-ghost use Rattle.cha_board.specs.SquareSets.{squares_in, has_square};
+ghost use Rattle.cha_board.specs.Board.{king_of};
+ghost use Rattle.cha_board.specs.SquareSets.{squares_in};
 ghost use Rattle.cha_moves.specs.Step.{Move as Step};
 ghost use Rattle.cha_moves.specs.Moves.{is_promotion};
 ghost use Rattle.cha_moves.specs.Ends.{IsMatingLine};

@@ -1,7 +1,6 @@
 //! The positions of a game.
 
 ghost use Rattle.std.specs.Prelude.{◌≡◌, ◌+◌, ◌≤◌, ◌⊎◌, ◌++◌, [], ◌∷◌, Ok, Err, None, Some, slice_get, length, IfOk, IfErr, OnOk};
-ghost use Rattle.cha_moves.specs.Moves.{after as position_after};
 ghost use Rattle.cha_san.specs.declared.faults.SanFault.TheVariants.{NoMemory};
 ghost use Rattle.cha_san.specs.Resolving.{resolved};
 ghost use Rattle.cha_san.specs.Playing.{LacksMemory, FollowsBy, positions};

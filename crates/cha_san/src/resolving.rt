@@ -1,6 +1,6 @@
 //! The move that a word names.
 
-ghost use Rattle.std.specs.Prelude.{◌≡◌, ◌≤◌, ◌↔◌, [], ◌∷◌, Ok, Err, None, Some, filter, length, IfOk, Contains};
+ghost use Rattle.std.specs.Prelude.{◌≡◌, ◌≤◌, ◌↔◌, [], ◌∷◌, Err, None, Some, filter, length, IfOk, Contains};
 ghost use Rattle.cha_moves.specs.Moves.{moves_between, all_moves};
 ghost use Rattle.cha_moves.specs.Moves.{legal as legal_moves};
 ghost use Rattle.cha_san.specs.declared.faults.SanFault.TheVariants.{NotSan, NoSuchMove, Ambiguous};

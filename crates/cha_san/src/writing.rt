@@ -6,7 +6,7 @@ ghost use Rattle.cha_board.specs.Squares.{file_of, rank_of};
 ghost use Rattle.cha_moves.specs.Step.{Move as Step};
 ghost use Rattle.cha_moves.specs.Moves.{legal};
 ghost use Rattle.cha_san.specs.Resolving.{resolved};
-ghost use Rattle.cha_san.specs.Writing.{kind_text, promotion_text, castling_text, named_text, named_if, capture_text, parts_text, takes_man, parts_of as parts_so, is_alone as alone, marked, man_word, sign_text, san_text};
+ghost use Rattle.cha_san.specs.Writing.{kind_text, promotion_text, castling_text, named_text, named_if, capture_text, takes_man, parts_of as parts_so, is_alone as alone, marked, man_word, sign_text, san_text};
 
 use crate::fitting::castles;
 use crate::forms::{Form, Parts};

@@ -6,14 +6,20 @@ use Rattle.cha_words.specs.declared.orders.Order.TheVariants.{CheckCert}
 use Rattle.cha_words.specs.declared.table.Command.{Command}
 use Rattle.cha_words.specs.declared.table.Setting.{Setting}
 use Rattle.cha_words.specs.declared.table.Setting.TheVariants.{Budget, Workers, Depth, Entries, Certs, Json, San, Fens, FlaggedDraws, Changed}
+use Rattle.cha_words.specs.declared.given.Given.{Given}
+use Rattle.cha_words.specs.declared.given.Said.TheVariants.{Nothing}
 use Rattle.cha_words.specs.declared.given.Progress.{Progress}
 use Rattle.cha_words.specs.declared.faults.Expected.{Expected}
 use Rattle.cha_words.specs.declared.faults.Expected.TheVariants.{First, Behind}
 use Rattle.cha_words.specs.Language.{command_named, range, order_by, order_of}
-use Rattle.cha_words.specs.Reading.{value_in, nothing, order_from, order_with, IsGivenIn, Stands, TakesWord}
+use Rattle.cha_words.specs.Reading.{value_in, order_from, order_with, IsGivenIn, Stands, TakesWord}
 use Rattle.cha_words.specs.Faults.{IsFaultOf}
 use Rattle.cha_words.proofs.Cutting.{cut_same}
 use Rattle.cha_words.proofs.Completing.{goes_on}
+
+-- nothing is given
+abbrev pub nothing : Given
+nothing = record { budget = None; workers = None; depth = None; entries = None; certs = None; json = None; san = None; fens = None; flagged_draws = None; changed = None; said = Nothing }
 
 abbrev start : Progress
 start = record { given = nothing; awaited = None }

@@ -53,10 +53,6 @@ put Fens n given = record given { fens = Some n }
 put FlaggedDraws n given = record given { flagged_draws = Some n }
 put Changed n given = record given { changed = Some n }
 
--- nothing is given
-abbrev pub nothing : Given
-nothing = record { budget = None; workers = None; depth = None; entries = None; certs = None; json = None; san = None; fens = None; flagged_draws = None; changed = None; said = Nothing }
-
 -- the numbers that an option may be given now: none where it is given already, or where the command does not take it
 abbrev pub open_by : Option ℕ → Option Range → Option Range
 open_by None range = range

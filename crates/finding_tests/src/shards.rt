@@ -1,7 +1,5 @@
 //! A shard of one row, through each reply but the one for want of memory.
 
-ghost use Rattle.std.specs.Prelude.{◌≡◌};
-
 use crate::from_fen::place;
 use cha_board::{Color, Square};
 use cha_fact::{FactCall, FactReply, Facts, Key, Line, Probe, Proved, Stored};

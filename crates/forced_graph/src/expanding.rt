@@ -1,6 +1,6 @@
 //! How a position is expanded.
 
-ghost use Rattle.std.specs.Prelude.{◌≡◌, ◌+◌, ◌<◌, [], length, IfOk, IfSome, IfNone, OnOk};
+ghost use Rattle.std.specs.Prelude.{◌≡◌, ◌+◌, ◌<◌, [], IfOk, IfSome, IfNone, OnOk};
 ghost use Rattle.cha_moves.specs.Ends.{IsMatingLine};
 ghost use Rattle.node_store.specs.Nodes.{IsReached};
 ghost use Rattle.forced_graph.specs.Regions.{IsBetween, IsExpanding, IsTaskOf, IsSameTask, IsMet};

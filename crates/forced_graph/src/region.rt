@@ -1,6 +1,6 @@
 //! The positions that an exploration has met.
 
-ghost use Rattle.std.specs.Prelude.{◌≡◌, ◌<◌, ℕ, length, IfOk};
+ghost use Rattle.std.specs.Prelude.{◌≡◌, ◌<◌, length, IfOk};
 ghost use Rattle.cha_board.specs.Men.{other_color};
 ghost use Rattle.cha_board.specs.Board.{Board};
 ghost use Rattle.cha_moves.specs.Ends.{IsMated, IsMatingLine};

@@ -1,6 +1,6 @@
 //! An exploration at a table at which others take turns too.
 
-ghost use Rattle.std.specs.Prelude.{◌≡◌, ◌<◌, List, IfOk};
+ghost use Rattle.std.specs.Prelude.{◌<◌, List, IfOk};
 ghost use Rattle.cha_board.specs.Men.{other_color};
 ghost use Rattle.cha_moves.specs.Ends.{IsMated};
 ghost use Rattle.cha_fact.specs.Entries.{Entry};

@@ -1,7 +1,6 @@
 //! How the next position is taken from those that wait.
 
 ghost use Rattle.std.specs.Prelude.{◌≡◌, ◌<◌, [], length, IfOk, IfSome, IfNone};
-ghost use Rattle.node_store.specs.NameLists.{list_at, Has};
 ghost use Rattle.forced_graph.specs.Regions.{IsBetween, IsPopped, IsExpanding, IsDone, IsLeafPart, IsOpen, IsSameTask};
 ghost use Rattle.forced_graph.specs.HowManyWait.{how_many};
 

@@ -11,7 +11,10 @@ use Rattle.cha_fact.specs.Entries.{Entry}
 use Rattle.helpmate.specs.declared.answers.RoundAnswer.{RoundAnswer}
 use Rattle.helpmate.specs.declared.answers.RoundAnswer.TheVariants.{NoneWithin, Spent}
 use Rattle.helpmate.specs.Rounds.{AsksFirst, IsLeft, KeepsNone, led_answer, AreExpandedAfter, AreExpandedBy}
-use Rattle.helpmate.specs.Searches.{AreCountedBy}
+
+-- n positions were expanded by the entries of a search with this answer
+unfoldable pub AreCountedBy : List Entry → Board → Color → ℕ → RoundAnswer → ℕ → Type 0
+AreCountedBy entries q winner depth answer n = AsksFirst q winner depth entries answer n (λ rest. AreExpandedBy rest q winner depth answer n)
 
 -- n positions were expanded after these moves, after none of which there is a mate
 unfoldable pub AreExpandedByAll : (Move → List Entry → RoundAnswer → ℕ → Type 0) → List Move → List Entry → ℕ → Type 0

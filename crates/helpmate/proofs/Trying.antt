@@ -22,9 +22,9 @@ use Rattle.helpmate.specs.declared.answers.RoundAnswer.{RoundAnswer}
 use Rattle.helpmate.specs.declared.answers.RoundAnswer.TheVariants.{NoneWithin}
 use Rattle.helpmate.specs.declared.answers.RoundDone.{RoundDone}
 use Rattle.helpmate.specs.Rounds.{decided_by, AsksFirst, IsLeft, KeepsNone, led_answer, AreExpandedAfter, AreExpandedBy, FollowsProbe, RoundCalls}
-use Rattle.helpmate.specs.Searches.{AreSearched, IsExpanded, Expands, AreCountedBy, BeginsWithProbe, Searches, RootSearches}
+use Rattle.helpmate.specs.Searches.{AreSearched, IsExpanded, Expands, BeginsWithProbe, Searches, RootSearches}
 use Rattle.helpmate.proofs.Saying.{says_none}
-use Rattle.helpmate.proofs.Expanding.{AfterMove, AreExpandedByAll, none_by_all, more_by_all, ended_after, all_after, with_the_root, left_alone, not_asked_for}
+use Rattle.helpmate.proofs.Expanding.{AreCountedBy, AfterMove, AreExpandedByAll, none_by_all, more_by_all, ended_after, all_after, with_the_root, left_alone, not_asked_for}
 
 -- after none of these moves there is a mate within so many plies
 unfoldable pub HaveNoMate : Board → Color → ℕ → List Move → Type 0

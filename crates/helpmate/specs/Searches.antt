@@ -10,7 +10,7 @@ use Rattle.cha_fact.specs.Keys.{key_of}
 use Rattle.cha_fact.specs.Entries.{Entry, probe_entry, HasStore, IsSearched}
 use Rattle.helpmate.specs.declared.answers.RoundAnswer.{RoundAnswer}
 use Rattle.helpmate.specs.declared.answers.RoundAnswer.TheVariants.{NoneWithin}
-use Rattle.helpmate.specs.Rounds.{AsksFirst, AreExpandedBy, FollowsProbe}
+use Rattle.helpmate.specs.Rounds.{AreExpandedBy, FollowsProbe}
 
 -- each position after a move of a list was searched to a depth by these entries
 unfoldable pub AreSearched : List Entry → Board → Color → ℕ → List Move → Type 0
@@ -25,10 +25,6 @@ unfoldable pub Expands : {S : Type 0} → (S → List Entry → S → Type 0) �
 Expands made old new q winner depth units result =
     (entries : List Entry) × made old entries new × (result ≡ Ok NoneWithin → IsExpanded entries q winner depth)
     × ((answer : RoundAnswer) → result ≡ Ok answer → AreExpandedBy entries q winner depth answer units)
-
--- n positions were expanded by the entries of a search with this answer
-unfoldable pub AreCountedBy : List Entry → Board → Color → ℕ → RoundAnswer → ℕ → Type 0
-AreCountedBy entries q winner depth answer n = AsksFirst q winner depth entries answer n (λ rest. AreExpandedBy rest q winner depth answer n)
 
 -- the first entry is a probe of the position, and what was found is the answer if it decides
 unfoldable pub BeginsWithProbe : List Entry → Board → Color → ℕ → ℕ → Result RoundAnswer NoMemory → Type 0

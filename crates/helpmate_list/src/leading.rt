@@ -1,7 +1,6 @@
 //! Lists of lines, and lines with a move in front.
 
-ghost use Rattle.std.specs.Prelude.{◌≡◌, ◌≤◌, ◌∷◌, ◌++◌, List, length, map, take, IfOk};
-ghost use Rattle.cha_moves.specs.Step.{Move as Step};
+ghost use Rattle.std.specs.Prelude.{◌≡◌, ◌≤◌, ◌∷◌, ◌++◌, length, map, take, IfOk};
 ghost use Rattle.cha_moves.specs.MateLines.{mate_lines};
 
 use crate::answers::Lines;

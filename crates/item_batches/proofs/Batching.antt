@@ -6,11 +6,12 @@ use Rattle.cha_outcome.specs.declared.questions.Question.{Question}
 use Rattle.side_by_side.specs.declared.cuts.Cut.{Cut}
 use Rattle.side_by_side.specs.declared.progress.Progress.{Progress}
 use Rattle.side_by_side.specs.declared.progress.Progress.TheVariants.{Cut as OnlyCut}
-use Rattle.side_by_side.specs.Cuts.{item_of_cut}
+use Rattle.side_by_side.specs.declared.cuts.ItemKind.{ItemKind}
+use Rattle.side_by_side.specs.Cuts.{item_of_cut, IsAskedOf}
 use Rattle.side_by_side.specs.Progresses.{IsOf, AreAsked, AllGoOn}
 use Rattle.item_batches.specs.declared.readers.ItemReader.{ItemReader}
 use Rattle.item_batches.specs.Items.{TookAsNeeded}
-use Rattle.item_batches.specs.Readers.{ItemKind, kind_of, taken_by, given_by, has_ended, items_by, settled_by, CanGoOn, IsAskedOf}
+use Rattle.item_batches.specs.Readers.{kind_of, taken_by, given_by, has_ended, items_by, settled_by, CanGoOn}
 use Rattle.side_by_side.specs.declared.parts.Part.{Part}
 use Rattle.side_by_side.specs.Parts.{items_of, items_of_all}
 use Rattle.item_batches.specs.Batches.{IsCutAt, IsWorkAt, AreWorkFrom, IsQueued}
@@ -37,7 +38,7 @@ in_front (first ∷ ps) last (suc i) p e = elim (in_front ps last i p e) [
 
 -- what is cut at a place is work on its item
 pub cut_is_work : (question : Question) (kind : ItemKind) (bytes : List ℕ) (number : ℕ) (cut : Cut) → IsAskedOf kind question → IsCutAt kind bytes number cut → IsWorkAt question (items_by kind bytes) number (OnlyCut cut)
-cut_is_work question kind bytes number cut asked at = (item_of_cut cut, at.0, (refl, at.1, at.2 question asked))
+cut_is_work question kind bytes number cut asked at = (item_of_cut cut, at.0, (refl, at.1, subst (λ k. IsAskedOf k question) (sym at.2) asked))
 
 pub no_work : (question : Question) (items : List Item) (first : ℕ) → AreWorkFrom question items first []
 unfolding AreWorkFrom

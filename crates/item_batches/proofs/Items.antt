@@ -3,44 +3,9 @@ use Rattle.std.proofs.Common.{◌≡◌, ℕ, zero, suc, ◌+◌, ◌<◌, ◌�
 use Rattle.std.proofs.lemmas.List.{take-map}
 use Rattle.text_lines.specs.declared.lines.TextLine.{TextLine}
 use Rattle.text_lines.specs.Lines.{lines, onto_first, begins_with_line_feed, counts, line_if, numbered, text_lines, settled_lines}
-use Rattle.cha_outcome.specs.declared.questions.Question.{Question}
-use Rattle.cha_outcome.specs.declared.questions.Question.TheVariants.{Verdicts, Mates, Plies}
 use Rattle.cha_outcome.specs.Items.{line_item}
-use Rattle.pgn_games.specs.declared.played.PlacedGame.{PlacedGame}
-use Rattle.side_by_side.specs.Cuts.{IsAskedAbout}
-use Rattle.side_by_side.specs.declared.cuts.Cut.TheVariants.{Game, KeptGame, Replay, Line}
 use Rattle.text_lines.specs.Reading.{TookNoMore}
 use Rattle.item_batches.specs.Items.{TookAsNeeded}
-use Rattle.item_batches.specs.Readers.{GameItems, KeptItems, LineItems, ReplayItems, IsAskedOf}
-
--- games are asked about for verdicts alone
-pub games_about : (question : Question) (placed : PlacedGame) → IsAskedOf GameItems question → IsAskedAbout question (Game placed)
-games_about (Verdicts limits draws) placed asked = tt
-games_about (Mates side depth) placed asked = absurd asked
-games_about Plies placed asked = absurd asked
-
--- and so are games whose results may be corrected
-pub kept_about : (question : Question) (placed : PlacedGame) → IsAskedOf KeptItems question → IsAskedAbout question (KeptGame placed)
-kept_about (Verdicts limits draws) placed asked = tt
-kept_about (Mates side depth) placed asked = absurd asked
-kept_about Plies placed asked = absurd asked
-
-pub kept_asked : (question : Question) → IsAskedOf GameItems question → IsAskedOf KeptItems question
-kept_asked (Verdicts limits draws) asked = tt
-kept_asked (Mates side depth) asked = absurd asked
-kept_asked Plies asked = absurd asked
-
--- lines for anything but moves
-pub lines_about : (question : Question) (line : TextLine) → IsAskedOf LineItems question → IsAskedAbout question (Line line)
-lines_about (Verdicts limits draws) line asked = tt
-lines_about (Mates side depth) line asked = tt
-lines_about Plies line asked = absurd asked
-
--- and games whose moves are told for these alone
-pub replays_about : (question : Question) (placed : PlacedGame) → IsAskedOf ReplayItems question → IsAskedAbout question (Replay placed)
-replays_about (Verdicts limits draws) placed asked = absurd asked
-replays_about (Mates side depth) placed asked = absurd asked
-replays_about Plies placed asked = tt
 
 -- a text has at most as many lines as bytes
 onto_first_few : (b : ℕ) (ls : List (List ℕ)) → length (onto_first b ls) ≤ length ls + 1

@@ -12,7 +12,9 @@ use Rattle.pgn_games.proofs.KeptTokens.{nothing_more}
 use Rattle.pgn_games.proofs.Settled.{settled_grow}
 use Rattle.item_batches.specs.Items.{TookAsNeeded}
 use Rattle.item_batches.proofs.Items.{lines_took}
-use Rattle.item_batches.specs.Readers.{ItemKind, GameItems, KeptItems, LineItems, ReplayItems, settled_by}
+use Rattle.side_by_side.specs.declared.cuts.ItemKind.{ItemKind}
+use Rattle.side_by_side.specs.declared.cuts.ItemKind.TheVariants.{Games, Lines}
+use Rattle.item_batches.specs.Readers.{settled_by}
 
 -- a run is no longer than its text
 run_step : (v : Bool) (n size : ℕ) → n ≤ size → (if v then 1 + n else 0) ≤ suc size
@@ -60,14 +62,10 @@ lines_from (suc fuel) gone rest more number given h enough =
     (λ some given' next. lines_from fuel (gone ++ take (suc (run rest)) rest) (drop (suc (run rest)) rest) more (number + 1) given' next (omega (arith, length-drop (suc (run rest)) rest, enough)))
 
 pub settled_more : (k : ItemKind) (bytes more : List ℕ) → settled_by k bytes ≤ settled_by k (bytes ++ more)
-settled_more GameItems bytes more = settled_grow bytes more
-settled_more KeptItems bytes more = settled_grow bytes more
-settled_more LineItems bytes more = lines_from (length bytes) [] bytes more 1 0 none_gone (omega arith)
-settled_more ReplayItems bytes more = settled_grow bytes more
+settled_more (Games purpose) bytes more = settled_grow bytes more
+settled_more Lines bytes more = lines_from (length bytes) [] bytes more 1 0 none_gone (omega arith)
 
 -- where nothing was taken, no piece was
 pub took_nothing : (k : ItemKind) → TookAsNeeded (settled_by k) [] 0
-took_nothing GameItems = ([], nothing_more [] [] refl refl)
-took_nothing KeptItems = ([], nothing_more [] [] refl refl)
-took_nothing LineItems = lines_took [] 0 (none_waits [] [] refl refl)
-took_nothing ReplayItems = ([], nothing_more [] [] refl refl)
+took_nothing (Games purpose) = ([], nothing_more [] [] refl refl)
+took_nothing Lines = lines_took [] 0 (none_waits [] [] refl refl)

@@ -2,20 +2,21 @@
 use Rattle.std.specs.Prelude.{◌≡◌, ℕ, ◌+◌, ◌-◌, ◌^◌, ◌≤◌, Bool, false, List, ◌++◌, length, Some, slice_get}
 use Rattle.cha_outcome.specs.declared.items.Item.{Item}
 use Rattle.cha_outcome.specs.declared.questions.Question.{Question}
+use Rattle.side_by_side.specs.declared.cuts.ItemKind.{ItemKind}
 use Rattle.side_by_side.specs.declared.cuts.Cut.{Cut}
 use Rattle.side_by_side.specs.declared.progress.Progress.{Progress}
-use Rattle.side_by_side.specs.Cuts.{item_of_cut, IsReadable, IsAskedAbout}
+use Rattle.side_by_side.specs.Cuts.{item_of_cut, kind_of_cut, IsReadable, IsAskedOf}
 use Rattle.side_by_side.specs.Progresses.{IsOf}
 use Rattle.side_by_side.specs.Parts.{items_of_all}
 use Rattle.item_batches.specs.declared.queue.Queue.{Queue}
 use Rattle.item_batches.specs.declared.readers.ItemReader.{ItemReader}
 use Rattle.item_batches.specs.Items.{TookAsNeeded}
-use Rattle.item_batches.specs.Readers.{ItemKind, kind_of, taken_by, given_by, has_ended, items_by, settled_by, CanGoOn, IsAskedOf}
+use Rattle.item_batches.specs.Readers.{kind_of, taken_by, given_by, has_ended, items_by, settled_by, CanGoOn}
 
--- it was cut from bytes as their item with a number, from 0, and what can be asked of such items can be asked of it
+-- it is of a kind, and was cut from bytes as their item with a number, from 0
 abbrev pub IsCutAt : ItemKind → List ℕ → ℕ → Cut → Type 0
 IsCutAt kind bytes number cut =
-    (slice_get (items_by kind bytes) number ≡ Some (item_of_cut cut)) × IsReadable cut × ((question : Question) → IsAskedOf kind question → IsAskedAbout question cut)
+    (slice_get (items_by kind bytes) number ≡ Some (item_of_cut cut)) × IsReadable cut × (kind_of_cut cut ≡ kind)
 
 -- it is work on the item with a number
 abbrev pub IsWorkAt : Question → List Item → ℕ → Progress → Type 0

@@ -3,7 +3,9 @@ use Rattle.std.specs.Prelude.{◌≡◌, ℕ, ◌≤◌, List, ◌++◌, length,
 use Rattle.text_lines.specs.Lines.{text_lines}
 use Rattle.pgn_games.specs.Games.{placed_games}
 use Rattle.cha_outcome.specs.declared.items.Item.{Item}
-use Rattle.cha_outcome.specs.Items.{line_item, game_item, kept_item, replay_item}
+use Rattle.cha_outcome.specs.Items.{line_item}
+use Rattle.side_by_side.specs.declared.cuts.Purpose.{Purpose}
+use Rattle.side_by_side.specs.Cuts.{item_for}
 
 -- the most bytes that an input may have
 abbrev pub most_bytes : ℕ
@@ -18,14 +20,6 @@ TookAsNeeded settled taken given = (piece : List ℕ) × ((front : List ℕ) × 
 abbrev pub position_items : List ℕ → List Item
 position_items bytes = map (λ line. line_item line.number line.text) (text_lines bytes)
 
--- the items of a text of games, in order
-abbrev pub game_items : List ℕ → List Item
-game_items bytes = map game_item (placed_games bytes)
-
--- the items of a text of games whose results may be corrected, in order
-abbrev pub kept_items : List ℕ → List Item
-kept_items bytes = map kept_item (placed_games bytes)
-
--- the items of a text of games whose moves are told, in order
-abbrev pub replay_items : List ℕ → List Item
-replay_items bytes = map replay_item (placed_games bytes)
+-- the items of a text of games, in order, by what these are cut for
+abbrev pub game_items : Purpose → List ℕ → List Item
+game_items purpose bytes = map (item_for purpose) (placed_games bytes)

@@ -1,12 +1,15 @@
 //! The items of a reader, on which others may have worked before they are given.
 
-ghost use Rattle.std.specs.Prelude.{◌≡◌, ◌≤◌, ◌<◌, ◌+◌, ◌^◌, ◌↔◌, true, false, length, take, is_err, IfOk, IfSome, OnOk};
+ghost use Rattle.std.specs.Prelude.{◌≡◌, ◌≤◌, ◌<◌, ◌+◌, ◌^◌, ◌↔◌, true, false, [], length, take, is_err, IfOk, IfSome, OnOk};
 ghost use Rattle.std.specs.declared.result.Result.TheVariants.{Ok, Err};
 ghost use Rattle.std.specs.declared.option.Option.TheVariants.{None};
 ghost use Rattle.std.specs.Io.KnownBytes.{IsAtEnd};
 ghost use Rattle.cha_outside.specs.Faults.{Rose};
 ghost use Rattle.cha_outside.specs.Gathering.{Gathers};
-ghost use Rattle.item_batches.specs.Readers.{KeptItems, kind_of, taken_by, written_by, given_by, has_ended, items_by, settled_by, closed_by, CanGoOn, IsAskedOf};
+ghost use Rattle.item_batches.specs.Readers.{items_by, settled_by, closed_by};
+ghost use Rattle.side_by_side.specs.declared.cuts.Purpose.TheVariants.{Corrected};
+ghost use Rattle.side_by_side.specs.declared.cuts.ItemKind.TheVariants.{Games as GamesFor};
+ghost use Rattle.side_by_side.specs.Cuts.{IsAskedOf};
 ghost use Rattle.item_batches.specs.Batches.{IsWorkAt};
 ghost use Rattle.item_batches.specs.Items.{TookAsNeeded, most_bytes};
 ghost use Rattle.item_batches.specs.Pieces.{game_piece, end_piece};
@@ -18,7 +21,7 @@ use cha_list::{NoMemory, Text};
 use cha_outcome::Question;
 use cha_outside::{ReadEnd, Source};
 use pgn_games::{ResultMark, Span};
-use side_by_side::{Hands, Progress};
+use side_by_side::{Hands, ItemKind, Progress};
 use std::alloc::Global;
 use std::marker::Model;
 
@@ -48,26 +51,25 @@ impl<'a, H: Hands> Model for Batches<'a, H> {
 }
 
 impl<'a, H: Hands> Batches<'a, H> {
-    /// The items of a reader that has given none, of which this is asked. It takes no memory.
+    /// Such items of an input of which nothing was taken yet, about which this is asked. The only error is want of memory.
     pub fn new(
         alloc: Global,
         hands: &'a H,
-        reader: ItemReader,
+        kind: ItemKind,
         question: Question,
-    ) -> Batches<'a, H>
+    ) -> Result<Batches<'a, H>, NoMemory>
         requires ready { H.ready hands.now }
-        requires goes_on { CanGoOn reader }
-        requires asked { IsAskedOf (kind_of reader) question }
-        requires first { given_by reader ≡ 0 }
-        ensures { result ≡ record { kind = kind_of reader; question = question; taken = taken_by reader; written = written_by reader; given = 0; ended = has_ended reader; failed = false } }
+        requires asked { IsAskedOf kind question }
+        ensures { IfOk result (λ batches. batches ≡ record { kind = kind; question = question; taken = []; written = 0; given = 0; ended = false; failed = false }) }
     {
-        Batches {
+        let reader = ItemReader::new(alloc, kind)?;
+        Ok(Batches {
             hands,
             reader,
             question,
             queue: nothing_queued(alloc),
             failed: false,
-        }
+        })
     }
 
     /// Whether the text is closed, once its source has ended; a text of lines always is.
@@ -137,7 +139,7 @@ impl<'a, H: Hands> Batches<'a, H> {
         span: Span,
         mark: Option<ResultMark>,
     ) -> Result<Text, NoMemory>
-        requires kept { self.old.kind ≡ KeptItems }
+        requires kept { self.old.kind ≡ GamesFor Corrected }
         requires goes_on { self.old.failed ≡ false }
         requires place { (self.old.written ≤ span.start) × (span.start ≤ span.end) × (span.end ≤ length self.old.taken) }
         ensures text { IfOk result (λ text. text ≡ game_piece changed self.old.taken self.old.written span mark) }
@@ -150,7 +152,7 @@ impl<'a, H: Hands> Batches<'a, H> {
 
     /// What is written of the text behind its last game, where games may be corrected; with `changed` nothing.
     pub fn behind(&self, changed: bool) -> &[u8]
-        requires kept { self.now.kind ≡ KeptItems }
+        requires kept { self.now.kind ≡ GamesFor Corrected }
         requires goes_on { self.now.failed ≡ false }
         ensures { result.now ≡ end_piece changed self.now.taken self.now.written }
     {

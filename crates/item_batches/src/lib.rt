@@ -12,4 +12,3 @@ mod queue;
 mod readers;
 
 pub use batches::Batches;
-pub use readers::ItemReader;

@@ -1,6 +1,6 @@
 //! What is queued: items on which nobody works any more, parts that were begun, and items that are only cut.
 
-ghost use Rattle.std.specs.Prelude.{◌≡◌, ◌≤◌, ◌<◌, ◌+◌, ◌-◌, ◌⊎◌, List, [], ◌∷◌, ◌++◌, true, false, length, IfOk, OnOk, OnErr};
+ghost use Rattle.std.specs.Prelude.{◌≡◌, ◌≤◌, ◌<◌, ◌+◌, ◌-◌, List, [], ◌++◌, true, false, length, IfOk, OnOk, OnErr};
 ghost use Rattle.item_batches.specs.Readers.{kind_of, taken_by, written_by, given_by, has_ended, items_by, CanGoOn};
 ghost use Rattle.cha_outcome.specs.declared.questions.Question.{Question as Asked};
 ghost use Rattle.side_by_side.specs.declared.progress.Progress.{Progress};

@@ -1,23 +1,26 @@
 //! The items of an input, one at a time.
 
-ghost use Rattle.std.specs.Prelude.{◌≡◌, ◌≢◌, ◌≤◌, ◌<◌, ◌+◌, ◌^◌, ◌↔◌, true, false, length, take, slice_get, IfOk, OnOk, IfSome, IfNone};
+ghost use Rattle.std.specs.Prelude.{◌≡◌, ◌≤◌, ◌<◌, ◌+◌, ◌^◌, ◌↔◌, true, false, [], length, take, IfOk, OnOk, IfSome, IfNone};
 ghost use Rattle.std.specs.Io.KnownBytes.{IsAtEnd};
 ghost use Rattle.cha_outside.specs.Faults.{Rose};
 ghost use Rattle.cha_outside.specs.Gathering.{Gathers};
 ghost use Rattle.pgn_games.specs.Settling.{settled_games};
 ghost use Rattle.text_lines.specs.Lines.{settled_lines};
+ghost use Rattle.side_by_side.specs.declared.cuts.Purpose.TheVariants.{Corrected};
+ghost use Rattle.side_by_side.specs.declared.cuts.ItemKind.TheVariants.{Games as GamesFor, Lines};
 ghost use Rattle.item_batches.specs.Batches.{IsCutAt};
-ghost use Rattle.item_batches.specs.Items.{game_items, position_items, replay_items};
-ghost use Rattle.item_batches.specs.Readers.{GameItems, KeptItems, LineItems, ReplayItems, taken_by, written_by, given_by, has_ended, kind_of, items_by, settled_by, closed_by, CanGoOn};
+ghost use Rattle.item_batches.specs.Items.{game_items, position_items};
+ghost use Rattle.item_batches.specs.Readers.{taken_by, written_by, given_by, has_ended, kind_of, items_by, settled_by, closed_by, CanGoOn};
 ghost use Rattle.item_batches.specs.Pieces.{game_piece, end_piece};
 ghost use Rattle.item_batches.specs.Items.{TookAsNeeded, most_bytes};
 
-use crate::kept::{behind, next_kept, ready_kept, text_of_game};
+use crate::kept::{next_kept, ready_kept};
 use cha_list::{NoMemory, Text};
 use cha_outside::{ReadEnd, Source};
 use pgn_games::{Reader, ResultMark, Span};
 use pgn_results::KeptReader;
-use side_by_side::Cut;
+use side_by_side::{Cut, ItemKind, Purpose};
+use std::alloc::Global;
 use text_lines::LineReader;
 
 /// Who gives the items of an input.
@@ -34,6 +37,20 @@ pub enum ItemReader {
 }
 
 impl ItemReader {
+    /// Who gives such items; nothing is taken yet. The only error is want of memory.
+    pub fn new(alloc: Global, kind: ItemKind) -> Result<ItemReader, NoMemory>
+        ensures kind { IfOk result (λ reader. kind_of reader ≡ kind) }
+        ensures first { IfOk result (λ reader. (taken_by reader ≡ []) × (written_by reader ≡ 0) × (given_by reader ≡ 0) × (has_ended reader ≡ false)) }
+        ensures goes_on { IfOk result (λ reader. CanGoOn reader) }
+    {
+        match kind {
+            ItemKind::Games(Purpose::Judged) => Ok(ItemReader::Games(Reader::new(alloc)?)),
+            ItemKind::Games(Purpose::Corrected) => Ok(ItemReader::Kept(KeptReader::new(alloc)?)),
+            ItemKind::Games(Purpose::Told) => Ok(ItemReader::Replays(Reader::new(alloc)?)),
+            ItemKind::Lines => Ok(ItemReader::Lines(LineReader::new(alloc))),
+        }
+    }
+
     /// What the next item was cut from its text as, or None where all were given. No further piece is read than the item needs. After an error no
     /// call may follow.
     pub fn next<S: Source>(&mut self, source: &mut S) -> Result<Option<Cut>, ReadEnd>
@@ -60,10 +77,10 @@ impl ItemReader {
         ensures later { S.faults source.old ≤ S.faults source.new }
     {
         match self {
-            ItemReader::Games(reader) => next_game(reader, source),
+            ItemReader::Games(reader) => next_game(reader, Purpose::Judged, source),
             ItemReader::Kept(reader) => next_kept(reader, source),
             ItemReader::Lines(reader) => next_line(reader, source),
-            ItemReader::Replays(reader) => next_replay(reader, source),
+            ItemReader::Replays(reader) => next_game(reader, Purpose::Told, source),
         }
     }
 
@@ -81,10 +98,10 @@ impl ItemReader {
         ensures goes_on { IfOk result (λ _. CanGoOn self.new) }
     {
         match self {
-            ItemReader::Games(reader) => ready_game(reader),
+            ItemReader::Games(reader) => ready_game(reader, Purpose::Judged),
             ItemReader::Kept(reader) => ready_kept(reader),
             ItemReader::Lines(reader) => ready_line(reader),
-            ItemReader::Replays(reader) => ready_replay(reader),
+            ItemReader::Replays(reader) => ready_game(reader, Purpose::Told),
         }
     }
 
@@ -108,7 +125,7 @@ impl ItemReader {
         span: Span,
         mark: Option<ResultMark>,
     ) -> Result<Text, NoMemory>
-        requires kept { kind_of self.old ≡ KeptItems }
+        requires kept { kind_of self.old ≡ GamesFor Corrected }
         requires goes_on { CanGoOn self.old }
         requires place { (written_by self.old ≤ span.start) × (span.start ≤ span.end) × (span.end ≤ length (taken_by self.old)) }
         ensures kind { kind_of self.new ≡ kind_of self.old }
@@ -118,40 +135,42 @@ impl ItemReader {
         ensures goes_on { CanGoOn self.new }
     {
         match self {
-            ItemReader::Kept(reader) => text_of_game(reader, changed, span, mark),
-            ItemReader::Games(_) => unreachable!(),
-            ItemReader::Lines(_) => unreachable!(),
-            ItemReader::Replays(_) => unreachable!(),
+            ItemReader::Kept(reader) if changed => reader.changed_game(span, mark),
+            ItemReader::Kept(reader) => reader.with_game(span, mark),
+            _ => unreachable!(),
         }
     }
 
     /// What is written of the text behind its last game; with `changed` nothing.
     pub fn behind(&self, changed: bool) -> &[u8]
-        requires kept { kind_of self.now ≡ KeptItems }
+        requires kept { kind_of self.now ≡ GamesFor Corrected }
         requires goes_on { CanGoOn self.now }
         ensures { result.now ≡ end_piece changed (taken_by self.now) (written_by self.now) }
     {
         match self {
-            ItemReader::Kept(reader) => behind(reader, changed),
-            ItemReader::Games(_) => unreachable!(),
-            ItemReader::Lines(_) => unreachable!(),
-            ItemReader::Replays(_) => unreachable!(),
+            ItemReader::Kept(reader) if !changed => reader.unwritten(),
+            ItemReader::Kept(_) => &[],
+            _ => unreachable!(),
         }
     }
 }
 
 /// The next game, or None where all were given.
-fn next_game<S: Source>(reader: &mut Reader, source: &mut S) -> Result<Option<Cut>, ReadEnd>
+fn next_game<S: Source>(
+    reader: &mut Reader,
+    purpose: Purpose,
+    source: &mut S,
+) -> Result<Option<Cut>, ReadEnd>
     requires { reader.old.failed ≡ false }
     ensures bytes { Gathers (S.left source.old) (S.left source.new) reader.old.taken reader.new.taken }
-    ensures cut { IfOk result (λ found. IfSome found (IsCutAt GameItems reader.new.taken reader.old.given)) }
+    ensures cut { IfOk result (λ found. IfSome found (IsCutAt (GamesFor purpose) reader.new.taken reader.old.given)) }
     ensures given { IfOk result (λ found. IfSome found (λ cut. (reader.new.given ≡ reader.old.given + 1) × (reader.old.given < 2 ^ 62))) }
     ensures still { reader.old.ended ≡ true → reader.new.taken ≡ reader.old.taken }
     ensures still_ended { reader.old.ended ≡ true → reader.new.ended ≡ true }
     ensures before_end { reader.new.ended ≡ false → IfOk result (λ found. IfSome found (λ cut. reader.old.given < settled_games reader.new.taken)) }
     ensures stays { IfOk result (λ found. IfNone found (reader.new.given ≡ reader.old.given)) }
-    ensures none { result ≡ Ok None → (reader.new.ended ≡ true) × (length (game_items reader.new.taken) ≤ reader.old.given) }
-    ensures first { take reader.old.given (game_items reader.new.taken) ≡ take reader.old.given (game_items reader.old.taken) }
+    ensures none { result ≡ Ok None → (reader.new.ended ≡ true) × (length (game_items purpose reader.new.taken) ≤ reader.old.given) }
+    ensures first { take reader.old.given (game_items purpose reader.new.taken) ≡ take reader.old.given (game_items purpose reader.old.taken) }
     ensures end { (reader.old.ended ≡ true → IsAtEnd (S.left source.old)) → reader.new.ended ≡ true → IsAtEnd (S.left source.new) }
     ensures read_fault { result ≡ Err ReadEnd.ReadFault → Rose (S.faults source.old) (S.faults source.new) }
     ensures settled { result ≡ Err ReadEnd.ReadFault → settled_games reader.new.taken ≤ reader.old.given }
@@ -163,17 +182,17 @@ fn next_game<S: Source>(reader: &mut Reader, source: &mut S) -> Result<Option<Cu
     ensures later { S.faults source.old ≤ S.faults source.new }
 {
     match reader.next(source) {
-        Ok(Some(game)) => Ok(Some(Cut::Game(game))),
+        Ok(Some(game)) => Ok(Some(Cut::Game(purpose, game))),
         Ok(None) => Ok(None),
         Err(end) => Err(end),
     }
 }
 
 /// The next game that is whole in what was taken, or None.
-fn ready_game(reader: &mut Reader) -> Result<Option<Cut>, NoMemory>
+fn ready_game(reader: &mut Reader, purpose: Purpose) -> Result<Option<Cut>, NoMemory>
     requires { (reader.old.failed ≡ false) × (length reader.old.taken ≤ most_bytes) }
     ensures same { (reader.new.taken ≡ reader.old.taken) × (reader.new.ended ≡ reader.old.ended) }
-    ensures cut { IfOk result (λ found. IfSome found (IsCutAt GameItems reader.old.taken reader.old.given)) }
+    ensures cut { IfOk result (λ found. IfSome found (IsCutAt (GamesFor purpose) reader.old.taken reader.old.given)) }
     ensures given { IfOk result (λ found. IfSome found (λ cut. (reader.new.given ≡ reader.old.given + 1) × (reader.old.given < 2 ^ 62))) }
     ensures settled { IfOk result (λ found. IfSome found (λ cut. reader.old.given < settled_games reader.old.taken)) }
     ensures no_more { TookAsNeeded settled_games reader.new.taken reader.old.given }
@@ -181,54 +200,7 @@ fn ready_game(reader: &mut Reader) -> Result<Option<Cut>, NoMemory>
     ensures goes_on { IfOk result (λ _. (reader.new.failed ≡ false) × (length reader.new.taken ≤ most_bytes)) }
 {
     match reader.ready() {
-        Ok(Some(game)) => Ok(Some(Cut::Game(game))),
-        Ok(None) => Ok(None),
-        Err(refused) => Err(refused),
-    }
-}
-
-/// The next game whose moves are told, or None where all were given.
-fn next_replay<S: Source>(reader: &mut Reader, source: &mut S) -> Result<Option<Cut>, ReadEnd>
-    requires { reader.old.failed ≡ false }
-    ensures bytes { Gathers (S.left source.old) (S.left source.new) reader.old.taken reader.new.taken }
-    ensures cut { IfOk result (λ found. IfSome found (IsCutAt ReplayItems reader.new.taken reader.old.given)) }
-    ensures given { IfOk result (λ found. IfSome found (λ cut. (reader.new.given ≡ reader.old.given + 1) × (reader.old.given < 2 ^ 62))) }
-    ensures still { reader.old.ended ≡ true → reader.new.taken ≡ reader.old.taken }
-    ensures still_ended { reader.old.ended ≡ true → reader.new.ended ≡ true }
-    ensures before_end { reader.new.ended ≡ false → IfOk result (λ found. IfSome found (λ cut. reader.old.given < settled_games reader.new.taken)) }
-    ensures stays { IfOk result (λ found. IfNone found (reader.new.given ≡ reader.old.given)) }
-    ensures none { result ≡ Ok None → (reader.new.ended ≡ true) × (length (replay_items reader.new.taken) ≤ reader.old.given) }
-    ensures first { take reader.old.given (replay_items reader.new.taken) ≡ take reader.old.given (replay_items reader.old.taken) }
-    ensures end { (reader.old.ended ≡ true → IsAtEnd (S.left source.old)) → reader.new.ended ≡ true → IsAtEnd (S.left source.new) }
-    ensures read_fault { result ≡ Err ReadEnd.ReadFault → Rose (S.faults source.old) (S.faults source.new) }
-    ensures settled { result ≡ Err ReadEnd.ReadFault → settled_games reader.new.taken ≤ reader.old.given }
-    ensures at_hand { reader.old.given < settled_games reader.old.taken → source.new ≡ source.old }
-    ensures no_more { TookAsNeeded settled_games reader.new.taken reader.old.given }
-    ensures too_long { (result ≡ Err ReadEnd.TooLong) ↔ (most_bytes < length reader.new.taken) }
-    ensures few { length reader.new.taken ≤ most_bytes + 4096 }
-    ensures goes_on { IfOk result (λ _. (reader.new.failed ≡ false) × (length reader.new.taken ≤ most_bytes)) }
-    ensures later { S.faults source.old ≤ S.faults source.new }
-{
-    match reader.next(source) {
-        Ok(Some(game)) => Ok(Some(Cut::Replay(game))),
-        Ok(None) => Ok(None),
-        Err(end) => Err(end),
-    }
-}
-
-/// The next game whose moves are told that is whole in what was taken, or None.
-fn ready_replay(reader: &mut Reader) -> Result<Option<Cut>, NoMemory>
-    requires { (reader.old.failed ≡ false) × (length reader.old.taken ≤ most_bytes) }
-    ensures same { (reader.new.taken ≡ reader.old.taken) × (reader.new.ended ≡ reader.old.ended) }
-    ensures cut { IfOk result (λ found. IfSome found (IsCutAt ReplayItems reader.old.taken reader.old.given)) }
-    ensures given { IfOk result (λ found. IfSome found (λ cut. (reader.new.given ≡ reader.old.given + 1) × (reader.old.given < 2 ^ 62))) }
-    ensures settled { IfOk result (λ found. IfSome found (λ cut. reader.old.given < settled_games reader.old.taken)) }
-    ensures no_more { TookAsNeeded settled_games reader.new.taken reader.old.given }
-    ensures none { IfOk result (λ found. IfNone found (reader.new.given ≡ reader.old.given)) }
-    ensures goes_on { IfOk result (λ _. (reader.new.failed ≡ false) × (length reader.new.taken ≤ most_bytes)) }
-{
-    match reader.ready() {
-        Ok(Some(game)) => Ok(Some(Cut::Replay(game))),
+        Ok(Some(game)) => Ok(Some(Cut::Game(purpose, game))),
         Ok(None) => Ok(None),
         Err(refused) => Err(refused),
     }
@@ -238,7 +210,7 @@ fn ready_replay(reader: &mut Reader) -> Result<Option<Cut>, NoMemory>
 fn next_line<S: Source>(reader: &mut LineReader, source: &mut S) -> Result<Option<Cut>, ReadEnd>
     requires { reader.old.failed ≡ false }
     ensures bytes { Gathers (S.left source.old) (S.left source.new) reader.old.taken reader.new.taken }
-    ensures cut { IfOk result (λ found. IfSome found (IsCutAt LineItems reader.new.taken reader.old.given)) }
+    ensures cut { IfOk result (λ found. IfSome found (IsCutAt Lines reader.new.taken reader.old.given)) }
     ensures given { IfOk result (λ found. IfSome found (λ cut. (reader.new.given ≡ reader.old.given + 1) × (reader.old.given < 2 ^ 62))) }
     ensures still { reader.old.ended ≡ true → reader.new.taken ≡ reader.old.taken }
     ensures still_ended { reader.old.ended ≡ true → reader.new.ended ≡ true }
@@ -267,7 +239,7 @@ fn next_line<S: Source>(reader: &mut LineReader, source: &mut S) -> Result<Optio
 fn ready_line(reader: &mut LineReader) -> Result<Option<Cut>, NoMemory>
     requires { (reader.old.failed ≡ false) × (length reader.old.taken ≤ most_bytes) }
     ensures same { (reader.new.taken ≡ reader.old.taken) × (reader.new.ended ≡ reader.old.ended) }
-    ensures cut { IfOk result (λ found. IfSome found (IsCutAt LineItems reader.old.taken reader.old.given)) }
+    ensures cut { IfOk result (λ found. IfSome found (IsCutAt Lines reader.old.taken reader.old.given)) }
     ensures given { IfOk result (λ found. IfSome found (λ cut. (reader.new.given ≡ reader.old.given + 1) × (reader.old.given < 2 ^ 62))) }
     ensures settled { IfOk result (λ found. IfSome found (λ cut. reader.old.given < settled_lines reader.old.taken)) }
     ensures no_more { TookAsNeeded settled_lines reader.new.taken reader.old.given }

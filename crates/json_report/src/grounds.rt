@@ -1,6 +1,6 @@
 //! What a certificate rests on.
 
-ghost use Rattle.std.specs.Prelude.{◌≡◌, OnOk, length};
+ghost use Rattle.std.specs.Prelude.{◌≡◌, OnOk};
 ghost use Rattle.json.specs.Json.{Members};
 ghost use Rattle.json_report.specs.Spelled.{Leads};
 ghost use Rattle.json_report.specs.Verdicts.{ground_by, ground_of as ground_from, ground_members};

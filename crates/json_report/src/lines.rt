@@ -1,6 +1,6 @@
 //! Lines of moves: by their squares, as words, and by the positions after them.
 
-ghost use Rattle.std.specs.Prelude.{◌≡◌, map, OnOk, codes};
+ghost use Rattle.std.specs.Prelude.{map, OnOk, codes};
 ghost use Rattle.cha_moves.specs.Texts.{move_bytes};
 ghost use Rattle.json.specs.Json.{array, Members};
 ghost use Rattle.json_report.specs.Lines.{texts, words_of, fens_of, line_members};

@@ -1,7 +1,7 @@
 //! The shortest mates.
 
-ghost use Rattle.std.specs.Prelude.{◌≡◌, OnOk, codes};
-ghost use Rattle.json.specs.Json.{Members, no_members, array};
+ghost use Rattle.std.specs.Prelude.{OnOk, codes};
+ghost use Rattle.json.specs.Json.{no_members, array};
 ghost use Rattle.cha_outcome.specs.LegalMoves.{AreLegal};
 ghost use Rattle.report_words.specs.LegalLines.{AllLegal, HaveLegalLines};
 ghost use Rattle.json_report.specs.Outcomes.{line_json, line_items, mates_members};

@@ -1,6 +1,6 @@
 //! The moves of a game.
 
-ghost use Rattle.std.specs.Prelude.{◌≡◌, OnOk, Contains, codes};
+ghost use Rattle.std.specs.Prelude.{OnOk, Contains, codes};
 ghost use Rattle.cha_moves.specs.Moves.{legal};
 ghost use Rattle.cha_moves.specs.Texts.{move_bytes};
 ghost use Rattle.cha_outcome.specs.LegalMoves.{AreLegal, AreLegalFrom};

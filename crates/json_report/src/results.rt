@@ -1,7 +1,7 @@
 //! The result of a game.
 
-ghost use Rattle.std.specs.Prelude.{◌≡◌, OnOk, codes};
-ghost use Rattle.json.specs.Json.{Members, no_members, string};
+ghost use Rattle.std.specs.Prelude.{OnOk, codes};
+ghost use Rattle.json.specs.Json.{no_members, string};
 ghost use Rattle.pgn_games.specs.Cutting.{mark_text};
 ghost use Rattle.json_report.specs.Outcomes.{article_json, edge_members, flag_json, result_members, scan_json};
 ghost use Rattle.json_report.specs.Spelled.{IsMember, Leads};

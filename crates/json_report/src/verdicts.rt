@@ -1,6 +1,6 @@
 //! The verdict on a side.
 
-ghost use Rattle.std.specs.Prelude.{◌≡◌, OnOk, codes};
+ghost use Rattle.std.specs.Prelude.{OnOk, codes};
 ghost use Rattle.cert_text.specs.SharedSpelled.{shared_text};
 ghost use Rattle.cha_cert.specs.Shared.{shared_of};
 ghost use Rattle.cha_verdict.specs.Verdicts.{IsPrintable};

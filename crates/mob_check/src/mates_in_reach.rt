@@ -1,6 +1,6 @@
 //! Whether mobility sets leave a mate in reach.
 
-ghost use Rattle.std.specs.Prelude.{◌≡◌, ◌↔◌, ◌≤◌, IsTrue};
+ghost use Rattle.std.specs.Prelude.{◌≡◌, ◌↔◌, IsTrue};
 ghost use Rattle.mob_law.specs.Threats.{HasNoMate};
 ghost use Rattle.mob_sets.specs.Rows.{sets_of};
 ghost use Rattle.mob_check.specs.MatesInReach.{left_squares, shuts_from, may_shut, ring_of_one, mates_with_all, mates_as, mates_from, mates_with_one, mates_among, may_mate_on, may_mate};

@@ -1,7 +1,6 @@
 //! What keeps a king in besides the other king.
 
 ghost use Rattle.std.specs.Prelude.{◌≡◌};
-ghost use Rattle.std.specs.List.{list_any};
 ghost use Rattle.cha_board.specs.SquareSets.{set_of};
 ghost use Rattle.mob_law.specs.Threats.{ends_check};
 ghost use Rattle.mob_check.specs.MatesInReach.{is_filled, stays_as, stays_on, ring_of_one, check_ends};

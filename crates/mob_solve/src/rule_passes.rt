@@ -1,7 +1,6 @@
 //! Passes over all the rules.
 
 ghost use Rattle.std.specs.Prelude.{◌≡◌, ◌<◌, ℕ, false, Some};
-ghost use Rattle.cha_board.specs.declared.men.Color.{Color as Side};
 ghost use Rattle.cha_board.specs.declared.men.Man.{Man as AMan};
 ghost use Rattle.cha_board.specs.Board.{man_at};
 ghost use Rattle.mob_sets.specs.Mobility.{Sets, IsWithin};

@@ -1,7 +1,7 @@
 //! What the least closed sets show, and the static verdict.
 
 ghost use Rattle.std.specs.Bool.{OnTrue, OnFalse};
-ghost use Rattle.std.specs.Prelude.{◌↔◌, IfOk, IfSome, IfNone};
+ghost use Rattle.std.specs.Prelude.{IfOk, IfSome, IfNone};
 ghost use Rattle.cha_moves.specs.Ends.{IsUnwinnable};
 ghost use Rattle.mob_law.specs.Closed.{IsClosed};
 ghost use Rattle.mob_law.specs.Threats.{HasNoMate};

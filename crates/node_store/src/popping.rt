@@ -1,6 +1,6 @@
 //! How the next name is taken from those that wait.
 
-ghost use Rattle.std.specs.Prelude.{◌≡◌, ◌+◌, ◌<◌, ◌≤◌, ℕ, false, Some, length, slice_get, IfSome, IfNone};
+ghost use Rattle.std.specs.Prelude.{◌≡◌, ◌+◌, ◌<◌, ℕ, false, Some, length, slice_get, IfSome, IfNone};
 ghost use Rattle.node_store.specs.NameLists.{list_at, Has, first_name, without_first};
 ghost use Rattle.node_store.specs.Nodes.{leaves};
 

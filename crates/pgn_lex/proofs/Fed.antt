@@ -9,9 +9,9 @@ use Rattle.pgn_lex.specs.declared.stages.Stage.TheVariants.{Start, MarkBegun, Ma
 use Rattle.pgn_lex.specs.declared.stages.Next.{Next}
 use Rattle.pgn_lex.specs.declared.stages.Next.TheVariants.{Stays, Over}
 use Rattle.pgn_lex.specs.Tokens.{placed, line_after, tokens, settled_tokens}
-use Rattle.pgn_lex.specs.Stages.{begun, next_stage, tokens_at, token_at, begins_line, word_after, grown_value, Machine, stepped, said_at, read_from, machine}
+use Rattle.pgn_lex.specs.Stages.{begun, next_stage, tokens_at, token_at, begins_line, word_after, grown_value, Machine, stepped, read_from, machine}
 use Rattle.pgn_lex.specs.Lexing.{Appends, IsFed}
-use Rattle.pgn_lex.proofs.Feeding.{machine_more, settled_more, ended_tokens, at_length}
+use Rattle.pgn_lex.proofs.Feeding.{said_at, machine_more, settled_more, ended_tokens, at_length}
 
 -- before the first byte
 pub fed_none : (fed word value : List ℕ) (r s : ℕ) → fed ≡ [] → word ≡ [] → value ≡ [] → 255 ≤ r → 4097 ≤ s → IsFed fed Start 0 1 0 0 true word value r s

@@ -18,9 +18,19 @@ use Rattle.pgn_lex.specs.declared.stages.Next.TheVariants.{Stays, Over}
 use Rattle.pgn_lex.specs.Pieces.{is_white, silent_piece, spoken_piece, line_piece, comment_piece, annotation_piece, word_piece}
 use Rattle.pgn_lex.specs.Tags.{tag_piece}
 use Rattle.pgn_lex.specs.Tokens.{piece, placed, line_after, tokens_after, has_mark, tokens, settled_after, has_half_mark, settled_tokens}
-use Rattle.pgn_lex.specs.Stages.{run_on, begun, next_stage, token_at, tokens_at, begins_line, Machine, at_front, stepped, said_at, read_from, said_from, machine}
+use Rattle.pgn_lex.specs.Stages.{run_on, begun, next_stage, token_at, tokens_at, begins_line, Machine, at_front, stepped, read_from, machine}
 use Rattle.pgn_lex.proofs.Left.{left_of_piece, gives_at, settles_at, one_more}
 use Rattle.pgn_lex.proofs.Following.{is_plain, FollowsAt, follows, ends_with, ends_there}
+
+-- the tokens that one byte more gives
+unfoldable pub said_at : Machine → Next → List Placed
+said_at m (Stays now) = []
+said_at m Over = tokens_at m.stage m.start m.at m.start_line m.word m.value
+
+-- the tokens that a lexer has given, which has read some bytes
+unfoldable pub said_from : Machine → List ℕ → List Placed
+said_from m [] = []
+said_from m (b ∷ bs) = said_at m (next_stage m.stage b) ++ said_from (stepped m b (next_stage m.stage b)) bs
 
 abbrev pub piece_gives : Machine → Piece → List ℕ → List Placed
 piece_gives m p rest = placed m.start (m.at + p.more) m.start_line p.token ++ tokens_after p.more m.at m.line m.first rest

@@ -11,7 +11,7 @@ use Rattle.pgn_lex.specs.declared.stages.Stage.{Stage}
 use Rattle.pgn_lex.specs.declared.stages.Stage.TheVariants.{Start, MarkBegun, MarkGrown, Marked, Between, RestOfLine, InComment, AfterDollar, InNumber, InWord, InTag, InName, AfterName, InValue, AfterBackslash, AfterValue, TagRead, Spoilt, StarRead, EnterRead, LeaveRead, BadRead}
 use Rattle.pgn_lex.specs.Tokens.{piece, placed, line_after, tokens_after, has_mark, tokens, settled_tokens}
 use Rattle.pgn_lex.specs.Lines.{line_feeds, ends_line}
-use Rattle.pgn_lex.specs.Stages.{tokens_at, token_at, Machine, at_front, read_from, machine}
+use Rattle.pgn_lex.specs.Stages.{tokens_at, token_at, Machine, at_front, machine}
 use Rattle.pgn_lex.proofs.Left.{left_of_piece, gives_at}
 use Rattle.pgn_lex.proofs.Feeding.{WellMarked, unmarked, settled_first, ended_tokens, at_length, line_from, well_read, read_more}
 use Rattle.pgn_lex.proofs.Following.{is_plain}

@@ -1,9 +1,9 @@
 -- Where a lexer stands behind the end of a line.
-use Rattle.std.proofs.Common.{◌≡◌, ◌⊎◌, inl, inr, ℕ, ◌==◌, ◌||◌, Bool, true, false, not, List, [], ◌∷◌, ◌++◌, refl, sym, ap, ◌∙◌, subst}
+use Rattle.std.proofs.Common.{◌≡◌, ◌⊎◌, inl, inr, ℕ, ◌==◌, ◌||◌, Bool, true, false, not, List, [], ◌∷◌, refl, sym, ap, ◌∙◌, subst}
 use Rattle.std.specs.List.{fold}
 use Rattle.std.proofs.lemmas.Bool.{eqb-true}
 use Rattle.cha_list.specs.declared.classes.Class.TheVariants.{InLine}
-use Rattle.cha_list.specs.Bytes.{in_class, is_from, is_letter, is_digit}
+use Rattle.cha_list.specs.Bytes.{in_class}
 use Rattle.pgn_lex.specs.Classes.{in_pgn_class}
 use Rattle.pgn_lex.specs.declared.stages.Stage.{Stage}
 use Rattle.pgn_lex.specs.declared.stages.Stage.TheVariants.{Start, MarkBegun, MarkGrown, Marked, Between, RestOfLine, InComment, AfterDollar, InNumber, InWord, InTag, InName, AfterName, InValue, AfterBackslash, AfterValue, TagRead, Spoilt, StarRead, EnterRead, LeaveRead, BadRead}
@@ -14,7 +14,7 @@ use Rattle.pgn_lex.specs.Tokens.{has_mark}
 use Rattle.pgn_lex.specs.Lines.{past_mark, ends_line}
 use Rattle.pgn_lex.specs.Stages.{run_on, begun, next_stage, in_value, past_backslash, begins_line, Machine, at_front, stepped, read_from, machine}
 use Rattle.pgn_lex.proofs.Following.{is_plain, FollowsAt, follows}
-use Rattle.pgn_lex.proofs.Feeding.{begun_plain, no_mark_begins, no_mark_grows, no_mark_ends}
+use Rattle.pgn_lex.proofs.Feeding.{begun_plain, no_mark_begins, no_mark_grows}
 
 -- whether a line begins behind a byte
 abbrev behind : Bool → ℕ → Bool

@@ -177,20 +177,10 @@ stepped m b Over = record {
   value = m.value;
 }
 
--- the tokens that one byte more gives
-unfoldable pub said_at : Machine → Next → List Placed
-said_at m (Stays now) = []
-said_at m Over = tokens_at m.stage m.start m.at m.start_line m.word m.value
-
 -- a lexer that has read some bytes
 unfoldable pub read_from : Machine → List ℕ → Machine
 read_from m [] = m
 read_from m (b ∷ bs) = read_from (stepped m b (next_stage m.stage b)) bs
-
--- the tokens that it has given
-unfoldable pub said_from : Machine → List ℕ → List Placed
-said_from m [] = []
-said_from m (b ∷ bs) = said_at m (next_stage m.stage b) ++ said_from (stepped m b (next_stage m.stage b)) bs
 
 abbrev pub machine : List ℕ → Machine
 machine bytes = read_from at_front bytes

@@ -1,9 +1,8 @@
 //! From piece to piece through a whole text.
 
-ghost use Rattle.std.specs.Prelude.{◌≡◌, ◌+◌, ◌^◌, ◌<◌, ◌≤◌, ◌++◌, OnOk, OnErr, IfOk, length};
+ghost use Rattle.std.specs.Prelude.{◌≡◌, ◌+◌, ◌<◌, ◌≤◌, ◌++◌, OnOk, OnErr, IfOk, length};
 ghost use Rattle.std.specs.Bool.{OnTrue};
-ghost use Rattle.std.specs.List.{fold};
-ghost use Rattle.pgn_lex.specs.Tokens.{placed, line_after, has_mark, tokens};
+ghost use Rattle.pgn_lex.specs.Tokens.{placed, has_mark, tokens};
 
 use crate::kinds::{Extent, Placed, Token};
 use crate::lines::behind;

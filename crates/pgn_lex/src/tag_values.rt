@@ -1,6 +1,6 @@
 //! The value of a tag pair, byte by byte.
 
-ghost use Rattle.std.specs.Prelude.{◌≡◌, ℕ, ◌≤◌, List, [], ◌∷◌, ◌++◌, false, OnOk, IfOk, length};
+ghost use Rattle.std.specs.Prelude.{ℕ, List, [], ◌∷◌, ◌++◌, false, OnOk, IfOk};
 ghost use Rattle.pgn_lex.specs.Tags.{value_after};
 ghost use Rattle.pgn_lex.specs.Values.{Keeps, Steps, ReadsValue};
 

@@ -2,9 +2,9 @@
 use Rattle.std.proofs.Common.{◌≡◌, ℕ, List, [], ◌∷◌, ◌++◌, sym, ap, ◌∙◌, append_assoc}
 use Rattle.pgn_lex.specs.declared.stages.Next.TheVariants.{Over}
 use Rattle.pgn_lex.specs.Tokens.{tokens_after, tokens, settled_tokens}
-use Rattle.pgn_lex.specs.Stages.{next_stage, Machine, stepped, said_at, machine}
+use Rattle.pgn_lex.specs.Stages.{next_stage, Machine, stepped, machine}
 use Rattle.pgn_lex.proofs.Left.{gives_at}
-use Rattle.pgn_lex.proofs.Feeding.{fresh_gives, settled_first, ended_tokens, machine_more, settled_more}
+use Rattle.pgn_lex.proofs.Feeding.{said_at, fresh_gives, settled_first, ended_tokens, machine_more, settled_more}
 
 pub boundary : (a : List ℕ) (b : ℕ) (bs : List ℕ) → next_stage (machine a).stage b ≡ Over
     → tokens (a ++ b ∷ bs) ≡ tokens a ++ tokens_after 0 (machine a).at (machine a).line (machine a).first (b ∷ bs)

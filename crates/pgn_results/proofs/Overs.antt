@@ -10,10 +10,10 @@ use Rattle.pgn_lex.specs.declared.stages.Stage.TheVariants.{Start, MarkBegun, Ma
 use Rattle.pgn_lex.specs.declared.stages.Next.{Next}
 use Rattle.pgn_lex.specs.declared.stages.Next.TheVariants.{Stays, Over}
 use Rattle.pgn_lex.specs.Tokens.{placed, tokens_after, tokens, settled_tokens}
-use Rattle.pgn_lex.specs.Stages.{run_on, next_stage, tokens_at, Machine, stepped, said_at, at_front, read_from, machine}
+use Rattle.pgn_lex.specs.Stages.{run_on, next_stage, tokens_at, Machine, stepped, at_front, read_from, machine}
 use Rattle.pgn_lex.proofs.Left.{left_of_piece, gives_at}
 use Rattle.pgn_lex.proofs.Following.{is_plain, FollowsAt, follows}
-use Rattle.pgn_lex.proofs.Feeding.{gives_plain, settled_first, ended_tokens, at_length, machine_more, settled_more}
+use Rattle.pgn_lex.proofs.Feeding.{said_at, gives_plain, settled_first, ended_tokens, at_length, machine_more, settled_more}
 use Rattle.pgn_lex.proofs.InOrder.{places_inside}
 use Rattle.pgn_results.proofs.Standing.{From, after_from, one_of_all}
 

@@ -1,6 +1,6 @@
 //! A reader of games that keeps the bytes of their text until they are written.
 
-ghost use Rattle.std.specs.Prelude.{if◌then◌else◌, ◌≡◌, ◌+◌, ◌-◌, ◌^◌, ◌<◌, ◌≤◌, ◌↔◌, ◌++◌, ℕ, List, [], true, false, length, take, drop, slice_get, is_err, Option, OnErr, OnOk, IfOk, IfSome, IfNone};
+ghost use Rattle.std.specs.Prelude.{if◌then◌else◌, ◌≡◌, ◌+◌, ◌-◌, ◌^◌, ◌<◌, ◌≤◌, ◌↔◌, ℕ, List, [], true, false, length, take, slice_get, is_err, Option, OnOk, IfOk, IfSome};
 ghost use Rattle.std.specs.declared.result.Result.TheVariants.{Ok, Err};
 ghost use Rattle.std.specs.declared.option.Option.TheVariants.{Some, None};
 ghost use Rattle.std.specs.Io.KnownBytes.{IsAtEnd};
@@ -10,8 +10,6 @@ ghost use Rattle.pgn_games.specs.Games.{placed_games, is_closed as is_closed_tex
 ghost use Rattle.pgn_games.specs.Keeping.{found_one};
 ghost use Rattle.pgn_games.specs.Reading.{TookNoMore, gives_game};
 ghost use Rattle.pgn_games.specs.Settling.{settled_games};
-ghost use Rattle.pgn_games.specs.declared.played.PlacedGame.{PlacedGame as GamePlaced};
-ghost use Rattle.pgn_games.specs.declared.marks.ResultMark.{ResultMark as Mark};
 ghost use Rattle.pgn_results.specs.Keeping.{piece_of, changed_piece, rest_of};
 
 use crate::intake::Intake;

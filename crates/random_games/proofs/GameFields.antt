@@ -1,10 +1,10 @@
 -- What the tokens of a game that was made say.
-use Rattle.std.proofs.Common.{◌≡◌, ℕ, ◌+◌, Bool, false, List, [], ◌∷◌, ◌++◌, Option, Some, None, length, refl, ap, ◌∙◌, append_assoc, append-nil}
+use Rattle.std.proofs.Common.{◌≡◌, ℕ, Bool, false, List, [], ◌∷◌, ◌++◌, Option, Some, None, refl, ap, ◌∙◌, append_assoc, append-nil}
 use Rattle.std.specs.Prelude.{codes}
 use Rattle.std.specs.List.{filter_map, cons_option, list_any, fold, slice_get}
 use Rattle.std.specs.Option.{unwrap_or}
 use Rattle.std.proofs.lemmas.List.Elements.{filter_map-append}
-use Rattle.pgn_lex.specs.declared.kinds.Token.TheVariants.{Tag, Word}
+use Rattle.pgn_lex.specs.declared.kinds.Token.TheVariants.{Word}
 use Rattle.pgn_lex.specs.declared.kinds.Placed.{Placed}
 use Rattle.pgn_games.specs.declared.marks.ResultMark.{ResultMark}
 use Rattle.pgn_games.specs.declared.marks.ResultMark.TheVariants.{Unknown}

@@ -12,7 +12,7 @@ use Rattle.cha_moves.specs.declared.ends.Standing.{Standing}
 use Rattle.cha_moves.specs.declared.ends.Standing.TheVariants.{Mate, Stalemate, Running}
 use Rattle.cha_moves.specs.Standings.{standing_of}
 use Rattle.pgn_lex.specs.Classes.{in_pgn_class}
-use Rattle.pgn_lex.specs.declared.kinds.Token.TheVariants.{Tag, Word}
+use Rattle.pgn_lex.specs.declared.kinds.Token.TheVariants.{Word}
 use Rattle.pgn_lex.specs.declared.kinds.Placed.{Placed}
 use Rattle.pgn_lex.specs.Pieces.{is_white, word_token, word_piece}
 use Rattle.pgn_lex.specs.Tags.{name_at}

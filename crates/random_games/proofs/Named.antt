@@ -1,35 +1,24 @@
 -- The word of a legal move names that move.
-use Rattle.std.proofs.Common.{◌≡◌, ℕ, ◌+◌, ◌-◌, ◌<◌, ◌==◌, ◌&&◌, ◌||◌, ◌⊎◌, inl, inr, Bool, true, false, not, List, [], ◌∷◌, ◌++◌, Option, Some, None, Ok, refl, sym, ap, subst, ◌∙◌, arith}
+use Rattle.std.proofs.Common.{◌≡◌, ℕ, ◌<◌, ◌==◌, ◌⊎◌, inl, inr, Bool, true, false, ◌∷◌, ◌++◌, Option, Some, None, Ok, refl, sym, ap, subst, ◌∙◌}
 use Rattle.std.specs.Prelude.{codes, if◌then◌else◌}
-use Rattle.std.specs.List.{filter, Contains}
-use Rattle.std.proofs.lemmas.Bool.{and_parts, eqb-true, eq-eqb}
-use Rattle.cha_list.specs.Distinct.{AreDistinct}
-use Rattle.cha_board.specs.declared.men.Color.{Color}
-use Rattle.cha_board.specs.declared.men.Color.TheVariants.{White, Black}
+use Rattle.std.specs.List.{Contains}
 use Rattle.cha_board.specs.declared.men.Kind.{Kind}
 use Rattle.cha_board.specs.declared.men.Kind.TheVariants.{Pawn, Knight, Bishop, Rook, Queen, King}
 use Rattle.cha_board.specs.declared.men.Man.{Man}
-use Rattle.cha_board.specs.Men.{same_color, same_kind, is_man}
-use Rattle.cha_board.specs.Squares.{file_of, rank_of, files_apart, aims_at, last_rank}
-use Rattle.cha_board.specs.Board.{Board, man_at, home_of}
+use Rattle.cha_board.specs.Squares.{file_of}
+use Rattle.cha_board.specs.Board.{Board}
 use Rattle.cha_board.specs.Letters.{kind_of}
-use Rattle.cha_board.proofs.Identity.{same_kind_equal, same_kind_self}
 use Rattle.cha_moves.specs.Step.{Move}
-use Rattle.cha_moves.specs.Moves.{goes, promotes_well, is_promotion, legal}
-use Rattle.cha_moves.proofs.Contained.{not_in_nothing, Contains-cons_here, Contains-cons_there, Contains-filter_from, Contains-filter_parts}
+use Rattle.cha_moves.specs.Moves.{is_promotion, legal}
 use Rattle.cha_moves.proofs.Made.{Mover}
-use Rattle.cha_moves.proofs.Kept.{promoted}
 use Rattle.cha_moves.proofs.Listed.{is_listed, mover_of}
-use Rattle.cha_san.specs.declared.forms.Form.{Form}
 use Rattle.cha_san.specs.declared.forms.Form.TheVariants.{Short, Long}
-use Rattle.cha_san.specs.Fitting.{is_castling, promotes_as, fits_parts, fits}
+use Rattle.cha_san.specs.Fitting.{is_castling}
 use Rattle.cha_san.specs.Forms.{is_sign, stem, is_short, is_long, unsigned_form, form_of}
-use Rattle.cha_san.specs.Resolving.{only, resolved}
+use Rattle.cha_san.specs.Resolving.{resolved}
 use Rattle.cha_san.proofs.Naming.{names, short_alone, long_alone, both_alone, promotion_of, IsOf}
 use Rattle.random_games.specs.Words.{man_text, plain_text, move_word}
 use Rattle.cha_san.specs.Writing.{kind_text, castling_text}
-use Rattle.cha_moves.proofs.LegalApart.{legal_apart}
-use Rattle.cha_moves.proofs.Apart.{filtered_apart}
 use Rattle.random_games.proofs.SpelledWords.{plain_is}
 use Rattle.random_games.proofs.WordParts.{says_parts, way_of, pawn_says, man_says}
 

@@ -1,11 +1,8 @@
 -- A move as a word that tells both of its squares (PGN standard, 8.2.3).
-use Rattle.std.specs.Prelude.{ℕ, ◌==◌, if◌then◌else◌, List, [], ◌∷◌, ◌++◌, codes, Option, None, Some}
-use Rattle.cha_board.specs.declared.men.Kind.{Kind}
-use Rattle.cha_board.specs.declared.men.Kind.TheVariants.{Pawn}
+use Rattle.std.specs.Prelude.{ℕ, if◌then◌else◌, List, [], ◌++◌, Option, None, Some}
 use Rattle.cha_board.specs.declared.men.Man.{Man}
-use Rattle.cha_board.specs.Squares.{file_of}
 use Rattle.cha_board.specs.Board.{Board, man_at}
-use Rattle.cha_board.specs.Letters.{kind_letter, square_text}
+use Rattle.cha_board.specs.Letters.{square_text}
 use Rattle.cha_moves.specs.Step.{Move}
 use Rattle.cha_san.specs.Fitting.{is_castling}
 use Rattle.cha_san.specs.Writing.{kind_text, promotion_text, castling_text}

@@ -1,6 +1,6 @@
 //! One game whose moves are drawn.
 
-ghost use Rattle.std.specs.Prelude.{◌≡◌, ◌<◌, ◌%◌, ◌++◌, ◌∷◌, [], Some, slice_get, length, OnOk, IfOk, IfSome, MatchOption, Contains};
+ghost use Rattle.std.specs.Prelude.{◌≡◌, ◌<◌, ◌%◌, ◌++◌, ◌∷◌, [], Some, length, OnOk, IfOk, IfSome, MatchOption, Contains};
 ghost use Rattle.rand_pcg.specs.Pcg.{pcg32};
 ghost use Rattle.cha_moves.specs.Moves.{legal as legal_moves};
 ghost use Rattle.random_games.specs.Words.{move_word};

@@ -1,6 +1,6 @@
 //! The text of games (PGN standard, 8).
 
-ghost use Rattle.std.specs.Prelude.{◌≡◌, ◌≤◌, ◌++◌, OnOk, IfOk, codes, decimal};
+ghost use Rattle.std.specs.Prelude.{◌≡◌, ◌≤◌, ◌++◌, OnOk, IfOk};
 ghost use Rattle.random_games.specs.Games.{made_game};
 ghost use Rattle.random_games.specs.Made.{result_text, termination_text, tag_line, tags_text, game_text, made};
 

@@ -16,7 +16,7 @@ use Rattle.root_workers.specs.declared.answers.RoundsEnd.TheVariants.{Mate, None
 use Rattle.root_workers.specs.declared.answers.RoundsEnd.{RoundsEnd}
 use Rattle.root_workers.specs.Shares.{IsShare, IsSpent, AreSharesSearched, ShareCalls, AllGrowTo}
 use Rattle.root_workers.specs.Gathers.{AreShares, AreWhole}
-use Rattle.root_workers.specs.Deepens.{WorkerCalls, CrewCalls, RoundSearches, DeepenCalls, KeepCalls}
+use Rattle.root_workers.specs.Deepens.{RoundSearches, DeepenCalls, KeepCalls}
 
 shares_within : (xs ys : List Entry) (q : Board) (w : Color) (d : ℕ) (moves : List Move) (number count : ℕ) → Within xs ys → AreSharesSearched xs q w d moves number count → AreSharesSearched ys q w d moves number count
 unfolding AreSharesSearched
@@ -36,6 +36,16 @@ round_searches made_by leaves old new task moves count more calls whole same lis
     let w = whole i (omega (arith, less, same)) in
     let c = calls i w.0 less w.1 in
     (c.0, c.1, (λ deep. subst (λ (ms : List Move). AreSharesSearched c.0 task.position task.winner (task.depth - 1) ms i count) listed (c.3 deep w.2)))
+
+-- the calls of worker i: each of its root moves was searched to one ply less than a depth, where a round of more than 4 plies was
+-- done
+unfoldable pub WorkerCalls : {S : Type 0} → (ℕ → S → List Entry → S → Type 0) → S → S → Board → Color → ℕ → ℕ → ℕ → ℕ → Type 0
+WorkerCalls made_by old new q w from depth i count =
+    (entries : List Entry) × made_by i old entries new × (from < depth → 4 < depth → AreSharesSearched entries q w (depth - 1) (legal q) i count)
+
+-- the calls of all workers
+unfoldable pub CrewCalls : {S : Type 0} → (ℕ → S → List Entry → S → Type 0) → S → S → Board → Color → ℕ → ℕ → ℕ → Type 0
+CrewCalls made_by old new q w from depth count = (i : ℕ) → i < count → WorkerCalls made_by old new q w from depth i count
 
 pub no_calls : {S : Type 0} (made_by : ℕ → S → List Entry → S → Type 0) (s : S) (q : Board) (w : Color) (from count : ℕ) → ((i : ℕ) (s : S) → made_by i s [] s) → CrewCalls made_by s s q w from from count
 unfolding CrewCalls WorkerCalls

@@ -1,5 +1,5 @@
 -- A part of a round that was refused memory before its first root move.
-use Rattle.std.proofs.Common.{◌≡◌, ◌∙◌, ℕ, true, List, [], refl, sym, subst, arith}
+use Rattle.std.proofs.Common.{◌≡◌, ◌∙◌, ℕ, true, List, [], refl, sym, subst}
 use Rattle.std.specs.List.{Contains}
 use Rattle.cha_list.specs.Distinct.{AreDistinct}
 use Rattle.cha_list.proofs.Distinct.{none_apart}

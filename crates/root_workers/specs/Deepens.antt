@@ -32,16 +32,6 @@ unfoldable pub PartCalls : {S : Type 0} → (S → List Entry → S → Type 0) 
 PartCalls made old new task moves number count work =
     (entries : List Entry) × made old entries new × (IsWhole work → AreSharesSearched entries task.position task.winner (task.depth - 1) moves number count)
 
--- the calls of worker i: each of its root moves was searched to one ply less than a depth, where a round of more than 4 plies was
--- done
-unfoldable pub WorkerCalls : {S : Type 0} → (ℕ → S → List Entry → S → Type 0) → S → S → Board → Color → ℕ → ℕ → ℕ → ℕ → Type 0
-WorkerCalls made_by old new q w from depth i count =
-    (entries : List Entry) × made_by i old entries new × (from < depth → 4 < depth → AreSharesSearched entries q w (depth - 1) (legal q) i count)
-
--- the calls of all workers
-unfoldable pub CrewCalls : {S : Type 0} → (ℕ → S → List Entry → S → Type 0) → S → S → Board → Color → ℕ → ℕ → ℕ → Type 0
-CrewCalls made_by old new q w from depth count = (i : ℕ) → i < count → WorkerCalls made_by old new q w from depth i count
-
 -- the calls of one round of more than 4 plies that found no mate
 unfoldable pub RoundSearches : {S : Type 0} → (ℕ → S → List Entry → S → Type 0) → S → S → Task → ℕ → Type 0
 RoundSearches made_by old new task count =

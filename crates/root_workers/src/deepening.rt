@@ -1,17 +1,16 @@
 //! The rounds, one after the other.
 
-ghost use Rattle.std.specs.Prelude.{◌≡◌, ◌≢◌, ℕ, ◌+◌, ◌-◌, ◌<◌, ◌≤◌, ◌⊎◌, [], ◌∷◌, length, List, Some, None, Ok, IsNone, IfOk, OnOk, OnErr, Contains, true};
+ghost use Rattle.std.specs.Prelude.{◌≡◌, ℕ, ◌+◌, ◌-◌, ◌<◌, ◌≤◌, length, List, Some, None, Ok, IsNone, IfOk, OnOk, OnErr, true};
 ghost use Rattle.cha_board.specs.Men.{other_color};
 ghost use Rattle.cha_moves.specs.Step.{Move as Step};
 ghost use Rattle.cha_moves.specs.Moves.{legal as legal_moves};
 ghost use Rattle.cha_moves.specs.Ends.{IsMated, IsMatingLine, IsUnwinnable, HasNoMateWithin};
 ghost use Rattle.cha_fact.specs.Keys.{key_of};
-ghost use Rattle.cha_fact.specs.Entries.{probe_entry, store_entry};
-ghost use Rattle.helpmate.specs.Rounds.{IsAnswer, decided_by};
+ghost use Rattle.helpmate.specs.Rounds.{IsAnswer};
 ghost use Rattle.root_workers.specs.declared.work.Work.{Work};
 ghost use Rattle.root_workers.specs.Shares.{IsSpent, AllGrowTo};
-ghost use Rattle.root_workers.specs.RoundAnswers.{IsMateEnd, IsEnd, IsAmple, RoundsCalls, claim_of, fact_of};
-ghost use Rattle.root_workers.specs.Deepens.{plies_of, IsFrom, CrewCalls, RoundSearches, DeepenCalls, KeepCalls, KeptCalls};
+ghost use Rattle.root_workers.specs.RoundAnswers.{IsMateEnd, IsEnd, IsAmple, RoundsCalls, claim_of};
+ghost use Rattle.root_workers.specs.Deepens.{plies_of, IsFrom, RoundSearches, DeepenCalls, KeepCalls, KeptCalls};
 
 use crate::answers::RoundsEnd;
 use crate::gather::gathered;

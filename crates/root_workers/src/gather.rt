@@ -1,6 +1,6 @@
 //! What the works of a round come to.
 
-ghost use Rattle.std.specs.Prelude.{◌≡◌, ℕ, ◌<◌, ◌≤◌, ◌⊎◌, ◌∷◌, ◌↔◌, true, false, length, slice_get, Some, None, Ok, IsTrue, IfOk, OnErr, Contains};
+ghost use Rattle.std.specs.Prelude.{◌≡◌, ℕ, ◌<◌, ◌≤◌, ◌⊎◌, ◌∷◌, ◌↔◌, true, false, length, slice_get, Some, None, Ok, IsTrue, IfOk, OnErr};
 ghost use Rattle.cha_board.specs.Men.{other_color};
 ghost use Rattle.cha_moves.specs.Moves.{legal as legal_moves};
 ghost use Rattle.cha_moves.specs.Ends.{IsMated, IsMatingLine};

@@ -1,13 +1,9 @@
 //! Workers that are threads at one table.
 
 ghost use Rattle.std.specs.Prelude.{◌≡◌, ℕ, ◌+◌, ◌<◌, ◌≤◌, [], ◌∷◌, length, slice_index_or, IsNone, IfOk, OnErr};
-ghost use Rattle.std.specs.Vec.{vec_len};
 ghost use Rattle.cha_moves.specs.Moves.{legal as legal_moves};
-ghost use Rattle.cha_fact.specs.Keys.{key_of};
 ghost use Rattle.cha_fact.specs.Entries.{probe_entry, store_entry, IsOfKey};
-ghost use Rattle.shard_table.specs.Makes.{Makes};
 ghost use Rattle.shard_table.specs.Tables.{IsOfTable, IsFirstPass, splits_of};
-ghost use Rattle.root_workers.specs.Shares.{IsShare, ShareCalls};
 ghost use Rattle.root_workers.specs.Crews.{IsCrew, CrewMakes, WorkerDone};
 ghost use Rattle.root_workers.specs.Splits.{OnlySplits, AreFresh};
 
@@ -24,8 +20,7 @@ use std::sync::Wait;
 use std::thread;
 use std::thread::Threads;
 
-/// The workers of a crew with the table at which they take their turns. Each searches its root moves in a thread of its own, but
-/// in a round of few plies, which they search one after the other.
+/// The workers of a crew with the table at which they take their turns. Each searches its root moves in a thread of its own.
 #[derive(Drop)]
 pub struct Many<'a, R: Threads + Wait + Sync> {
     rt: &'a R,
@@ -104,10 +99,7 @@ fn work_on<R: Wait>(
     worker.work = share_of(alloc, task, moves, worker.number, count, &mut facts);
 }
 
-/// The most plies of a round whose parts are searched one after the other, since it is over before a thread has begun.
-const IN_TURN: u8 = 3;
-
-/// Each worker's part of a round, in a thread of its own where the round is long enough.
+/// Each worker's part of a round, in a thread of its own.
 pub(crate) fn hand_out<R: Threads + Wait + Sync>(
     rt: &R,
     alloc: Global,
@@ -125,11 +117,10 @@ pub(crate) fn hand_out<R: Threads + Wait + Sync>(
     ensures done { (i : ℕ) (d : Worker) → i < length crew.old → WorkerDone table.now task.now moves.now (length crew.old) (slice_index_or crew.old i d) (slice_index_or crew.new i d) }
 {
     let count = crew.len() as u32;
-    let threads = if task.depth <= IN_TURN { 1 } else { 16 };
     thread::for_each_mut(
         rt,
         crew,
-        threads,
+        16,
         &|_, worker: &mut Worker|
             requires { IsOfTable table.now worker.now.pass × (worker.now.number < count) × (count ≤ 16) × (moves.now ≡ legal_moves task.now.position) × (1 ≤ task.now.depth) × (task.now.depth ≤ 8) × (IsNone task.now.allowance → task.now.depth ≤ 3) }
             ensures { WorkerDone table.entry.now task.entry.now moves.entry.now count worker.entry.now worker.exit.now }

@@ -1,6 +1,6 @@
 //! Workers that are threads and are hired when a position first reaches the rounds.
 
-ghost use Rattle.std.specs.Prelude.{◌≡◌, ◌≤◌};
+ghost use Rattle.std.specs.Prelude.{◌≤◌};
 ghost use Rattle.root_workers.specs.Hiring.{IsStaff, IsUnhired, StaffEnds};
 
 use crate::staff::Staff;

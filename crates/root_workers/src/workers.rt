@@ -1,9 +1,7 @@
 //! Workers as a whole.
 
-ghost use Rattle.std.specs.Prelude.{ℕ, ◌≡◌, ◌+◌, ◌<◌, ◌≤◌, List, [], ◌++◌, length, IsNone};
+ghost use Rattle.std.specs.Prelude.{ℕ, ◌≡◌, ◌+◌, ◌<◌, ◌≤◌, List, [], ◌++◌, IsNone};
 ghost use Rattle.cha_moves.specs.Moves.{legal as legal_moves};
-ghost use Rattle.cha_moves.specs.Ends.{IsMated};
-ghost use Rattle.cha_board.specs.Men.{other_color};
 ghost use Rattle.cha_fact.specs.Entries.{Entry};
 ghost use Rattle.root_workers.specs.Shares.{IsShare, ShareCalls, AllGrow, AllGrowTo};
 

@@ -1,6 +1,6 @@
 //! A new table, its passes split off and taken back, and its end.
 
-ghost use Rattle.std.specs.Prelude.{◌≡◌, ◌<◌, ◌≤◌, ◌+◌, ◌-◌, ◌↔◌, ℕ, [], slice_get, length, Some, IfOk, IfErr, IsErr};
+ghost use Rattle.std.specs.Prelude.{◌≡◌, ◌<◌, ◌≤◌, ◌+◌, ◌-◌, ◌↔◌, [], slice_get, length, Some, IfOk, IfErr, IsErr};
 ghost use Rattle.turn_cell.specs.Histories.{IsLegalHistory};
 ghost use Rattle.turn_cell.specs.Passes.{IsOf, IsFirst, start, known, seen, mine, splits, joins, SplitOff, Joined};
 ghost use Rattle.shard_table.specs.Shards.{ShardStep, empty};

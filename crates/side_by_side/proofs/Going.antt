@@ -5,16 +5,16 @@ use Rattle.std.proofs.lemmas.Bool.{cases_eq}
 use Rattle.cha_list.specs.declared.memory.NoMemory.{NoMemory}
 use Rattle.cha_outcome.specs.declared.items.Item.{Item}
 use Rattle.cha_limits.specs.Bounds.{Bounds}
-use Rattle.pgn_games.specs.declared.played.PlacedGame.{PlacedGame}
 use Rattle.cha_outcome.specs.declared.questions.FlaggedDraws.{FlaggedDraws}
 use Rattle.cha_outcome.specs.declared.questions.Question.{Question}
 use Rattle.cha_outcome.specs.declared.questions.Question.TheVariants.{Verdicts, Mates, Plies}
 use Rattle.cha_outcome.specs.Outcomes.{CanBeAsked}
 use Rattle.side_by_side.specs.declared.cuts.Cut.{Cut}
-use Rattle.side_by_side.specs.declared.cuts.Cut.TheVariants.{Game, KeptGame}
+use Rattle.side_by_side.specs.declared.cuts.Purpose.TheVariants.{Judged, Corrected}
+use Rattle.side_by_side.specs.declared.cuts.ItemKind.TheVariants.{Games}
 use Rattle.side_by_side.specs.declared.progress.Progress.{Progress}
 use Rattle.side_by_side.specs.declared.progress.Progress.TheVariants.{Cut as OnlyCut}
-use Rattle.side_by_side.specs.Cuts.{item_of_cut, IsAskedAbout}
+use Rattle.side_by_side.specs.Cuts.{item_of_cut, IsAskedOf}
 use Rattle.side_by_side.specs.Progresses.{IsOf, IsAsked, GoesOn, AreAsked, AllGoOn}
 
 pub cut_item : (q : Question) (p : Progress) (cut : Cut) (item : Item) → p ≡ OnlyCut cut → IsOf q item p → item_of_cut cut ≡ item
@@ -35,15 +35,15 @@ decided : (limits : Bounds) (draws : FlaggedDraws) (result : Result Item NoMemor
 decided limits draws (Ok item) all = all limits draws
 decided limits draws (Err refused) all = tt
 
-pub game_asked : (q : Question) (placed : PlacedGame) (result : Result Item NoMemory) → CanBeDecided result → IsAskedAbout q (Game placed) → IfOk result (CanBeAsked q)
-game_asked (Verdicts limits draws) placed result all about = decided limits draws result all
-game_asked (Mates side depth) placed result all about = absurd about
-game_asked Plies placed result all about = absurd about
+pub game_asked : (q : Question) (result : Result Item NoMemory) → CanBeDecided result → IsAskedOf (Games Judged) q → IfOk result (CanBeAsked q)
+game_asked (Verdicts limits draws) result all about = decided limits draws result all
+game_asked (Mates side depth) result all about = absurd about
+game_asked Plies result all about = absurd about
 
-pub kept_asked : (q : Question) (placed : PlacedGame) (result : Result Item NoMemory) → CanBeDecided result → IsAskedAbout q (KeptGame placed) → IfOk result (CanBeAsked q)
-kept_asked (Verdicts limits draws) placed result all about = decided limits draws result all
-kept_asked (Mates side depth) placed result all about = absurd about
-kept_asked Plies placed result all about = absurd about
+pub kept_asked : (q : Question) (result : Result Item NoMemory) → CanBeDecided result → IsAskedOf (Games Corrected) q → IfOk result (CanBeAsked q)
+kept_asked (Verdicts limits draws) result all about = decided limits draws result all
+kept_asked (Mates side depth) result all about = absurd about
+kept_asked Plies result all about = absurd about
 
 -- of what nobody works on
 pub all_stay : (q : Question) (batch : List Progress) → AllGoOn q batch batch

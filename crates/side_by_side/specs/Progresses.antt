@@ -5,12 +5,12 @@ use Rattle.cha_outcome.specs.declared.questions.Question.{Question}
 use Rattle.cha_outcome.specs.Outcomes.{Answers, CanBeAsked, IsPrintableOutcome}
 use Rattle.side_by_side.specs.declared.progress.Progress.{Progress}
 use Rattle.side_by_side.specs.declared.progress.Progress.TheVariants.{Cut as OnlyCut, Read, Judged}
-use Rattle.side_by_side.specs.Cuts.{item_of_cut, IsReadable, IsAskedAbout}
+use Rattle.side_by_side.specs.Cuts.{item_of_cut, kind_of_cut, IsReadable, IsAskedOf}
 
 -- It is the work on this item, about which the question is asked: what is cut can be read as the item, what is read is the item, and an
 -- outcome answers the question about it and can be printed.
 abbrev pub IsOf : Question → Item → Progress → Type 0
-IsOf question item (OnlyCut cut) = (item_of_cut cut ≡ item) × IsReadable cut × IsAskedAbout question cut
+IsOf question item (OnlyCut cut) = (item_of_cut cut ≡ item) × IsReadable cut × IsAskedOf (kind_of_cut cut) question
 IsOf question item (Read i) = (i ≡ item) × CanBeAsked question item
 IsOf question item (Judged o cut) = Answers question item o × IsPrintableOutcome o
 

@@ -11,7 +11,7 @@ mod hands;
 mod parts;
 mod progress;
 
-pub use cuts::Cut;
+pub use cuts::{Cut, ItemKind, Purpose};
 pub use hands::Hands;
 pub use parts::{GoOn, Part, Task};
 pub use progress::{Progress, finish};

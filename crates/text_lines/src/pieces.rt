@@ -1,6 +1,6 @@
 //! What a reader keeps of its source: the line that is being read, and what was read behind it.
 
-ghost use Rattle.std.specs.Prelude.{◌≡◌, ◌+◌, ◌-◌, ◌∷◌, ◌<◌, ◌≤◌, ◌↔◌, ◌++◌, [], length, take, drop, true, false, IfOk, OnOk, OnErr, IfSome, IfNone, slice_get};
+ghost use Rattle.std.specs.Prelude.{◌≡◌, ◌+◌, ◌-◌, ◌∷◌, ◌<◌, ◌≤◌, ◌↔◌, ◌++◌, [], length, take, drop, IfOk, IfSome, IfNone};
 ghost use Rattle.std.specs.declared.result.Result.TheVariants.{Ok, Err};
 ghost use Rattle.std.specs.List.{prefix_len};
 ghost use Rattle.std.specs.Io.KnownBytes.{IsAtEnd};
@@ -8,7 +8,7 @@ ghost use Rattle.cha_list.specs.declared.classes.Class.TheVariants.{NotLineFeed}
 ghost use Rattle.cha_list.specs.Bytes.{in_class};
 ghost use Rattle.cha_outside.specs.Faults.{Rose};
 ghost use Rattle.cha_outside.specs.Gathering.{Gathers};
-ghost use Rattle.text_lines.specs.Lines.{without_return as without_return_of, line_if};
+ghost use Rattle.text_lines.specs.Lines.{line_if};
 
 use crate::history::History;
 use crate::lines::{TextLine, without_return};

@@ -10,7 +10,7 @@ use Rattle.turn_cell.proofs.Counting.{living_set, life_one}
 use Rattle.turn_cell.proofs.Prefix.{both_in, longer_in, longer_all, longer_all', squeeze}
 use Rattle.turn_cell.proofs.Same.{there, set_there}
 use Rattle.turn_cell.proofs.Splitting.{is_first, splits_known, joins_known}
-use Rattle.turn_cell.specs.Histories.{IsPrefix, entries_of, longer_of, IsOneOf, taken_back}
+use Rattle.turn_cell.specs.Histories.{IsPrefix, entries_of, longer_of, IsOneOf}
 use Rattle.turn_cell.specs.declared.object.TakenBack.{TakenBack}
 use Rattle.turn_cell.specs.Views.{shorter_of}
 use Rattle.turn_cell.specs.Rule.{TakesTurns, Fits, SomeHasTurn, OwnNumbers, OneTurn, SomeHasSeenAll, lives}

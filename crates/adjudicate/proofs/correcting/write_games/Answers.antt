@@ -4,7 +4,8 @@ use Rattle.std.proofs.lemmas.List.{length-map}
 use Rattle.pgn_games.specs.Games.{placed_games}
 use Rattle.cha_outcome.specs.Items.{kept_item}
 use Rattle.side_by_side.specs.Progresses.{IsOf}
-use Rattle.item_batches.specs.Readers.{KeptItems}
+use Rattle.side_by_side.specs.declared.cuts.Purpose.TheVariants.{Corrected}
+use Rattle.side_by_side.specs.declared.cuts.ItemKind.TheVariants.{Games as GamesFor}
 use Rattle.item_batches.proofs.Items.{not_more}
 use Rattle.adjudicate.proofs.RunEndings.{rose_in}
 use Rattle.adjudicate.proofs.ReportLoop.{all_taken, given_whole, next_whole, same_before, same_settled, same_took, same_count}
@@ -33,11 +34,11 @@ returns-in-Err-clause-run g c =
     let i = c.loop-found.invariant in
     let e = c.next.ensures in
     let at = retook _ _ c.loop-found.games.ended _ _ _ _ e.bytes.0 _ _ _ _ i.at e.bytes.2 e.still i.due e.written in
-    let took = same_took KeptItems _ _ _ i.kind e.no_more in
+    let took = same_took (GamesFor Corrected) _ _ _ i.kind e.no_more in
     let all = all_taken _ _ _ _ _ i.took e.bytes in
     rw i.quiet (not_read _ _ c.requires.asked _ _ _ _ _ _ _ at took _ _ _ _ all (omega (arith, i.source_later, e.later)) _ c.in-Err.end _ _ c.from.ensures i.sink_later
     (λ fault. rose_in _ _ _ i.source_later (e.read_fault (c.in-Err.is ∙ ap Err fault)))
-    (λ fault. same_settled KeptItems _ _ _ i.kind (e.settled (c.in-Err.is ∙ ap Err fault)))
+    (λ fault. same_settled (GamesFor Corrected) _ _ _ i.kind (e.settled (c.in-Err.is ∙ ap Err fault)))
     ((λ long. e.too_long.0 (c.in-Err.is ∙ ap Err long)), (λ more. let f = sym c.in-Err.is ∙ e.too_long.1 more in cc))
     e.few (still_whole c.loop-found.games.ended _ _ _ _ _ _ e.bytes.2 i.due e.still_ended (e.end i.end)))
 
@@ -46,11 +47,11 @@ returns-in_default-clause-run g c =
     let i = c.loop-found.invariant in
     let e = c.next.ensures in
     let at = retook _ _ c.loop-found.games.ended _ _ _ _ e.bytes.0 _ _ _ _ i.at e.bytes.2 e.still i.due e.written in
-    let took = same_took KeptItems _ _ _ i.kind e.no_more in
+    let took = same_took (GamesFor Corrected) _ _ _ i.kind e.no_more in
     let all = all_taken _ _ _ _ _ i.took e.bytes in
     let few = not_more _ 268435456 (λ long. let f = sym c.in-Ok.is ∙ e.too_long.1 long in cc) in
     let none = e.none (c.in-Ok.is ∙ ap Ok c.in_default.is) in
-    let count = subst (λ n. n ≤ c.loop-found.games.given) (length-map (placed_games c.next.new.self.taken) kept_item) (same_count KeptItems _ _ _ i.kind none.1) in
+    let count = subst (λ n. n ≤ c.loop-found.games.given) (length-map (placed_games c.next.new.self.taken) kept_item) (same_count (GamesFor Corrected) _ _ _ i.kind none.1) in
     all_judged _ _ c.requires.asked _ _ _ _ _ _ _ at took _ _ _ _ all (omega (arith, i.source_later, e.later)) _ _ _ _ _ _ i.sink_later few count (e.end i.end none.0) (rw i.quiet at c.end_text.ensures) (λ rose. rose_in _ _ _ i.sink_later rose)
 
 pub finish-requires-clause-about : goal.finish-requires-clause-about
@@ -64,10 +65,10 @@ returns-in_default-finish-clause-run g c =
     let i = c.loop-found.invariant in
     let e = c.next.ensures in
     let at = retook _ _ c.loop-found.games.ended _ _ _ _ e.bytes.0 _ _ _ _ i.at e.bytes.2 e.still i.due e.written in
-    let took = same_took KeptItems _ _ _ i.kind e.no_more in
+    let took = same_took (GamesFor Corrected) _ _ _ i.kind e.no_more in
     let all = all_taken _ _ _ _ _ i.took e.bytes in
     let few = not_more _ 268435456 (λ long. let f = sym c.in-Ok.is ∙ e.too_long.1 long in cc) in
-    rw i.quiet (no_memory _ _ c.requires.asked _ _ _ _ _ _ _ at took _ _ _ _ all (omega (arith, i.source_later, e.later)) _ _ i.sink_later few (given_whole _ _ _ _ (λ more_comes. same_before KeptItems _ _ _ i.kind ((rw (c.in-Ok.is ∙ ap Ok c.in-Some.is) at e.before_end) more_comes)) (e.end i.end)))
+    rw i.quiet (no_memory _ _ c.requires.asked _ _ _ _ _ _ _ at took _ _ _ _ all (omega (arith, i.source_later, e.later)) _ _ i.sink_later few (given_whole _ _ _ _ (λ more_comes. same_before (GamesFor Corrected) _ _ _ i.kind ((rw (c.in-Ok.is ∙ ap Ok c.in-Some.is) at e.before_end) more_comes)) (e.end i.end)))
 
 pub write_game-requires-clause-room : goal.write_game-requires-clause-room
 write_game-requires-clause-room g c =
@@ -91,18 +92,18 @@ returns-in_default-write_game-clause-run g c =
     let i = c.loop-found.invariant in
     let e = c.next.ensures in
     let at = retook _ _ c.loop-found.games.ended _ _ _ _ e.bytes.0 _ _ _ _ i.at e.bytes.2 e.still i.due e.written in
-    let took = same_took KeptItems _ _ _ i.kind e.no_more in
+    let took = same_took (GamesFor Corrected) _ _ _ i.kind e.no_more in
     let all = all_taken _ _ _ _ _ i.took e.bytes in
     let few = not_more _ 268435456 (λ long. let f = sym c.in-Ok.is ∙ e.too_long.1 long in cc) in
     let same = c.in_default-write_game.ensures.untouched in
-    rw same (rw i.quiet (no_memory _ _ c.requires.asked _ _ _ _ _ _ _ at took _ _ _ _ all (omega (arith, i.source_later, e.later)) _ _ i.sink_later few (given_whole _ _ _ _ (λ more_comes. same_before KeptItems _ _ _ i.kind ((rw (c.in-Ok.is ∙ ap Ok c.in-Some.is) at e.before_end) more_comes)) (e.end i.end))))
+    rw same (rw i.quiet (no_memory _ _ c.requires.asked _ _ _ _ _ _ _ at took _ _ _ _ all (omega (arith, i.source_later, e.later)) _ _ i.sink_later few (given_whole _ _ _ _ (λ more_comes. same_before (GamesFor Corrected) _ _ _ i.kind ((rw (c.in-Ok.is ∙ ap Ok c.in-Some.is) at e.before_end) more_comes)) (e.end i.end))))
 
 pub returns-in-Failed-clause-run : goal.returns-in-Failed-clause-run
 returns-in-Failed-clause-run g c =
     let i = c.loop-found.invariant in
     let e = c.next.ensures in
     let at = retook _ _ c.loop-found.games.ended _ _ _ _ e.bytes.0 _ _ _ _ i.at e.bytes.2 e.still i.due e.written in
-    let took = same_took KeptItems _ _ _ i.kind e.no_more in
+    let took = same_took (GamesFor Corrected) _ _ _ i.kind e.no_more in
     let all = all_taken _ _ _ _ _ i.took e.bytes in
     let few = not_more _ 268435456 (λ long. let f = sym c.in-Ok.is ∙ e.too_long.1 long in cc) in
     let work = rw c.in-Some.is at c.in-Ok.ensures.work in
@@ -113,7 +114,7 @@ returns-in-Failed-clause-run g c =
     let cause = rw c.in-Failed.is at w.cause in
     rw i.quiet (cut_game _ _ c.requires.asked _ _ _ _ _ _ _ at took _ _ _ _ all (omega (arith, i.source_later, e.later)) _ _ _ c.in-Ok-finish.outcome game.0 _ c.in-Failed.field-0
     (omega (arith, cause.0, i.sink_later)) (rose_in _ _ _ i.sink_later cause.1) few game.1 answers refl (rw c.in-Failed.is at w.bytes game.0.span place)
-    (next_whole _ _ _ _ (λ more_comes. same_before KeptItems _ _ _ i.kind ((rw (c.in-Ok.is ∙ ap Ok c.in-Some.is) at e.before_end) more_comes)) (e.end i.end)))
+    (next_whole _ _ _ _ (λ more_comes. same_before (GamesFor Corrected) _ _ _ i.kind ((rw (c.in-Ok.is ∙ ap Ok c.in-Some.is) at e.before_end) more_comes)) (e.end i.end)))
 
 pub loop-found-smaller : goal.loop-found-smaller
 loop-found-smaller g c =
@@ -142,7 +143,7 @@ loop-found-preserved g c =
       question = c.finish.ensures.same_question ∙ i.question;
       took = rw same.0 all;
       end = λ t. e.end i.end (sym same.2 ∙ t);
-      due = λ f. (let settled = same_before KeptItems _ _ _ i.kind ((rw (c.in-Ok.is ∙ ap Ok c.in-Some.is) at e.before_end) (sym same.2 ∙ f)) in rw same.0 (omega (arith, settled, more.0, same.1)));
+      due = λ f. (let settled = same_before (GamesFor Corrected) _ _ _ i.kind ((rw (c.in-Ok.is ∙ ap Ok c.in-Some.is) at e.before_end) (sym same.2 ∙ f)) in rw same.0 (omega (arith, settled, more.0, same.1)));
       goes_on = (same.3 ∙ rw c.in-Ok.is at e.failed, rw same.0 few);
       source_later = omega (arith, e.later, i.source_later);
       sink_later = omega (arith, rw c.in-All.is at w.cause, i.sink_later);

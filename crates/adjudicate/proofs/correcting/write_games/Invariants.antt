@@ -1,7 +1,8 @@
 use Rattle.std.proofs.Common.{◌≡◌, ◌-◌, ◌≤◌, length, true, false}
 use Rattle.std.specs.Io.KnownBytes.{Consumes, IsAtEnd}
 use Rattle.pgn_games.specs.Settling.{settled_games}
-use Rattle.item_batches.specs.Readers.{KeptItems}
+use Rattle.side_by_side.specs.declared.cuts.Purpose.TheVariants.{Corrected}
+use Rattle.side_by_side.specs.declared.cuts.ItemKind.TheVariants.{Games as GamesFor}
 use Rattle.adjudicate.proofs.CorrectingLoop.{IsAt}
 use Rattle.adjudicate.proofs.correcting.write_games.Given as goal
 
@@ -9,7 +10,7 @@ use Rattle.adjudicate.proofs.correcting.write_games.Given as goal
 abbrev pub invariant-loop-found : goal.invariant-loop-found
 invariant-loop-found g l = record {
   at : IsAt (g.J.Judge.question l.fn.judge) l.changed (g.K.Sink.written l.fn.sink) (g.K.Sink.written l.sink) l.games.taken l.games.given l.games.written l.totals;
-  kind : l.games.kind ≡ KeptItems;
+  kind : l.games.kind ≡ GamesFor Corrected;
   asked : l.games.question ≡ g.J.Judge.question l.fn.judge;
   question : g.J.Judge.question l.judge ≡ g.J.Judge.question l.fn.judge;
   took : Consumes (g.S.Source.left l.fn.source) (g.S.Source.left l.source) l.games.taken;

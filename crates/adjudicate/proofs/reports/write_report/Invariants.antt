@@ -2,14 +2,14 @@ use Rattle.std.proofs.Common.{◌≡◌, ◌-◌, ◌≤◌, true, false, length
 use Rattle.std.specs.Io.KnownBytes.{IsAtEnd}
 use Rattle.cha_outside.specs.Gathering.{Gathers}
 use Rattle.item_batches.specs.Readers.{settled_by}
-use Rattle.adjudicate.specs.Steps.{job_on}
+use Rattle.adjudicate.specs.Jobs.{job_on}
 use Rattle.adjudicate.proofs.ReportLoop.{IsAt}
 use Rattle.adjudicate.proofs.reports.write_report.Given as goal
 
 -- the items given so far were judged, and what is printed of them was written
 abbrev pub invariant-loop-found : goal.invariant-loop-found
 invariant-loop-found g l = record {
-  at : IsAt (job_on l.fn.items.kind (g.J.Judge.question l.fn.judge) l.form) (g.K.Sink.written l.fn.sink) (g.K.Sink.written l.sink) l.items.taken l.items.given l.totals;
+  at : IsAt (job_on l.fn.items.kind (g.J.Judge.question l.fn.judge) l.form.style l.form.subject) (g.K.Sink.written l.fn.sink) (g.K.Sink.written l.sink) l.items.taken l.items.given l.totals;
   kind : l.items.kind ≡ l.fn.items.kind;
   asked : l.items.question ≡ g.J.Judge.question l.fn.judge;
   question : g.J.Judge.question l.judge ≡ g.J.Judge.question l.fn.judge;

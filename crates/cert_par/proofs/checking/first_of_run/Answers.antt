@@ -1,5 +1,5 @@
 -- The first node of a run that fails, as each was found.
-use Rattle.std.proofs.Common.{◌-◌, length, arith}
+use Rattle.std.proofs.Common.{◌-◌, arith}
 use Rattle.cha_cert.specs.Shared.{expansion}
 use Rattle.cha_cert.proofs.Expanded.{length-expansion}
 use Rattle.cert_par.proofs.Together.{found_long, more_hold, one_found}

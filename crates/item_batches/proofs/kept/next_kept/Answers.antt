@@ -1,17 +1,17 @@
-use Rattle.std.proofs.Common.{◌+◌, ◌*◌, ◌<◌, ◌≤◌, length, sym, ◌∙◌, arith}
+use Rattle.std.proofs.Common.{◌+◌, ◌*◌, ◌<◌, ◌≤◌, length, sym, ◌∙◌, arith, refl}
 use Rattle.pgn_games.specs.Games.{placed_games}
-use Rattle.cha_outcome.specs.Items.{kept_item}
+use Rattle.side_by_side.specs.Cuts.{item_for}
+use Rattle.side_by_side.specs.declared.cuts.Purpose.TheVariants.{Corrected}
 use Rattle.item_batches.proofs.GivenGames.{few_words, given_few, item_at, items_first}
-use Rattle.item_batches.proofs.Items.{kept_about}
 use Rattle.item_batches.proofs.Items.{not_more}
 use Rattle.item_batches.proofs.kept.next_kept.Goals as goal
 
 pub returns-in-Ok-Some-clause-cut : goal.returns-in-Ok-Some-clause-cut
 returns-in-Ok-Some-clause-cut g c =
     let found = rw c.in-Ok-Some.field-0-is at c.in-Ok-Some.ensures.game in (
-      item_at kept_item (placed_games c.next.new.self.taken) c.args.reader.now.given c.in-Ok-Some.game found,
+      item_at (item_for Corrected) (placed_games c.next.new.self.taken) c.args.reader.now.given c.in-Ok-Some.game found,
       few_words c.next.new.self.taken c.args.reader.now.given c.in-Ok-Some.game found,
-      λ question asked. kept_about question c.in-Ok-Some.game asked,
+      refl,
     )
 
 pub returns-in-Ok-Some-clause-given : goal.returns-in-Ok-Some-clause-given
@@ -21,10 +21,10 @@ returns-in-Ok-Some-clause-given g c =
     (rw c.in-Ok-Some.field-0-is at c.in-Ok-Some.ensures.given, omega (arith, there, few))
 
 pub returns-in-Ok-Some-clause-first : goal.returns-in-Ok-Some-clause-first
-returns-in-Ok-Some-clause-first g c = items_first kept_item _ _ _ c.next.ensures.first
+returns-in-Ok-Some-clause-first g c = items_first (item_for Corrected) _ _ _ c.next.ensures.first
 
 pub returns-in-Ok-None-clause-first : goal.returns-in-Ok-None-clause-first
-returns-in-Ok-None-clause-first g c = items_first kept_item _ _ _ c.next.ensures.first
+returns-in-Ok-None-clause-first g c = items_first (item_for Corrected) _ _ _ c.next.ensures.first
 
 pub returns-in-Err-clause-first : goal.returns-in-Err-clause-first
-returns-in-Err-clause-first g c = items_first kept_item _ _ _ c.next.ensures.first
+returns-in-Err-clause-first g c = items_first (item_for Corrected) _ _ _ c.next.ensures.first

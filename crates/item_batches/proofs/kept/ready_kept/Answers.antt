@@ -1,16 +1,16 @@
-use Rattle.std.proofs.Common.{◌+◌, ◌*◌, ◌<◌, ◌≤◌, length, arith}
+use Rattle.std.proofs.Common.{◌+◌, ◌*◌, ◌<◌, ◌≤◌, length, arith, refl}
 use Rattle.pgn_games.specs.Games.{placed_games}
-use Rattle.cha_outcome.specs.Items.{kept_item}
+use Rattle.side_by_side.specs.Cuts.{item_for}
+use Rattle.side_by_side.specs.declared.cuts.Purpose.TheVariants.{Corrected}
 use Rattle.item_batches.proofs.GivenGames.{few_words, given_few, item_at}
-use Rattle.item_batches.proofs.Items.{kept_about}
 use Rattle.item_batches.proofs.kept.ready_kept.Goals as goal
 
 pub returns-in-Ok-Some-clause-cut : goal.returns-in-Ok-Some-clause-cut
 returns-in-Ok-Some-clause-cut c =
     let found = rw (c.in-Ok-Some.field-0-is, c.ready.ensures.same.0) at c.in-Ok-Some.ensures.game in (
-      item_at kept_item (placed_games c.args.reader.now.taken) c.args.reader.now.given c.in-Ok-Some.game found,
+      item_at (item_for Corrected) (placed_games c.args.reader.now.taken) c.args.reader.now.given c.in-Ok-Some.game found,
       few_words c.args.reader.now.taken c.args.reader.now.given c.in-Ok-Some.game found,
-      λ question asked. kept_about question c.in-Ok-Some.game asked,
+      refl,
     )
 
 pub returns-in-Ok-Some-clause-given : goal.returns-in-Ok-Some-clause-given

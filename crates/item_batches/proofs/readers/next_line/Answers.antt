@@ -1,12 +1,12 @@
-use Rattle.std.proofs.Common.{◌<◌, ◌≤◌, length, sym, ◌∙◌, arith}
+use Rattle.std.proofs.Common.{◌<◌, ◌≤◌, length, sym, ◌∙◌, arith, refl}
 use Rattle.text_lines.specs.Lines.{text_lines}
-use Rattle.item_batches.proofs.Items.{lines_took, lines_about, line_given_few, line_at, lines_first}
+use Rattle.item_batches.proofs.Items.{lines_took, line_given_few, line_at, lines_first}
 use Rattle.item_batches.proofs.Items.{not_more}
 use Rattle.item_batches.proofs.readers.next_line.Goals as goal
 
 pub returns-in-Ok-Some-clause-cut : goal.returns-in-Ok-Some-clause-cut
 returns-in-Ok-Some-clause-cut g c =
-    (line_at (text_lines c.next.new.self.taken) c.args.reader.now.given c.in-Ok-Some.line (rw c.in-Ok-Some.field-0-is at c.in-Ok-Some.ensures.line), tt, λ question asked. lines_about question c.in-Ok-Some.line asked)
+    (line_at (text_lines c.next.new.self.taken) c.args.reader.now.given c.in-Ok-Some.line (rw c.in-Ok-Some.field-0-is at c.in-Ok-Some.ensures.line), tt, refl)
 
 pub returns-in-Ok-Some-clause-given : goal.returns-in-Ok-Some-clause-given
 returns-in-Ok-Some-clause-given g c =

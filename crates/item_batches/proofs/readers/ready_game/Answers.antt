@@ -1,16 +1,15 @@
-use Rattle.std.proofs.Common.{◌+◌, ◌*◌, ◌<◌, ◌≤◌, length, arith}
+use Rattle.std.proofs.Common.{◌+◌, ◌*◌, ◌<◌, ◌≤◌, length, arith, refl}
 use Rattle.pgn_games.specs.Games.{placed_games}
-use Rattle.cha_outcome.specs.Items.{game_item}
+use Rattle.side_by_side.specs.Cuts.{item_for}
 use Rattle.item_batches.proofs.GivenGames.{few_words, given_few, item_at}
-use Rattle.item_batches.proofs.Items.{games_about}
 use Rattle.item_batches.proofs.readers.ready_game.Goals as goal
 
 pub returns-in-Ok-Some-clause-cut : goal.returns-in-Ok-Some-clause-cut
 returns-in-Ok-Some-clause-cut c =
     let found = rw (c.in-Ok-Some.field-0-is, c.ready.ensures.same.0) at c.in-Ok-Some.ensures.game in (
-      item_at game_item (placed_games c.args.reader.now.taken) c.args.reader.now.given c.in-Ok-Some.game found,
+      item_at (item_for c.args.purpose) (placed_games c.args.reader.now.taken) c.args.reader.now.given c.in-Ok-Some.game found,
       few_words c.args.reader.now.taken c.args.reader.now.given c.in-Ok-Some.game found,
-      λ question asked. games_about question c.in-Ok-Some.game asked,
+      refl,
     )
 
 pub returns-in-Ok-Some-clause-given : goal.returns-in-Ok-Some-clause-given

@@ -1,12 +1,12 @@
-use Rattle.std.proofs.Common.{◌<◌, ◌≤◌, length, arith}
+use Rattle.std.proofs.Common.{◌<◌, ◌≤◌, length, arith, refl}
 use Rattle.text_lines.specs.Lines.{text_lines}
-use Rattle.item_batches.proofs.Items.{lines_took, lines_about, line_given_few, line_at}
+use Rattle.item_batches.proofs.Items.{lines_took, line_given_few, line_at}
 use Rattle.item_batches.proofs.readers.ready_line.Goals as goal
 
 pub returns-in-Ok-Some-clause-cut : goal.returns-in-Ok-Some-clause-cut
 returns-in-Ok-Some-clause-cut c =
     let found = rw (c.in-Ok-Some.field-0-is, c.ready.ensures.same.0) at c.in-Ok-Some.ensures.line in
-    (line_at (text_lines c.args.reader.now.taken) c.args.reader.now.given c.in-Ok-Some.line found, tt, λ question asked. lines_about question c.in-Ok-Some.line asked)
+    (line_at (text_lines c.args.reader.now.taken) c.args.reader.now.given c.in-Ok-Some.line found, tt, refl)
 
 pub returns-in-Ok-Some-clause-given : goal.returns-in-Ok-Some-clause-given
 returns-in-Ok-Some-clause-given c =

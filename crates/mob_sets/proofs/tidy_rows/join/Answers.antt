@@ -3,7 +3,6 @@ use Rattle.std.specs.Int.{bit_at}
 use Rattle.cha_board.proofs.SetLaws.{length-set_of}
 use Rattle.mob_sets.proofs.Joining.{joined_entries, joined_tidy, placed_entries, placed_tidy, none_entries, some_squares, no_row}
 use Rattle.mob_sets.proofs.tidy_rows.join.Goals as goal
-use Rattle.mob_sets.proofs.tidy_rows.join.Goals.{Then-is_empty, After-fill, In-Ok-insert}
 
 pub returns-then-is_empty-clause-ok : goal.returns-then-is_empty-clause-ok
 returns-then-is_empty-clause-ok c =

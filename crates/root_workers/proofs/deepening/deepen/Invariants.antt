@@ -2,7 +2,7 @@ use Rattle.std.proofs.Common.{◌≡◌, ◌-◌, ◌≤◌}
 use Rattle.cha_moves.specs.Moves.{legal}
 use Rattle.cha_moves.specs.Ends.{HasNoMateWithin}
 use Rattle.root_workers.specs.Shares.{AllGrowTo}
-use Rattle.root_workers.specs.Deepens.{CrewCalls}
+use Rattle.root_workers.proofs.Going.{CrewCalls}
 use Rattle.root_workers.proofs.deepening.deepen.Given as goal
 
 abbrev pub invariant-loop-depth : goal.invariant-loop-depth

@@ -1,4 +1,4 @@
-use Rattle.std.proofs.Common.{sym, ap, ◌∙◌}
+use Rattle.std.proofs.Common.{ap, ◌∙◌}
 use Rattle.pgn_lex.specs.Lexing.{LexerState}
 use Rattle.pgn_lex.specs.Lines.{ends_line}
 use Rattle.pgn_lex.proofs.LineEnds.{machine_first}

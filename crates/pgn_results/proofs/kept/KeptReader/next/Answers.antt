@@ -1,4 +1,4 @@
-use Rattle.std.proofs.Common.{rules, refl, ◌≡◌, ◌++◌, ℕ, List, Ok, Some, true≢false, sym, ap, subst, ◌≤◌, ◌∙◌, arith, length, take, slice_get, length-append, append-nil, IfSome}
+use Rattle.std.proofs.Common.{rules, refl, ◌≡◌, ◌++◌, ℕ, List, Ok, Some, true≢false, sym, ap, subst, ◌≤◌, ◌∙◌, arith, length, take, slice_get, length-append, IfSome}
 use Rattle.cha_outside.proofs.Gathered.{gathers_more}
 use Rattle.pgn_games.specs.declared.played.PlacedGame.{PlacedGame}
 use Rattle.pgn_games.specs.Games.{placed_games}

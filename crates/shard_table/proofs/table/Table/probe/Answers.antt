@@ -2,7 +2,6 @@ use Rattle.std.proofs.Common.{◌∙◌, subst}
 use Rattle.cha_fact.specs.declared.calls.FactCall.TheVariants.{Probe as Asked}
 use Rattle.cha_fact.specs.declared.calls.FactReply.TheVariants.{Probed}
 use Rattle.cha_fact.specs.declared.calls.Probe.TheVariants.{Found, Miss, Refused}
-use Rattle.cha_board.specs.Board.{IsValid}
 use Rattle.shard_table.specs.Shards.{empty}
 use Rattle.shard_table.specs.Tables.{TakesTurn, pass_at, shard_number}
 use Rattle.shard_table.proofs.Turning.{no_stored, stays, finds, finds_key, true_of}

@@ -1,7 +1,7 @@
 use Rattle.std.proofs.Common.{◌≡◌, ◌≤◌, true, false, List, ℕ, ◌++◌, Ok, ap, sym, ◌∙◌, arith}
 use Rattle.cha_outside.proofs.Gathered.{gathers_more}
 use Rattle.text_lines.specs.Lines.{settled_lines}
-use Rattle.text_lines.proofs.Kept.{ended_given, still_waits, waits_on, last_given, first_on}
+use Rattle.text_lines.proofs.Kept.{ended_given, still_waits, last_given, first_on}
 use Rattle.text_lines.proofs.reading.Lines.next.Goals as goal
 
 pub loop-line-preserved : goal.loop-line-preserved

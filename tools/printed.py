@@ -5,8 +5,8 @@ the options of docs/MANUAL.md with their numbers, and its exit statuses.
 
     tools/printed.py [PROGRAM]
 
-PROGRAM is the built cha (./cha, as `make` leaves it). A command that names a program of the reader's own is passed over. The status is 0
-where all is as printed.
+PROGRAM is the built cha (./cha, as `make` leaves it); the manual page is the one in made/, which `make` writes by tools/beside.py. A command
+that names a program of the reader's own is passed over. The status is 0 where all is as printed.
 """
 import glob
 import os

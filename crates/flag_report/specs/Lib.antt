@@ -3,7 +3,6 @@ pub mod Scans
 pub mod Games
 pub mod Mates
 pub mod Plies
-pub mod Blocks
 pub mod Totals
 pub mod Styles
 pub mod CertReports

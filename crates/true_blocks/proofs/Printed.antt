@@ -16,10 +16,9 @@ use Rattle.cha_outcome.specs.declared.status.PositionStatus.{PositionStatus}
 use Rattle.report_style.specs.declared.styles.BlockForm.{BlockForm}
 use Rattle.report_style.specs.declared.styles.Notation.TheVariants.{Coordinates}
 use Rattle.report_style.specs.declared.styles.Style.TheVariants.{Blocks}
-use Rattle.flag_report.specs.Blocks.{body}
 use Rattle.flag_report.specs.Findings.{line, verdict_text, winnable_text, cert_part, findings_text}
 use Rattle.flag_report.specs.Scans.{scan_text, scan_part, earlier_part}
-use Rattle.flag_report.specs.Styles.{block, blocks}
+use Rattle.flag_report.specs.Styles.{body, block, blocks}
 use Rattle.true_blocks.specs.Means.{IsMeant}
 use Rattle.true_blocks.specs.Plain.{verdict_words, position_lines, dead_line, plain_body, plain_block, plain_blocks, AllMeant}
 

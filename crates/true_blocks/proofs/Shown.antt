@@ -1,7 +1,6 @@
 -- What a block says is true of the position whose FEN it shows.
 use Rattle.std.proofs.Common.{◌≡◌, ℕ, List, [], ◌++◌, codes, sym, ap, ◌∙◌, append_assoc, append-nil}
 use Rattle.cha_board.specs.Board.{Board, IsValid}
-use Rattle.cha_fen.specs.Fen.{fen}
 use Rattle.cha_fen.specs.Written.{fen_text}
 use Rattle.cha_fen.proofs.WrittenRead.{written_is_read}
 use Rattle.cha_limits.specs.Bounds.{Bounds}
@@ -12,7 +11,7 @@ use Rattle.cha_outcome.specs.declared.questions.FlaggedDraws.{FlaggedDraws}
 use Rattle.cha_outcome.specs.declared.status.PositionStatus.{PositionStatus}
 use Rattle.report_words.specs.Counts.{count_text}
 use Rattle.report_words.specs.Words.{status_text}
-use Rattle.flag_report.specs.Blocks.{label}
+use Rattle.flag_report.specs.Styles.{label}
 use Rattle.flag_report.specs.Findings.{line, fen_line}
 use Rattle.flag_report.specs.Games.{result_line}
 use Rattle.true_blocks.specs.Means.{Means}

@@ -17,7 +17,7 @@ use Rattle.report_words.specs.Counts.{count_text}
 use Rattle.report_words.specs.Reasons.{fen_fault_text}
 use Rattle.report_words.specs.Words.{status_text}
 use Rattle.flag_report.specs.declared.styles.Subject.{Subject}
-use Rattle.flag_report.specs.Blocks.{label}
+use Rattle.flag_report.specs.Styles.{label}
 use Rattle.flag_report.specs.Findings.{line, moves_text, undecided_text, fen_line}
 use Rattle.flag_report.specs.Games.{result_line}
 use Rattle.flag_report.specs.Plies.{unreadable_line}

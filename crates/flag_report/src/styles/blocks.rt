@@ -2,7 +2,7 @@
 
 ghost use Rattle.std.specs.Prelude.{◌≡◌, ◌++◌, OnOk, codes};
 ghost use Rattle.cha_outcome.specs.Outcomes.{IsPrintableOutcome};
-ghost use Rattle.flag_report.specs.Blocks.{label as label_of, body, block_text};
+ghost use Rattle.flag_report.specs.Styles.{label as label_of, body, block_text};
 ghost use Rattle.flag_report.specs.Findings.{line};
 ghost use Rattle.report_words.specs.LegalLines.{HasLegalLines};
 ghost use Rattle.report_words.specs.Reasons.{fen_fault_text};
@@ -20,7 +20,7 @@ use report_words::put_fen_fault;
 use std::alloc::Global;
 
 /// The word in front of the number.
-#[tactic(auto, unfolding(crate::specs::Blocks::label))]
+#[tactic(auto, unfolding(crate::specs::Styles::label))]
 fn label(outcome: &Outcome) -> &'static [u8]
     ensures { result.now ≡ label_of outcome.now }
 {
@@ -80,7 +80,7 @@ pub fn put_block(
 }
 
 /// Appends the lines of a block behind the first.
-#[tactic(auto, unfolding(crate::specs::Blocks::body))]
+#[tactic(auto, unfolding(crate::specs::Styles::body))]
 fn put_body(
     alloc: Global,
     form: BlockForm,

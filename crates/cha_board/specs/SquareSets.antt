@@ -1,5 +1,5 @@
 -- Sets of squares: a truth value for each of the 64 squares (this project).
-use Rattle.std.specs.Prelude.{ℕ, ◌+◌, ◌*◌, ◌==◌, Bool, false, not, ◌&&◌, ◌||◌, List, [], ◌∷◌, if◌then◌else◌, map, filter, slice_index_or}
+use Rattle.std.specs.Prelude.{◌≡◌, ℕ, ◌+◌, ◌*◌, ◌==◌, Bool, false, not, ◌&&◌, ◌||◌, List, [], ◌∷◌, if◌then◌else◌, Option, map, filter, slice_index_or, MatchOption}
 use Rattle.std.specs.List.{list_all, list_any}
 use Rattle.std.specs.Int.{bit_at}
 use Rattle.cha_board.specs.Squares.{squares}
@@ -36,6 +36,10 @@ set_with set at = set_of (λ s. (s == at) || has_square set s)
 -- a set without a square
 unfoldable pub set_without : List Bool → ℕ → List Bool
 set_without set at = set_of (λ s. not (s == at) && has_square set s)
+
+-- the first square of a set comes, and the others are still to come; or none comes, since none was to come
+abbrev pub TakesFirst : List Bool → Option ℕ → List Bool → Type 0
+TakesFirst old came new = MatchOption came ((squares_in old ≡ []) × (new ≡ old)) (λ at. (squares_in old ≡ at ∷ squares_in new) × (new ≡ set_without old at))
 
 -- a set in which one square is in or out
 unfoldable pub set_placed : List Bool → ℕ → Bool → List Bool

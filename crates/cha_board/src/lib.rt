@@ -1,7 +1,7 @@
 //! The chess board: squares, men, what men aim at and attack, and valid positions (Laws of Chess, Articles 2 and 3).
 //!
 //! `men` has colours, kinds and men, `squares` the squares, `letters` how both are written, `sets` sets of squares,
-//! `shifts` ranks, colours of squares, sets moved by one square and steps of kings, and `placement` what stands on the
+//! `each_square` their squares one after the other, `shifts` ranks, colours of squares, sets moved by one square and steps of kings, and `placement` what stands on the
 //! board, kept as sets. `empty_board` has distances and what a man aims at on an empty board, `aiming` the same over occupied
 //! squares by the tables of `leaps` and `rays`, `strikes` what men attack by it, and `attacking` the same by a plain walk over
 //! a list of men. `position` has the valid positions, `build` how one is made, `castling` what a side needs for castling,
@@ -13,6 +13,7 @@ mod aiming;
 mod attacking;
 mod build;
 mod castling;
+mod each_square;
 mod empty_board;
 mod kept;
 mod leaps;
@@ -32,6 +33,7 @@ pub use aiming::{aims, aims_alone, squares_between};
 pub use attacking::attacks_square;
 pub use build::BuildFault;
 pub use castling::{Wing, home, homes};
+pub use each_square::Squares;
 pub use empty_board::{aims_at, files_between, steps_between};
 pub use kept::Kept;
 pub use letters::put_square;

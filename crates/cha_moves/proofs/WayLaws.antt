@@ -121,7 +121,3 @@ between_next q s t old now all left rest before next more = filter_next (is_lega
 pub between_found : (q : Board) (s t : ℕ) (all : List Move) (left rest : List ℕ) → all ≡ filter (is_legal_in q) (flat_map (moves_between s) left) → left ≡ t ∷ rest → legal_between q s t ≢ [] → all ≢ []
 unfolding legal_between
 between_found q s t all left rest before next some = filter_found (is_legal_in q) (moves_between s) all left rest t before next some
-
--- fewer squares are left
-pub fewer : (left rest : List ℕ) (t : ℕ) → left ≡ t ∷ rest → length rest < length left
-fewer left rest t e = (let n = ap length e in omega (arith, n))

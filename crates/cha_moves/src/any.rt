@@ -31,12 +31,10 @@ fn any_of_men(position: &Position, shields: &Shields) -> bool
     ensures some { OnTrue result (legal position.now ≢ []) }
     ensures none { OnFalse result (legal position.now ≡ []) }
 {
-    let mut left = position.placement().of_side(position.side());
-    while let Some(from) = left.first() {
+    for from in position.placement().of_side(position.side()) {
         if any_from(position, shields, from) {
             return true;
         }
-        left = left.without(from);
     }
     false
 }
@@ -52,12 +50,10 @@ fn goes_somewhere(position: &Position, from: Square) -> bool
         return false;
     };
     let less = position.placement().lifted(from);
-    let mut left = ways_of(position, man, from);
-    while let Some(to) = left.first() {
+    for to in ways_of(position, man, from) {
         if goes_well(position, &less, man, from, to) {
             return true;
         }
-        left = left.without(to);
     }
     false
 }

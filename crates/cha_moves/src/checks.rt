@@ -15,11 +15,9 @@ pub fn lines_to(position: &Position, king: Square) -> SquareSet
 {
     let occupied = position.occupied();
     let mut lines = SquareSet::empty();
-    let mut left = aimers(position, position.side(), king);
-    while let Some(by) = left.first() {
+    for by in aimers(position, position.side(), king) {
         let way = squares_between(by, king).common(occupied);
         lines = lines.joined(lone(way));
-        left = left.without(by);
     }
     lines
 }

@@ -32,13 +32,11 @@ fn count_kind(position: &Position, shields: &Shields, side: Color, kind: Kind) -
 {
     let last = promoting(side, kind);
     let mut count: u64 = 0;
-    let mut left = position.men(side, kind);
-    while let Some(from) = left.first() {
+    for from in position.men(side, kind) {
         // The moves of a way are told of valid positions.
         position.known();
         let ways = legal_ways_by(position, shields, side, kind, from);
         count += moves_to(ways, last);
-        left = left.without(from);
     }
     count
 }

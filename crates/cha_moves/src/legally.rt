@@ -76,10 +76,8 @@ fn sifted(position: &Position, man: Man, from: Square, ways: SquareSet) -> Squar
 {
     let less = position.placement().lifted(from);
     let mut legal = ways;
-    let mut left = ways;
-    while let Some(to) = left.first() {
+    for to in ways {
         legal = legal.placed(to, goes_well(position, &less, man, from, to));
-        left = left.without(to);
     }
     legal
 }
@@ -98,10 +96,8 @@ fn sifted_of_king(position: &Position, side: Color, from: Square, ways: SquareSe
     let _from = from.index();
     let less = position.placement().lifted(from);
     let mut legal = ways;
-    let mut left = ways.common(aims_alone(side, Kind::King, from));
-    while let Some(to) = left.first() {
+    for to in ways.common(aims_alone(side, Kind::King, from)) {
         legal = legal.placed(to, !less.attacks(side.other(), to));
-        left = left.without(to);
     }
     legal
 }

@@ -106,10 +106,8 @@ fn add_from(
         return Ok(());
     };
     let last = promoting(position.side(), man.kind);
-    let mut left = legal_ways(position, shields, man, from);
-    while let Some(to) = left.first() {
+    for to in legal_ways(position, shields, man, from) {
         add_way(position, moves, man, last, from, to)?;
-        left = left.without(to);
     }
     Ok(())
 }
@@ -121,10 +119,8 @@ pub fn legal(alloc: Global, position: &Position) -> Result<Vec<Move>, NoMemory>
 {
     let shields = shields_of(position);
     let mut moves = Vec::with_capacity(alloc, ROOM)?;
-    let mut left = position.placement().of_side(position.side());
-    while let Some(from) = left.first() {
+    for from in position.placement().of_side(position.side()) {
         add_from(position, &shields, &mut moves, from)?;
-        left = left.without(from);
     }
     Ok(moves)
 }

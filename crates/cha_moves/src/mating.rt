@@ -75,12 +75,10 @@ fn mating_from(position: &Position, from: Square, targets: SquareSet, winner: Co
     ensures some { IfSome result (λ m. IsMatingLine position.now winner (m ∷ [])) }
     ensures none { IfNone result ((m : Step) → IsMatingLine position.now winner (m ∷ []) → m.from ≡ from → ⊥) }
 {
-    let mut left = targets;
-    while let Some(to) = left.first() {
+    for to in targets {
         if let Some(m) = mating_between(position, from, to, winner) {
             return Some(m);
         }
-        left = left.without(to);
     }
     None
 }
@@ -115,13 +113,11 @@ pub fn mating_move(position: &Position, winner: Color) -> Option<Move>
         return None;
     }
     let lines = lines_to(position, position.king(winner.other()));
-    let mut left = position.placement().of_side(winner);
-    while let Some(from) = left.first() {
+    for from in position.placement().of_side(winner) {
         let targets = targets_from(position, lines, from, winner);
         if let Some(m) = mating_from(position, from, targets, winner) {
             return Some(m);
         }
-        left = left.without(from);
     }
     None
 }

@@ -66,9 +66,7 @@ pub fn shields_of(position: &Position) -> Shields
     let occupied = position.occupied();
     let mut answers = SquareSet::from_bits(u64::MAX);
     let mut screens = SquareSet::empty();
-    let mut left = aimers(position, side.other(), king);
-    while let Some(by) = left.first() {
-        left = left.without(by);
+    for by in aimers(position, side.other(), king) {
         let line = squares_between(king, by);
         let way = line.common(occupied);
         if way.is_empty() {

@@ -97,14 +97,12 @@ fn made_kind(
     ensures { Tells result (before + lines_with depth position.now (filter (is_legal_in position.now) (flat_map moves_from (squares_in (set_of (λ s. is_man side kind (man_at position.now.men s))))))) }
 {
     let mut total = before;
-    let mut left = position.men(side, kind);
-    while let Some(from) = left.first() {
+    for from in position.men(side, kind) {
         let man = Man { color: side, kind };
         let Some(sum) = made_by(position, shields, man, from, depth, total) else {
             return None;
         };
         total = sum;
-        left = left.without(from);
     }
     Some(total)
 }
@@ -131,14 +129,12 @@ fn made_by(
         rights: rights_leaving(position, man, from),
     };
     let mut total = before;
-    let mut left = legal_ways_by(position, shields, man.color, man.kind, from);
-    while let Some(to) = left.first() {
+    for to in legal_ways_by(position, shields, man.color, man.kind, from) {
         let lines = made_way(position, man, &leaving, from, to, depth);
         let Some(sum) = both(Some(total), lines) else {
             return None;
         };
         total = sum;
-        left = left.without(to);
     }
     Some(total)
 }

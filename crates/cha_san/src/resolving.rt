@@ -64,10 +64,8 @@ pub fn found_for(position: &Position, form: &Form) -> Found
     let to = target(position, form);
     let _to = to.index();
     let mut found = Found::Nothing;
-    let mut left = sources(position, form);
-    while let Some(from) = left.first() {
+    for from in sources(position, form) {
         found = with_moves(position, form, found, from, to);
-        left = left.without(from);
     }
     found
 }

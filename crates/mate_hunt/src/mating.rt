@@ -64,9 +64,7 @@ fn mate_by_piece(
     targets: SquareSet,
 ) -> Option<Move> {
     let leaving = Leaving::of(position, scene, from);
-    let mut left = targets;
-    while let Some(to) = left.first() {
-        left = left.without(to);
+    for to in targets {
         let m = Move {
             from,
             to,
@@ -83,9 +81,7 @@ fn mate_by_piece(
 #[inline(always)]
 fn mate_by_kind(position: &Position, scene: &Scene, kind: Kind) -> Option<Move> {
     let checks = scene.checks(kind);
-    let mut left = position.men(scene.winner, kind);
-    while let Some(from) = left.first() {
-        left = left.without(from);
+    for from in position.men(scene.winner, kind) {
         let ways = aims(scene.winner, kind, from, scene.occupied).minus(scene.winners);
         let targets = if scene.screens.has(from) {
             ways
@@ -144,9 +140,7 @@ fn mate_by_promotion(
 /// A mate by the pawn on a square.
 fn mate_from(position: &Position, scene: &Scene, from: Square) -> Option<Move> {
     let leaving = Leaving::of(position, scene, from);
-    let mut left = pawn_ways(position, scene, from);
-    while let Some(to) = left.first() {
-        left = left.without(to);
+    for to in pawn_ways(position, scene, from) {
         if to.rank() == promotion_rank(scene.winner) {
             if let Some(m) = mate_by_promotion(position, scene, &leaving, to) {
                 return Some(m);
@@ -185,9 +179,7 @@ fn telling_pawns(position: &Position, scene: &Scene) -> SquareSet {
 
 /// A mate by a pawn.
 fn mate_by_pawn(position: &Position, scene: &Scene) -> Option<Move> {
-    let mut left = telling_pawns(position, scene);
-    while let Some(from) = left.first() {
-        left = left.without(from);
+    for from in telling_pawns(position, scene) {
         if let Some(m) = mate_from(position, scene, from) {
             return Some(m);
         }

@@ -34,11 +34,10 @@ fn screens(position: &Position, side: Color, king: Square, occupied: SquareSet) 
     let straight = men.of_kind(side, Kind::Rook).joined(queens);
     let diagonal = men.of_kind(side, Kind::Bishop).joined(queens);
     let mut screens = SquareSet::empty();
-    let mut left = straight
+    let pieces = straight
         .common(aims_alone(side, Kind::Rook, king))
         .joined(diagonal.common(aims_alone(side, Kind::Bishop, king)));
-    while let Some(by) = left.first() {
-        left = left.without(by);
+    for by in pieces {
         screens = screens.joined(sole(squares_between(by, king).common(occupied)));
     }
     screens.common(men.of_side(side))
@@ -48,9 +47,7 @@ fn screens(position: &Position, side: Color, king: Square, occupied: SquareSet) 
 #[inline(always)]
 fn aims_of(side: Color, kind: Kind, men: SquareSet, over: SquareSet) -> SquareSet {
     let mut all = SquareSet::empty();
-    let mut left = men;
-    while let Some(at) = left.first() {
-        left = left.without(at);
+    for at in men {
         all = all.joined(aims(side, kind, at, over));
     }
     all

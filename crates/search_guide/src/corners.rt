@@ -37,11 +37,9 @@ fn knights_away(knights: SquareSet, corner: Square) -> u32
     ensures { result ≤ FARTHEST }
 {
     let mut away = 0;
-    let mut left = knights;
-    while let Some(knight) = left.first() {
+    for knight in knights {
         let steps = steps_between(knight, corner).saturating_sub(WELL_PLACED);
         away = FARTHEST.min(away + u32::from(steps));
-        left = left.without(knight);
     }
     away
 }
@@ -119,10 +117,8 @@ fn least_of_corners(own: &Army, other: &Army, corners: SquareSet, most: u32) -> 
     ensures { result ≤ FARTHEST }
 {
     let mut least = most;
-    let mut left = corners;
-    while let Some(corner) = left.first() {
+    for corner in corners {
         least = corner_of_minor(own, other, corner, least);
-        left = left.without(corner);
     }
     least
 }

@@ -23,10 +23,8 @@ fn flights(position: &Position, winner: Color) -> SquareSet {
     let loser = winner.other();
     let around = aims_alone(loser, Kind::King, position.king(loser));
     let mut flights = around.minus(position.placement().of_side(loser));
-    let mut left = flights;
-    while let Some(at) = left.first() {
+    for at in flights {
         flights = flights.placed(at, !attacks(position, winner, at));
-        left = left.without(at);
     }
     flights
 }

@@ -107,10 +107,8 @@ pub fn least_way(own: &Army, other: &Army, occupied: SquareSet) -> u32
     ensures { result ≤ LONGEST_WAY }
 {
     let mut least = LONGEST_WAY;
-    let mut left = own.pawns;
-    while let Some(pawn) = left.first() {
+    for pawn in own.pawns {
         least = way(own, other, occupied, pawn, least);
-        left = left.without(pawn);
     }
     least
 }

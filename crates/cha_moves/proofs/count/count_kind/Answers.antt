@@ -1,8 +1,6 @@
-use Rattle.std.proofs.Common.{◌+◌, ◌<◌, ◌∷◌, length, refl, sym, ap, ◌∙◌, arith}
+use Rattle.std.proofs.Common.{◌+◌, ◌<◌, length, refl, ap, ◌∙◌, arith}
 use Rattle.cha_board.specs.SquareSets.{squares_in}
-use Rattle.cha_board.proofs.SetLaws.{squares_from_first, no_first_square}
 use Rattle.cha_moves.proofs.Contained.{Contains-cons_here, Contains-cons_there}
-use Rattle.cha_moves.proofs.WayLaws.{fewer}
 use Rattle.cha_moves.proofs.Counted.{counted_from, counted_next}
 use Rattle.cha_moves.proofs.ByKind.{legal_from, men_of, each_man, few_of_kind}
 use Rattle.cha_moves.proofs.count.count_kind.Goals as goal
@@ -11,18 +9,13 @@ pub loop-from-init : goal.loop-from-init
 loop-from-init c =
     let q = c.args.position.now in
     record {
-      so_far = (let all = ap (λ xs. length (legal_from q (squares_in xs))) c.men-left.ensures in omega (arith, all));
-      men = λ t inside. each_man q c.args.side c.args.kind t c.men-left.result c.men-left.ensures inside;
+      so_far = (let all = ap (λ xs. length (legal_from q (squares_in xs))) (c.into_iter-from-iterator.ensures.into_iter_gives ∙ c.men-from-items.ensures) in omega (arith, all));
+      men = λ t inside. each_man q c.args.side c.args.kind t c.into_iter-from-iterator.result (c.into_iter-from-iterator.ensures.into_iter_gives ∙ c.men-from-items.ensures) inside;
     }
-
-pub loop-from-smaller : goal.loop-from-smaller
-loop-from-smaller c =
-    let next = squares_from_first c.loop-from.left c.in-Some.from (sym c.first.ensures ∙ c.in-Some.is) in
-    rw c.without-left.ensures (fewer _ _ c.in-Some.from next)
 
 pub legal_ways_by-ways-requires-clause-man : goal.legal_ways_by-ways-requires-clause-man
 legal_ways_by-ways-requires-clause-man c =
-    let next = squares_from_first c.loop-from.left c.in-Some.from (sym c.first.ensures ∙ c.in-Some.is) in
+    let next = c.in-Some.ensures.steps.0 in
     c.loop-from.invariant.men c.in-Some.from (rw next (Contains-cons_here c.in-Some.from _ c.in-Some.from refl))
 
 pub loop-from-preserved : goal.loop-from-preserved
@@ -30,14 +23,13 @@ loop-from-preserved c =
     let q = c.args.position.now in
     let from = c.in-Some.from in
     let small : from < 64 = omega arith in
-    let first = squares_from_first c.loop-from.left from (sym c.first.ensures ∙ c.in-Some.is) in
-    let next = first ∙ ap (λ xs. from ∷ squares_in xs) (sym c.without-left.ensures) in
-    let found = c.loop-from.invariant.men from (rw first (Contains-cons_here from _ from refl)) in
+    let next = c.in-Some.ensures.steps.0 in
+    let found = c.loop-from.invariant.men from (rw next (Contains-cons_here from _ from refl)) in
     let last = c.promoting-last.ensures ∙ rw c.requires.side refl in
     let here = c.moves_to-count.ensures.value ∙ counted_from q from (record { color = c.args.side; kind = c.args.kind }) c.legal_ways_by-ways.result c.promoting-last.result c.known.ensures small found c.legal_ways_by-ways.ensures last in
     record {
       so_far = counted_next q c.loop-from.count c.moves_to-count.result (c.loop-from.count + c.moves_to-count.result) (length (legal_from q (squares_in (men_of q c.args.side c.args.kind)))) _ _ from c.loop-from.invariant.so_far next here refl;
-      men = λ t inside. c.loop-from.invariant.men t (rw next (Contains-cons_there from (squares_in c.without-left.result) t inside));
+      men = λ t inside. c.loop-from.invariant.men t (rw next (Contains-cons_there from (squares_in c.next.new.self) t inside));
     }
 
 pub overflow_add-count : goal.overflow_add-count
@@ -50,6 +42,6 @@ overflow_add-count c =
 pub returns : goal.returns
 returns c =
     let q = c.args.position.now in
-    let none = ap (λ xs. length (legal_from q xs)) (no_first_square c.loop-from.left (sym c.first.ensures ∙ c.in_default.is)) in
+    let none = ap (λ xs. length (legal_from q xs)) c.in-None.ensures.steps.0 in
     let so_far = c.loop-from.invariant.so_far in
     omega (arith, none, so_far)

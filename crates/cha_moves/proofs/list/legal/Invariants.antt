@@ -1,12 +1,9 @@
-use Rattle.std.proofs.Common.{◌≡◌, ◌++◌, length}
+use Rattle.std.proofs.Common.{◌≡◌, ◌++◌}
 use Rattle.std.specs.List.{filter, flat_map}
 use Rattle.cha_board.specs.SquareSets.{squares_in}
 use Rattle.cha_moves.specs.Moves.{is_legal_in, moves_from, legal}
 use Rattle.cha_moves.proofs.list.legal.Given as goal
 
-abbrev pub decreases-loop-from : goal.decreases-loop-from
-decreases-loop-from l = length (squares_in l.left)
-
 -- the moves so far and those from the squares that are left are the legal moves
 abbrev pub invariant-loop-from : goal.invariant-loop-from
-invariant-loop-from l = l.moves.items ++ filter (is_legal_in l.position) (flat_map moves_from (squares_in l.left)) ≡ legal l.position
+invariant-loop-from l = l.moves.items ++ filter (is_legal_in l.position) (flat_map moves_from (squares_in l.from-iterator)) ≡ legal l.position

@@ -1,13 +1,10 @@
-use Rattle.std.proofs.Common.{◌≡◌, length}
+use Rattle.std.proofs.Common.{◌≡◌}
 use Rattle.std.specs.List.{Contains}
 use Rattle.cha_board.specs.SquareSets.{squares_in}
 use Rattle.cha_moves.specs.Step.{Move}
 use Rattle.cha_moves.proofs.MateMoves.{Mates}
 use Rattle.cha_moves.proofs.mating.mating_from.Given as goal
 
-abbrev pub decreases-loop-to : goal.decreases-loop-to
-decreases-loop-to l = length (squares_in l.left)
-
 -- each move that mates goes to a square that is left
 abbrev pub invariant-loop-to : goal.invariant-loop-to
-invariant-loop-to l = (m : Move) → Mates l.position l.winner m → m.from ≡ l.from → Contains (squares_in l.left) m.to
+invariant-loop-to l = (m : Move) → Mates l.position l.winner m → m.from ≡ l.from → Contains (squares_in l.to-iterator) m.to

@@ -89,7 +89,7 @@ fn after_pawn(position: &Position, side: Color, m: Move) -> Position
     ensures { result ≡ position_after position.now m }
 {
     if m.promotion.is_some() {
-        after_any(position, m)
+        after_promotion(position, m)
     } else if goes_en_passant(position, m.from, m.to) {
         after_passing(position, side, m)
     } else {
@@ -259,9 +259,9 @@ pub fn after_quiet(
     Position::of_parts(men, color.other(), rights, target)
 }
 
-/// The position after a legal move.
+/// The position after a legal move by which a pawn is promoted. Such moves are rare, so the men are made as after any move.
 #[inline(never)]
-fn after_any(position: &Position, m: Move) -> Position
+fn after_promotion(position: &Position, m: Move) -> Position
     requires { Contains (legal_moves position.now) m }
     ensures { result ≡ position_after position.now m }
 {

@@ -12,7 +12,7 @@ use Rattle.cha_board.proofs.Scans.{no_square}
 use Rattle.cha_board.specs.Board.{Board}
 use Rattle.mob_sets.specs.Rows.{Row, kinds}
 use Rattle.mob_sets.proofs.KindTests.{no_kind}
-use Rattle.mob_check.specs.declared.scene.Reach.{Reach}
+use Rattle.mob_check.specs.declared.scene.ByKind.{ByKind}
 use Rattle.mob_check.specs.declared.scene.Scene.{Scene}
 use Rattle.mob_check.specs.Scenes.{squares_as, all_in_reach}
 use Rattle.mob_check.specs.MatesInReach.{checks_as, checks_from, has_check, seen_through, strikes_as, mates_as, mates_from, mates_with_one, mates_with_all, mates_among, men_near, may_mate_on, may_mate}
@@ -23,7 +23,7 @@ unfolding set_joined
 in_neither a b u small h =
     or_parts (has_square a u) (has_square b u) (sym (has-set_of (λ s. has_square a s || has_square b s) u small) ∙ h)
 
-pub not_as : (r : Reach) (u : ℕ) (k : Kind) → u < 64 → has_square (all_in_reach r) u ≡ false → has_square (squares_as r k) u ≡ false
+pub not_as : (r : ByKind) (u : ℕ) (k : Kind) → u < 64 → has_square (all_in_reach r) u ≡ false → has_square (squares_as r k) u ≡ false
 unfolding all_in_reach
 not_as r u k small none =
     let five = set_joined (set_joined (set_joined (set_joined r.pawns r.knights) r.bishops) r.rooks) r.queens in

@@ -10,12 +10,12 @@ use Rattle.mob_law.specs.Reach.{is_fixed}
 use Rattle.mob_check.specs.Grounds.{has_own}
 use Rattle.mob_sets.specs.Rows.{Row, SetRows, sets_of}
 use Rattle.mob_check.specs.declared.groups.Group.TheVariants.{KingOf, MenOf, MenAs}
-use Rattle.mob_check.specs.declared.scene.Reach.{Reach}
+use Rattle.mob_check.specs.declared.scene.ByKind.{ByKind}
 use Rattle.mob_check.specs.declared.scene.Scene.{Scene}
 use Rattle.mob_check.specs.Reaches.{reach_of}
 
 -- the squares on which men are in reach as a kind
-abbrev pub squares_as : Reach → Kind → List Bool
+abbrev pub squares_as : ByKind → Kind → List Bool
 squares_as r Pawn = r.pawns
 squares_as r Knight = r.knights
 squares_as r Bishop = r.bishops
@@ -24,15 +24,15 @@ squares_as r Queen = r.queens
 squares_as r King = r.kings
 
 -- the squares on which men are in reach, whatever they may be there
-unfoldable pub all_in_reach : Reach → List Bool
+unfoldable pub all_in_reach : ByKind → List Bool
 all_in_reach r = set_joined (set_joined (set_joined (set_joined (set_joined r.pawns r.knights) r.bishops) r.rooks) r.queens) r.kings
 
 -- no man is in reach anywhere
-abbrev pub reach_nowhere : Reach
+abbrev pub reach_nowhere : ByKind
 reach_nowhere = record { pawns = empty_set; knights = empty_set; bishops = empty_set; rooks = empty_set; queens = empty_set; kings = empty_set }
 
 -- on more squares a man is in reach as a kind
-abbrev pub reach_with : Reach → Kind → List Bool → Reach
+abbrev pub reach_with : ByKind → Kind → List Bool → ByKind
 reach_with r Pawn more = record { pawns = set_joined r.pawns more; knights = r.knights; bishops = r.bishops; rooks = r.rooks; queens = r.queens; kings = r.kings }
 reach_with r Knight more = record { pawns = r.pawns; knights = set_joined r.knights more; bishops = r.bishops; rooks = r.rooks; queens = r.queens; kings = r.kings }
 reach_with r Bishop more = record { pawns = r.pawns; knights = r.knights; bishops = set_joined r.bishops more; rooks = r.rooks; queens = r.queens; kings = r.kings }
@@ -40,7 +40,7 @@ reach_with r Rook more = record { pawns = r.pawns; knights = r.knights; bishops 
 reach_with r Queen more = record { pawns = r.pawns; knights = r.knights; bishops = r.bishops; rooks = r.rooks; queens = set_joined r.queens more; kings = r.kings }
 reach_with r King more = record { pawns = r.pawns; knights = r.knights; bishops = r.bishops; rooks = r.rooks; queens = r.queens; kings = set_joined r.kings more }
 
-unfoldable pub reach_by_kind : Board → List Row → Color → Reach
+unfoldable pub reach_by_kind : Board → List Row → Color → ByKind
 reach_by_kind p rows c = record {
   pawns = reach_of p rows (MenAs c Pawn);
   knights = reach_of p rows (MenAs c Knight);

@@ -11,9 +11,9 @@ use crate::groups::{Group, is_own, squares_of};
 use cha_board::{Color, Kind, Position, SquareSet};
 use mob_sets::{SetRow, Sets};
 
-/// The squares on which men of a side other than its king are in reach, by what they may be there.
+/// A set of squares for each kind of man: where men of a side other than its king are in reach, by what they may be there.
 #[derive(Debug, Drop)]
-pub struct Reach {
+pub struct ByKind {
     pub pawns: SquareSet,
     pub knights: SquareSet,
     pub bishops: SquareSet,
@@ -32,7 +32,7 @@ pub struct Scene {
     /// Whether the winner has at most one man beside its king.
     pub one_man: bool,
     /// Where the winner's other men are in reach.
-    pub men: Reach,
+    pub men: ByKind,
     /// Where the winner's king is in reach.
     pub winner_king: SquareSet,
     /// Where the loser's king is in reach.
@@ -40,16 +40,16 @@ pub struct Scene {
     /// Where the loser's other men are in reach.
     pub loser_men: SquareSet,
     /// Where they are, by what they may be there.
-    pub losers: Reach,
+    pub losers: ByKind,
 }
 
-impl Reach {
+impl ByKind {
     /// No man is in reach anywhere.
-    fn nowhere() -> Reach
+    fn nowhere() -> ByKind
         ensures { result ≡ reach_nowhere }
     {
         let none = SquareSet::empty();
-        Reach {
+        ByKind {
             pawns: none,
             knights: none,
             bishops: none,
@@ -75,7 +75,7 @@ impl Reach {
 }
 
 /// The squares on which men are in reach as a kind.
-pub fn reach_as(reach: &Reach, kind: Kind) -> SquareSet
+pub fn reach_as(reach: &ByKind, kind: Kind) -> SquareSet
     ensures { result ≡ squares_as reach.now kind }
 {
     match kind {
@@ -90,7 +90,7 @@ pub fn reach_as(reach: &Reach, kind: Kind) -> SquareSet
 
 /// The squares on which some man is in reach, whatever it may be there.
 #[tactic(auto, unfolding(crate::specs::Scenes::all_in_reach))]
-pub fn somewhere(reach: &Reach) -> SquareSet
+pub fn somewhere(reach: &ByKind) -> SquareSet
     ensures { result ≡ all_in_reach reach.now }
 {
     reach
@@ -139,10 +139,10 @@ fn one_man(position: &Position, side: Color) -> bool
 }
 
 /// Where the men of a side other than its king are in reach.
-fn reach_kinds(position: &Position, rows: &[SetRow], side: Color) -> Reach
+fn reach_kinds(position: &Position, rows: &[SetRow], side: Color) -> ByKind
     ensures { result ≡ reach_by_kind position.now rows.now side }
 {
-    let mut reach = Reach::nowhere();
+    let mut reach = ByKind::nowhere();
     for row in rows {
         if is_own(position, side, *row) {
             reach.join(row.kind, row.squares);

@@ -2,7 +2,7 @@ use Rattle.std.proofs.Common.{refl, ◌∙◌}
 use Rattle.cha_moves.specs.Moves.{after}
 use Rattle.cha_moves.proofs.Listed.{is_listed}
 use Rattle.cha_moves.proofs.Validity.{after_is_valid}
-use Rattle.cha_moves.proofs.afterwards.after_any.Goals as goal
+use Rattle.cha_moves.proofs.afterwards.after_promotion.Goals as goal
 
 pub of_parts-requires : goal.of_parts-requires
 unfolding after

@@ -52,7 +52,14 @@ fn made_by_white(position: &Position, depth: u8) -> Option<u64>
     requires { Color.White ≡ position.now.side }
     ensures { Tells result (lines_with depth position.now (legal_moves position.now)) }
 {
-    made_by_side(position, Color::White, depth)
+    let side = Color::White;
+    let shields = shields_of(position);
+    let total = made_kind(position, &shields, side, Kind::Pawn, depth, 0)?;
+    let total = made_kind(position, &shields, side, Kind::Knight, depth, total)?;
+    let total = made_kind(position, &shields, side, Kind::Bishop, depth, total)?;
+    let total = made_kind(position, &shields, side, Kind::Rook, depth, total)?;
+    let total = made_kind(position, &shields, side, Kind::Queen, depth, total)?;
+    made_kind(position, &shields, side, Kind::King, depth, total)
 }
 
 /// The lines that begin with a move of Black, which is to move, and have `depth` more.
@@ -62,16 +69,7 @@ fn made_by_black(position: &Position, depth: u8) -> Option<u64>
     requires { Color.Black ≡ position.now.side }
     ensures { Tells result (lines_with depth position.now (legal_moves position.now)) }
 {
-    made_by_side(position, Color::Black, depth)
-}
-
-/// The lines that begin with a move of the side to move and have `depth` more.
-#[cycle(making)]
-#[inline(always)]
-fn made_by_side(position: &Position, side: Color, depth: u8) -> Option<u64>
-    requires { side ≡ position.now.side }
-    ensures { Tells result (lines_with depth position.now (legal_moves position.now)) }
-{
+    let side = Color::Black;
     let shields = shields_of(position);
     let total = made_kind(position, &shields, side, Kind::Pawn, depth, 0)?;
     let total = made_kind(position, &shields, side, Kind::Knight, depth, total)?;
@@ -97,12 +95,14 @@ fn made_kind(
     ensures { Tells result (before + lines_with depth position.now (filter (is_legal_in position.now) (flat_map moves_from (squares_in (set_of (λ s. is_man side kind (man_at position.now.men s))))))) }
 {
     let mut total = before;
-    for from in position.men(side, kind) {
+    let mut left = position.men(side, kind);
+    while let Some(from) = left.first() {
         let man = Man { color: side, kind };
         let Some(sum) = made_by(position, shields, man, from, depth, total) else {
             return None;
         };
         total = sum;
+        left = left.without(from);
     }
     Some(total)
 }
@@ -129,12 +129,14 @@ fn made_by(
         rights: rights_leaving(position, man, from),
     };
     let mut total = before;
-    for to in legal_ways_by(position, shields, man.color, man.kind, from) {
+    let mut left = legal_ways_by(position, shields, man.color, man.kind, from);
+    while let Some(to) = left.first() {
         let lines = made_way(position, man, &leaving, from, to, depth);
         let Some(sum) = both(Some(total), lines) else {
             return None;
         };
         total = sum;
+        left = left.without(to);
     }
     Some(total)
 }

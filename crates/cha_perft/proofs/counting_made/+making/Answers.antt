@@ -1,8 +1,9 @@
-use Rattle.std.proofs.Common.{◌≡◌, ℕ, Bool, List, ◌+◌, ◌-◌, ◌<◌, ◌^◌, Option, Some, None, refl, sym, ap, subst, ◌∙◌, arith, rules}
+use Rattle.std.proofs.Common.{◌≡◌, ℕ, Bool, List, length, ◌+◌, ◌-◌, ◌<◌, ◌^◌, ◌∷◌, Option, Some, None, refl, sym, ap, subst, ◌∙◌, arith, rules}
 use Rattle.std.specs.List.{filter, flat_map}
+use Rattle.cha_board.specs.declared.men.Color.TheVariants.{White, Black}
 use Rattle.cha_board.specs.declared.men.Kind.TheVariants.{Queen, Rook, Bishop, Knight, King}
 use Rattle.cha_board.specs.SquareSets.{set_of, has_square, squares_in}
-use Rattle.cha_board.proofs.SetLaws.{has-set_of}
+use Rattle.cha_board.proofs.SetLaws.{has-set_of, squares_from_first, no_first_square}
 use Rattle.cha_moves.specs.Moves.{is_legal_in, moves_between, moves_from, legal, after}
 use Rattle.cha_moves.proofs.Contained.{Contains-cons_there}
 use Rattle.cha_moves.proofs.ByKind.{legal_from, men_of, each_man, by_kinds}
@@ -32,47 +33,57 @@ pub made_kind-loop-from-init : goal.made_kind-loop-from-init
 made_kind-loop-from-init t c =
     let q = c.args.position.now in
     record {
-      so_far = ap (λ xs. c.args.before + lines_with c.args.depth q (legal_from q (squares_in xs))) (c.into_iter-from-iterator.ensures.into_iter_gives ∙ c.men-from-items.ensures);
-      men = λ t inside. each_man q c.args.side c.args.kind t c.into_iter-from-iterator.result (c.into_iter-from-iterator.ensures.into_iter_gives ∙ c.men-from-items.ensures) inside;
+      so_far = ap (λ xs. c.args.before + lines_with c.args.depth q (legal_from q (squares_in xs))) c.men-left.ensures;
+      men = λ t inside. each_man q c.args.side c.args.kind t c.men-left.result c.men-left.ensures inside;
     }
+
+pub made_kind-loop-from-smaller : goal.made_kind-loop-from-smaller
+made_kind-loop-from-smaller t c =
+    let next = squares_from_first c.loop-from.left c.in-Some.from (sym c.first.ensures ∙ c.in-Some.is) in
+    rw c.without-left.ensures (let n = ap length next in omega (arith, n))
 
 pub made_kind-loop-from-preserved : goal.made_kind-loop-from-preserved
 made_kind-loop-from-preserved t c =
     let q = c.args.position.now in
     let e = c.args.depth in
     let from = c.in-Some.from in
-    let next = c.in-Some.ensures.steps.0 in
+    let next = squares_from_first c.loop-from.left from (sym c.first.ensures ∙ c.in-Some.is) ∙ ap (λ xs. from ∷ squares_in xs) (sym c.without-left.ensures) in
     let here = lines_with e q (filter (is_legal_in q) (moves_from from)) in
     let told = subst (λ (x : Option ℕ). Tells x (c.loop-from.total + here)) c.in-Some-made_by.is c.made_by.ensures in
     record {
       so_far = man_counted e q from c.loop-from.total c.in-Some-made_by.sum (c.args.before + lines_with e q (legal_from q (squares_in (men_of q c.args.side c.args.kind)))) _ _ c.loop-from.invariant.so_far next told;
-      men = λ t inside. c.loop-from.invariant.men t (rw next (Contains-cons_there from (squares_in c.next.new.self) t inside));
+      men = λ t inside. c.loop-from.invariant.men t (rw next (Contains-cons_there from (squares_in c.without-left.result) t inside));
     }
 
-pub made_kind-returns-in_default : goal.made_kind-returns-in_default
-made_kind-returns-in_default t c =
+pub made_kind-returns-in_default-made_by : goal.made_kind-returns-in_default-made_by
+made_kind-returns-in_default-made_by t c =
     let q = c.args.position.now in
     let e = c.args.depth in
     let from = c.in-Some.from in
-    let next = c.in-Some.ensures.steps.0 in
+    let next = squares_from_first c.loop-from.left from (sym c.first.ensures ∙ c.in-Some.is) in
     let here = lines_with e q (filter (is_legal_in q) (moves_from from)) in
-    let told = subst (λ (x : Option ℕ). Tells x (c.loop-from.total + here)) c.in_default.is c.made_by.ensures in
+    let told = subst (λ (x : Option ℕ). Tells x (c.loop-from.total + here)) c.in_default-made_by.is c.made_by.ensures in
     man_beyond e q from c.loop-from.total (2 ^ 64) (c.args.before + lines_with e q (legal_from q (squares_in (men_of q c.args.side c.args.kind)))) _ _ c.loop-from.invariant.so_far next told
 
 pub made_kind-returns : goal.made_kind-returns
 made_kind-returns t c =
     let q = c.args.position.now in
-    all_counted c.args.depth q c.loop-from.total (c.args.before + lines_with c.args.depth q (legal_from q (squares_in (men_of q c.args.side c.args.kind)))) moves_from _ c.loop-from.invariant.so_far c.in-None.ensures.steps.0
+    all_counted c.args.depth q c.loop-from.total (c.args.before + lines_with c.args.depth q (legal_from q (squares_in (men_of q c.args.side c.args.kind)))) moves_from _ c.loop-from.invariant.so_far (no_first_square c.loop-from.left (sym c.first.ensures ∙ c.in_default.is))
 
 pub made_by-loop-to-init : goal.made_by-loop-to-init
 made_by-loop-to-init t c =
     let q = c.args.position.now in
-    let all : lines_with c.args.depth q (filter (is_legal_in q) (flat_map (moves_between c.args.from) (squares_in c.into_iter-to-iterator.result))) ≡ lines_with c.args.depth q (filter (is_legal_in q) (moves_from c.args.from)) =
-    ap (λ xs. lines_with c.args.depth q (filter (is_legal_in q) (flat_map (moves_between c.args.from) (squares_in xs)))) (c.into_iter-to-iterator.ensures.into_iter_gives ∙ c.legal_ways_by-to-items.ensures) ∙ ap (lines_with c.args.depth q) (legal_by_goings q c.args.from) in
+    let all : lines_with c.args.depth q (filter (is_legal_in q) (flat_map (moves_between c.args.from) (squares_in c.legal_ways_by-left.result))) ≡ lines_with c.args.depth q (filter (is_legal_in q) (moves_from c.args.from)) =
+    ap (λ xs. lines_with c.args.depth q (filter (is_legal_in q) (flat_map (moves_between c.args.from) (squares_in xs)))) c.legal_ways_by-left.ensures ∙ ap (lines_with c.args.depth q) (legal_by_goings q c.args.from) in
     record {
       so_far = ap (λ n. c.args.before + n) all;
-      ways = λ t inside. each_goes q c.args.from t c.into_iter-to-iterator.result (c.into_iter-to-iterator.ensures.into_iter_gives ∙ c.legal_ways_by-to-items.ensures) inside;
+      ways = λ t inside. each_goes q c.args.from t c.legal_ways_by-left.result c.legal_ways_by-left.ensures inside;
     }
+
+pub made_by-loop-to-smaller : goal.made_by-loop-to-smaller
+made_by-loop-to-smaller t c =
+    let next = squares_from_first c.loop-to.left c.in-Some.to (sym c.first.ensures ∙ c.in-Some.is) in
+    rw c.without-left.ensures (let n = ap length next in omega (arith, n))
 
 pub made_by-loop-to-preserved : goal.made_by-loop-to-preserved
 made_by-loop-to-preserved t c =
@@ -80,27 +91,27 @@ made_by-loop-to-preserved t c =
     let e = c.args.depth in
     let s = c.args.from in
     let to = c.in-Some.to in
-    let next = c.in-Some.ensures.steps.0 in
+    let next = squares_from_first c.loop-to.left to (sym c.first.ensures ∙ c.in-Some.is) ∙ ap (λ xs. to ∷ squares_in xs) (sym c.without-left.ensures) in
     let here = lines_with e q (legal_between q s to) in
     let told = subst (λ (x : Option ℕ). Tells x (c.loop-to.total + here)) c.in-Some-both.is (c.both.ensures c.loop-to.total here refl c.made_way-lines.ensures) in
     record {
       so_far = way_counted e q s to c.loop-to.total c.in-Some-both.sum (c.args.before + lines_with e q (filter (is_legal_in q) (moves_from s))) _ _ c.loop-to.invariant.so_far next told;
-      ways = λ t inside. c.loop-to.invariant.ways t (rw next (Contains-cons_there to (squares_in c.next.new.self) t inside));
+      ways = λ t inside. c.loop-to.invariant.ways t (rw next (Contains-cons_there to (squares_in c.without-left.result) t inside));
     }
 
-pub made_by-returns-in_default : goal.made_by-returns-in_default
-made_by-returns-in_default t c =
+pub made_by-returns-in_default-both : goal.made_by-returns-in_default-both
+made_by-returns-in_default-both t c =
     let q = c.args.position.now in
     let e = c.args.depth in
     let s = c.args.from in
     let to = c.in-Some.to in
-    let next = c.in-Some.ensures.steps.0 in
+    let next = squares_from_first c.loop-to.left to (sym c.first.ensures ∙ c.in-Some.is) in
     let here = lines_with e q (legal_between q s to) in
-    let told = subst (λ (x : Option ℕ). Tells x (c.loop-to.total + here)) c.in_default.is (c.both.ensures c.loop-to.total here refl c.made_way-lines.ensures) in
+    let told = subst (λ (x : Option ℕ). Tells x (c.loop-to.total + here)) c.in_default-both.is (c.both.ensures c.loop-to.total here refl c.made_way-lines.ensures) in
     way_beyond e q s to c.loop-to.total (2 ^ 64) (c.args.before + lines_with e q (filter (is_legal_in q) (moves_from s))) _ _ c.loop-to.invariant.so_far next told
 
 pub made_by-returns : goal.made_by-returns
-made_by-returns t c = all_counted c.args.depth c.args.position.now c.loop-to.total (c.args.before + lines_with c.args.depth c.args.position.now (filter (is_legal_in c.args.position.now) (moves_from c.args.from))) (moves_between c.args.from) _ c.loop-to.invariant.so_far c.in-None.ensures.steps.0
+made_by-returns t c = all_counted c.args.depth c.args.position.now c.loop-to.total (c.args.before + lines_with c.args.depth c.args.position.now (filter (is_legal_in c.args.position.now) (moves_from c.args.from))) (moves_between c.args.from) _ c.loop-to.invariant.so_far (no_first_square c.loop-to.left (sym c.first.ensures ∙ c.in_default.is))
 
 pub count_made-returns-then-depth-eq0 : goal.count_made-returns-then-depth-eq0
 count_made-returns-then-depth-eq0 t c = one_line c.args.depth c.args.position.now c.if-depth-eq0.true
@@ -237,44 +248,44 @@ made_way-returns-else-has-2 t c =
     let last = promoted_at q man c.promoting-last.result to to_small (c.promoting-last.ensures ∙ ap (λ x. set_of (is_promoted x man.kind)) c.requires.side) in
     subst (λ (n : ℕ). Tells c.made_move.result n) (one_move c.args.depth q (move_of s to None) ∙ ap (lines_with c.args.depth q) (sym (plain_way q s to man g (sym last ∙ sym c.has-2.ensures ∙ c.if-has-2.false)))) c.made_move.ensures
 
-pub made_by_side-returns-in_err-total : goal.made_by_side-returns-in_err-total
-made_by_side-returns-in_err-total t c =
+pub made_by_white-returns-in_err-total : goal.made_by_white-returns-in_err-total
+made_by_white-returns-in_err-total t c =
     let q = c.args.position.now in
-    let all = by_kinds q (λ ms. lines_with c.args.depth q ms) c.args.side c.requires (lines_add c.args.depth q) in
+    let all = by_kinds q (λ ms. lines_with c.args.depth q ms) White c.requires (lines_add c.args.depth q) in
     let most = c.in_err-total.ensures in
     subst (λ (x : Option ℕ). Tells x (lines_with c.args.depth q (legal q))) (sym c.from_residual.ensures) (omega (arith, all, most))
 
-pub made_by_side-returns-in_err-total-2 : goal.made_by_side-returns-in_err-total-2
-made_by_side-returns-in_err-total-2 t c =
+pub made_by_white-returns-in_err-total-2 : goal.made_by_white-returns-in_err-total-2
+made_by_white-returns-in_err-total-2 t c =
     let q = c.args.position.now in
-    let all = by_kinds q (λ ms. lines_with c.args.depth q ms) c.args.side c.requires (lines_add c.args.depth q) in
+    let all = by_kinds q (λ ms. lines_with c.args.depth q ms) White c.requires (lines_add c.args.depth q) in
     let t1 = c.in_ok-total.ensures in
     let most = c.in_err-total-2.ensures in
     subst (λ (x : Option ℕ). Tells x (lines_with c.args.depth q (legal q))) (sym c.from_residual-in_err-total-2.ensures) (omega (arith, all, t1, most))
 
-pub made_by_side-returns-in_err-total-3 : goal.made_by_side-returns-in_err-total-3
-made_by_side-returns-in_err-total-3 t c =
+pub made_by_white-returns-in_err-total-3 : goal.made_by_white-returns-in_err-total-3
+made_by_white-returns-in_err-total-3 t c =
     let q = c.args.position.now in
-    let all = by_kinds q (λ ms. lines_with c.args.depth q ms) c.args.side c.requires (lines_add c.args.depth q) in
+    let all = by_kinds q (λ ms. lines_with c.args.depth q ms) White c.requires (lines_add c.args.depth q) in
     let t1 = c.in_ok-total.ensures in
     let t2 = c.in_ok-total-2.ensures in
     let most = c.in_err-total-3.ensures in
     subst (λ (x : Option ℕ). Tells x (lines_with c.args.depth q (legal q))) (sym c.from_residual-in_err-total-3.ensures) (omega (arith, all, t1, t2, most))
 
-pub made_by_side-returns-in_err-total-4 : goal.made_by_side-returns-in_err-total-4
-made_by_side-returns-in_err-total-4 t c =
+pub made_by_white-returns-in_err-total-4 : goal.made_by_white-returns-in_err-total-4
+made_by_white-returns-in_err-total-4 t c =
     let q = c.args.position.now in
-    let all = by_kinds q (λ ms. lines_with c.args.depth q ms) c.args.side c.requires (lines_add c.args.depth q) in
+    let all = by_kinds q (λ ms. lines_with c.args.depth q ms) White c.requires (lines_add c.args.depth q) in
     let t1 = c.in_ok-total.ensures in
     let t2 = c.in_ok-total-2.ensures in
     let t3 = c.in_ok-total-3.ensures in
     let most = c.in_err-total-4.ensures in
     subst (λ (x : Option ℕ). Tells x (lines_with c.args.depth q (legal q))) (sym c.from_residual-in_err-total-4.ensures) (omega (arith, all, t1, t2, t3, most))
 
-pub made_by_side-returns-in_err-total-5 : goal.made_by_side-returns-in_err-total-5
-made_by_side-returns-in_err-total-5 t c =
+pub made_by_white-returns-in_err-total-5 : goal.made_by_white-returns-in_err-total-5
+made_by_white-returns-in_err-total-5 t c =
     let q = c.args.position.now in
-    let all = by_kinds q (λ ms. lines_with c.args.depth q ms) c.args.side c.requires (lines_add c.args.depth q) in
+    let all = by_kinds q (λ ms. lines_with c.args.depth q ms) White c.requires (lines_add c.args.depth q) in
     let t1 = c.in_ok-total.ensures in
     let t2 = c.in_ok-total-2.ensures in
     let t3 = c.in_ok-total-3.ensures in
@@ -282,14 +293,71 @@ made_by_side-returns-in_err-total-5 t c =
     let most = c.in_err-total-5.ensures in
     subst (λ (x : Option ℕ). Tells x (lines_with c.args.depth q (legal q))) (sym c.from_residual-in_err-total-5.ensures) (omega (arith, all, t1, t2, t3, t4, most))
 
-pub made_by_side-returns : goal.made_by_side-returns
-made_by_side-returns t c =
+pub made_by_white-returns : goal.made_by_white-returns
+made_by_white-returns t c =
     let q = c.args.position.now in
-    let all = by_kinds q (λ ms. lines_with c.args.depth q ms) c.args.side c.requires (lines_add c.args.depth q) in
+    let all = by_kinds q (λ ms. lines_with c.args.depth q ms) White c.requires (lines_add c.args.depth q) in
     let t1 = c.in_ok-total.ensures in
     let t2 = c.in_ok-total-2.ensures in
     let t3 = c.in_ok-total-3.ensures in
     let t4 = c.in_ok-total-4.ensures in
     let t5 = c.in_ok-total-5.ensures in
-    let sum : c.in_ok-total-5.total + lines_with c.args.depth q (legal_from q (squares_in (men_of q c.args.side King))) ≡ lines_with c.args.depth q (legal q) = omega (arith, all, t1, t2, t3, t4, t5) in
+    let sum : c.in_ok-total-5.total + lines_with c.args.depth q (legal_from q (squares_in (men_of q White King))) ≡ lines_with c.args.depth q (legal q) = omega (arith, all, t1, t2, t3, t4, t5) in
+    subst (λ (n : ℕ). Tells c.made_kind-6.result n) sum c.made_kind-6.ensures
+
+pub made_by_black-returns-in_err-total : goal.made_by_black-returns-in_err-total
+made_by_black-returns-in_err-total t c =
+    let q = c.args.position.now in
+    let all = by_kinds q (λ ms. lines_with c.args.depth q ms) Black c.requires (lines_add c.args.depth q) in
+    let most = c.in_err-total.ensures in
+    subst (λ (x : Option ℕ). Tells x (lines_with c.args.depth q (legal q))) (sym c.from_residual.ensures) (omega (arith, all, most))
+
+pub made_by_black-returns-in_err-total-2 : goal.made_by_black-returns-in_err-total-2
+made_by_black-returns-in_err-total-2 t c =
+    let q = c.args.position.now in
+    let all = by_kinds q (λ ms. lines_with c.args.depth q ms) Black c.requires (lines_add c.args.depth q) in
+    let t1 = c.in_ok-total.ensures in
+    let most = c.in_err-total-2.ensures in
+    subst (λ (x : Option ℕ). Tells x (lines_with c.args.depth q (legal q))) (sym c.from_residual-in_err-total-2.ensures) (omega (arith, all, t1, most))
+
+pub made_by_black-returns-in_err-total-3 : goal.made_by_black-returns-in_err-total-3
+made_by_black-returns-in_err-total-3 t c =
+    let q = c.args.position.now in
+    let all = by_kinds q (λ ms. lines_with c.args.depth q ms) Black c.requires (lines_add c.args.depth q) in
+    let t1 = c.in_ok-total.ensures in
+    let t2 = c.in_ok-total-2.ensures in
+    let most = c.in_err-total-3.ensures in
+    subst (λ (x : Option ℕ). Tells x (lines_with c.args.depth q (legal q))) (sym c.from_residual-in_err-total-3.ensures) (omega (arith, all, t1, t2, most))
+
+pub made_by_black-returns-in_err-total-4 : goal.made_by_black-returns-in_err-total-4
+made_by_black-returns-in_err-total-4 t c =
+    let q = c.args.position.now in
+    let all = by_kinds q (λ ms. lines_with c.args.depth q ms) Black c.requires (lines_add c.args.depth q) in
+    let t1 = c.in_ok-total.ensures in
+    let t2 = c.in_ok-total-2.ensures in
+    let t3 = c.in_ok-total-3.ensures in
+    let most = c.in_err-total-4.ensures in
+    subst (λ (x : Option ℕ). Tells x (lines_with c.args.depth q (legal q))) (sym c.from_residual-in_err-total-4.ensures) (omega (arith, all, t1, t2, t3, most))
+
+pub made_by_black-returns-in_err-total-5 : goal.made_by_black-returns-in_err-total-5
+made_by_black-returns-in_err-total-5 t c =
+    let q = c.args.position.now in
+    let all = by_kinds q (λ ms. lines_with c.args.depth q ms) Black c.requires (lines_add c.args.depth q) in
+    let t1 = c.in_ok-total.ensures in
+    let t2 = c.in_ok-total-2.ensures in
+    let t3 = c.in_ok-total-3.ensures in
+    let t4 = c.in_ok-total-4.ensures in
+    let most = c.in_err-total-5.ensures in
+    subst (λ (x : Option ℕ). Tells x (lines_with c.args.depth q (legal q))) (sym c.from_residual-in_err-total-5.ensures) (omega (arith, all, t1, t2, t3, t4, most))
+
+pub made_by_black-returns : goal.made_by_black-returns
+made_by_black-returns t c =
+    let q = c.args.position.now in
+    let all = by_kinds q (λ ms. lines_with c.args.depth q ms) Black c.requires (lines_add c.args.depth q) in
+    let t1 = c.in_ok-total.ensures in
+    let t2 = c.in_ok-total-2.ensures in
+    let t3 = c.in_ok-total-3.ensures in
+    let t4 = c.in_ok-total-4.ensures in
+    let t5 = c.in_ok-total-5.ensures in
+    let sum : c.in_ok-total-5.total + lines_with c.args.depth q (legal_from q (squares_in (men_of q Black King))) ≡ lines_with c.args.depth q (legal q) = omega (arith, all, t1, t2, t3, t4, t5) in
     subst (λ (n : ℕ). Tells c.made_kind-6.result n) sum c.made_kind-6.ensures

@@ -8,7 +8,7 @@ use Rattle.cha_list.specs.declared.memory.NoMemory.{NoMemory}
 use Rattle.cha_board.specs.declared.men.Color.{Color}
 use Rattle.cha_cert.specs.declared.nodes.Node.{Node}
 use Rattle.cha_cert.specs.Certificates.{NodeHolds, FirstFailing}
-use Rattle.cert_par.specs.Failing.{TellsFailing, Found, HoldBefore}
+use Rattle.cert_par.specs.Failing.{TellsFailing, TellsFirst, HoldBefore}
 
 zip_at : {A B : Type 0} (R : A → B → Type 0) (xs : List A) (ys : List B) → AllZip R xs ys → (k : ℕ) (d : A) (e : B) → k < length xs → R (get_or xs k d) (get_or ys k e)
 zip_at R [] [] all k d e inside = absurd (omega (arith, inside))
@@ -18,17 +18,17 @@ zip_at R (x ∷ xs) (y ∷ ys) all zero d e inside = all.0
 zip_at R (x ∷ xs) (y ∷ ys) all (suc k) d e inside = zip_at R xs ys all.1 k d e (omega (arith, inside))
 
 -- What was found of each of n nodes from one on:
-module _ (w : Color) (nodes : List Node) (from n : ℕ) (found : List (Result Bool NoMemory)) (all : AllZip (Found w nodes) (range_with_len from n) found) where
+module _ (w : Color) (nodes : List Node) (from n : ℕ) (found : List (Result Bool NoMemory)) (all : AllZip (TellsFirst w nodes) (range_with_len from n) found) where
   pub found_long : length found ≡ n
-  found_long = AllZip-long (Found w nodes) (range_with_len from n) found all ∙ length-range_with_len from n
+  found_long = AllZip-long (TellsFirst w nodes) (range_with_len from n) found all ∙ length-range_with_len from n
 
-  found_at : (k : ℕ) (e : Result Bool NoMemory) → k < n → Found w nodes (from + k) (get_or found k e)
+  found_at : (k : ℕ) (e : Result Bool NoMemory) → k < n → TellsFirst w nodes (from + k) (get_or found k e)
   found_at k e inside =
-      let here = zip_at (Found w nodes) (range_with_len from n) found all k 0 e (omega (arith, inside, length-range_with_len from n)) in
-      subst (λ i. Found w nodes i (get_or found k e)) (get_or-range_with_len from n k 0 inside) here
+      let here = zip_at (TellsFirst w nodes) (range_with_len from n) found all k 0 e (omega (arith, inside, length-range_with_len from n)) in
+      subst (λ i. TellsFirst w nodes i (get_or found k e)) (get_or-range_with_len from n k 0 inside) here
 
   told_at : (k : ℕ) (e : Result Bool NoMemory) (b c : Bool) → k < n → get_or found k e ≡ Ok b → b ≡ c → TellsFailing w nodes (from + k) c
-  told_at k e b c inside is same = subst (TellsFailing w nodes (from + k)) same (subst (Found w nodes (from + k)) is (found_at k e inside))
+  told_at k e b c inside is same = subst (TellsFailing w nodes (from + k)) same (subst (TellsFirst w nodes (from + k)) is (found_at k e inside))
 
   -- one more node holds
   pub more_hold : (k : ℕ) (e : Result Bool NoMemory) (b : Bool) → k < n → get_or found k e ≡ Ok b → b ≡ false → HoldBefore w nodes (from + k) → HoldBefore w nodes (from + (k + 1))

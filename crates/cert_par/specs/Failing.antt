@@ -11,8 +11,8 @@ abbrev pub TellsFailing : Color → List Node → ℕ → Bool → Type 0
 TellsFailing w nodes at fails = HoldsAt (λ (node : Node). IsTrue (not fails) ↔ NodeHolds w nodes node) nodes at
 
 -- what was found of the node of a number, unless memory was refused
-abbrev pub Found : Color → List Node → ℕ → Result Bool NoMemory → Type 0
-Found w nodes at found = IfOk found (λ fails. TellsFailing w nodes at fails)
+abbrev pub TellsFirst : Color → List Node → ℕ → Result Bool NoMemory → Type 0
+TellsFirst w nodes at found = IfOk found (λ fails. TellsFailing w nodes at fails)
 
 -- each node before the one of a number holds
 abbrev pub HoldBefore : Color → List Node → ℕ → Type 0

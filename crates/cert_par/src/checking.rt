@@ -7,7 +7,7 @@ ghost use Rattle.cha_cert.specs.declared.checking.Checked.TheVariants.{Accepted}
 ghost use Rattle.cha_cert.specs.Certificates.{IsValidCert, Answers, NodeHolds, FirstFailing};
 ghost use Rattle.cha_cert.specs.Indexed.{IsIndexOf};
 ghost use Rattle.cha_cert.specs.Shared.{expansion};
-ghost use Rattle.cert_par.specs.Failing.{Found, HoldBefore, FirstBefore};
+ghost use Rattle.cert_par.specs.Failing.{TellsFirst, HoldBefore, FirstBefore};
 
 use crate::nodes::node_fails;
 use cha_board::{Color, Position, same_position};
@@ -121,14 +121,14 @@ fn found_of_run<R: Threads + Sync>(
     requires inside { to ≤ length cert.now.nodes }
     requires few { length cert.now.nodes < 2 ^ 32 }
     requires index { IsIndexOf (expansion cert.now) index.now }
-    ensures { IfOk result (λ found. AllZip (Found winner (expansion cert.now)) (range_with_len from (to - from)) found.items) }
+    ensures { IfOk result (λ found. AllZip (TellsFirst winner (expansion cert.now)) (range_with_len from (to - from)) found.items) }
 {
     let found = (from..to)
         .into_par_iter()
         .map(
             |at: usize| -> Result<bool, NoMemory>
                 requires { (at < length cert.now.nodes) × (length cert.now.nodes < 2 ^ 32) × IsIndexOf (expansion cert.now) index.now }
-                ensures { Found winner (expansion cert.entry.now) at result }
+                ensures { TellsFirst winner (expansion cert.entry.now) at result }
             { node_fails(alloc, cert, index, winner, at as u32) },
         )
         .collect::<Vec<_>>(rt, alloc)?;
@@ -146,7 +146,7 @@ fn first_of_run(
     requires some { from ≤ to }
     requires inside { to ≤ length cert.now.nodes }
     requires few { length cert.now.nodes < 2 ^ 32 }
-    requires found { AllZip (Found winner (expansion cert.now)) (range_with_len from (to - from)) found.now }
+    requires found { AllZip (TellsFirst winner (expansion cert.now)) (range_with_len from (to - from)) found.now }
     requires before { HoldBefore winner (expansion cert.now) from }
     ensures { IfOk result (λ failing. FirstBefore winner (expansion cert.now) to failing) }
 {

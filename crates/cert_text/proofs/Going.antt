@@ -15,10 +15,10 @@ use Rattle.cert_text.specs.Agreeing.{RowGoesOn}
 use Rattle.cert_text.specs.declared.faults.CertKind.TheVariants.{End}
 use Rattle.cert_text.specs.Spelled.{IsInnerOrLeaf, AreInnerOrLeaves}
 use Rattle.cert_text.specs.TextLines.{lines_of, tail_of}
-use Rattle.cert_text.specs.Texts.{Found, found, misfit, and_then, ended, follows, rows_after, node_after, nodes_after}
+use Rattle.cert_text.specs.Texts.{Parsed, found, misfit, and_then, ended, follows, rows_after, node_after, nodes_after}
 
 -- one more row
-pub row_goes : (bytes now then : List ℕ) (whole : Result (Found (List Row)) CertFault) (rows : List Row) (left : Left) (next : Row × Left) (o : Option (Row × Left)) → now ≡ then → now ≡ tail_of (drop left.at bytes)
+pub row_goes : (bytes now then : List ℕ) (whole : Result (Parsed (List Row)) CertFault) (rows : List Row) (left : Left) (next : Row × Left) (o : Option (Row × Left)) → now ≡ then → now ≡ tail_of (drop left.at bytes)
     → o ≡ Some next → whole ≡ rows_after then rows left.number (lines_of (drop left.at bytes)) → RowGoesOn bytes rows left o
     → whole ≡ rows_after then (rows ++ next.0 ∷ []) next.1.number (lines_of (drop next.1.at bytes))
 row_goes bytes now then whole rows left next o same here e so_far goes =
@@ -26,7 +26,7 @@ row_goes bytes now then whole rows left next o same here e so_far goes =
     so_far ∙ subst (λ tail. rows_after tail rows left.number (lines_of (drop left.at bytes)) ≡ rows_after tail (rows ++ next.0 ∷ []) next.1.number (lines_of (drop next.1.at bytes))) (sym here ∙ same) step
 
 -- one more node
-pub node_goes : (now then : List ℕ) (whole : Result (Found (List Node)) CertFault) (nodes : List Node) (node : Node) (k left n m : ℕ) (lines rest : List (List ℕ)) → now ≡ then → left ≡ suc k
+pub node_goes : (now then : List ℕ) (whole : Result (Parsed (List Node)) CertFault) (nodes : List Node) (node : Node) (k left n m : ℕ) (lines rest : List (List ℕ)) → now ≡ then → left ≡ suc k
     → whole ≡ nodes_after then left nodes n lines → node_after now n lines ≡ found node m rest → whole ≡ nodes_after then k (nodes ++ node ∷ []) m rest
 unfolding nodes_after
 node_goes now then whole nodes node k left n m lines rest same e so_far next =
@@ -34,14 +34,14 @@ node_goes now then whole nodes node k left n m lines rest same e so_far next =
     so_far ∙ rw (e, here) refl
 
 -- the first node, and then the others
-pub node_first : (now then : List ℕ) (whole : Result (Found (List Node)) CertFault) (nodes : List Node) (k left n : ℕ) (lines : List (List ℕ)) → now ≡ then → left ≡ suc k
+pub node_first : (now then : List ℕ) (whole : Result (Parsed (List Node)) CertFault) (nodes : List Node) (k left n : ℕ) (lines : List (List ℕ)) → now ≡ then → left ≡ suc k
     → whole ≡ nodes_after then left nodes n lines → whole ≡ and_then (node_after now n lines) (λ node. nodes_after then k (nodes ++ node.value ∷ []) node.number node.lines)
 unfolding nodes_after
 node_first now then whole nodes k left n lines same e so_far =
     so_far ∙ rw e refl ∙ ap (λ tail. and_then (node_after tail n lines) (λ node. nodes_after then k (nodes ++ node.value ∷ []) node.number node.lines)) (sym same)
 
 -- all nodes are read
-pub nodes_done : (then : List ℕ) (whole : Result (Found (List Node)) CertFault) (nodes : List Node) (left n : ℕ) (lines : List (List ℕ)) → left ≡ 0
+pub nodes_done : (then : List ℕ) (whole : Result (Parsed (List Node)) CertFault) (nodes : List Node) (left n : ℕ) (lines : List (List ℕ)) → left ≡ 0
     → whole ≡ nodes_after then left nodes n lines → whole ≡ found nodes n lines
 unfolding nodes_after
 nodes_done then whole nodes left n lines e so_far = so_far ∙ rw e refl

@@ -1,11 +1,11 @@
 -- How a loop over items of a text goes on.
 use Rattle.std.proofs.Common.{◌≡◌, ℕ, suc, List, [], ◌∷◌, ◌++◌, Result, refl, ◌∙◌}
 use Rattle.cert_text.specs.declared.faults.CertFault.{CertFault}
-use Rattle.cert_text.specs.Texts.{Found, found, and_then}
+use Rattle.cert_text.specs.Texts.{Parsed, found, and_then}
 use Rattle.cert_text.specs.SharedTexts.{many_after}
 
 -- A reader of one item:
-module _ {X : Type 0} (one : ℕ → List (List ℕ) → Result (Found X) CertFault) (whole : Result (Found (List X)) CertFault) (xs : List X) (k left n : ℕ) (lines : List (List ℕ)) where
+module _ {X : Type 0} (one : ℕ → List (List ℕ) → Result (Parsed X) CertFault) (whole : Result (Parsed (List X)) CertFault) (xs : List X) (k left n : ℕ) (lines : List (List ℕ)) where
   -- the first item, and then the others
   pub many_first : left ≡ suc k → whole ≡ many_after one left xs n lines → whole ≡ and_then (one n lines) (λ x. many_after one k (xs ++ x.value ∷ []) x.number x.lines)
   unfolding many_after

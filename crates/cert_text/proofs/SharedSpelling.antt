@@ -20,7 +20,7 @@ use Rattle.cert_text.specs.Labels.{label_of}
 use Rattle.cert_text.specs.Spelled.{end_line, winner_line, count_line, row_line, position_line, lines_text}
 use Rattle.cert_text.specs.SharedSpelled.{sets_line, shared_leaf_line, set_lines, shared_part_lines, shared_node_lines, shared_header_line, shared_lines, shared_text}
 use Rattle.cert_text.specs.TextLines.{lines_of, tail_of}
-use Rattle.cert_text.specs.Texts.{Found, and_then, fixed_of, winner_of, count_of, loose_of, kept, position_if, position_of, on_some, wanted, rows_after, ended}
+use Rattle.cert_text.specs.Texts.{Parsed, and_then, fixed_of, winner_of, count_of, loose_of, kept, position_if, position_of, on_some, wanted, rows_after, ended}
 use Rattle.cert_text.specs.SharedTexts.{small_number, sets_of, number_len, leaf_if, leaf_numbered, shared_leaf_of, node_if, shared_labelled, shared_node_of, sets_after, many_after, shared_cert_of}
 use Rattle.cert_text.proofs.Spelling.{joined, then_ok, wanted_ok, if_some, if_kept, if_left, kept_ok, fixed_ok, winner_ok, count_ok, loose_ok, position_ok, rows_ok}
 
@@ -67,13 +67,13 @@ shared_node_ok : (m : ℕ) (line : List ℕ) (node : SharedNode) → shared_node
 unfolding shared_node_of
 shared_node_ok m line node e = labelled_ok m line node (label_of line) e
 
-one_node_ok : (m n : ℕ) (lines : List (List ℕ)) (f : Found SharedNode) → wanted (shared_node_of m) kinds.Node n lines ≡ Ok f → lines ≡ shared_node_lines f.value ++ f.lines
+one_node_ok : (m n : ℕ) (lines : List (List ℕ)) (f : Parsed SharedNode) → wanted (shared_node_of m) kinds.Node n lines ≡ Ok f → lines ≡ shared_node_lines f.value ++ f.lines
 one_node_ok m n lines f e =
     let taken = wanted_ok (shared_node_of m) kinds.Node n lines f e in
     taken.is ∙ ap (λ ls. ls ++ f.lines) (shared_node_ok m taken.line f.value taken.says)
 
 -- the lines of sets
-one_sets_ok : (tail : List ℕ) (n : ℕ) (lines : List (List ℕ)) (f : Found SetRows) → sets_after tail n lines ≡ Ok f → lines ≡ set_lines f.value ++ f.lines
+one_sets_ok : (tail : List ℕ) (n : ℕ) (lines : List (List ℕ)) (f : Parsed SetRows) → sets_after tail n lines ≡ Ok f → lines ≡ set_lines f.value ++ f.lines
 unfolding sets_after
 one_sets_ok tail n lines f e =
     let a = then_ok (wanted loose_of kinds.Loose n lines) _ f e in
@@ -85,18 +85,18 @@ one_sets_ok tail n lines f e =
     let says = loose_ok loose.line a.value.value loose.says in
     let behind : a.value.lines ≡ map row_line b.value.value ++ b.value.lines = rows.is ∙ ap (λ rs. map row_line rs ++ b.value.lines) (sym rows.value) in
     let here : lines ≡ set_lines sets ++ b.value.lines = loose.is ∙ (λ i. says i ∷ behind i) in
-    here ∙ ap (λ (g : Found SetRows). set_lines g.value ++ g.lines) one
+    here ∙ ap (λ (g : Parsed SetRows). set_lines g.value ++ g.lines) one
 
 -- so many items
-record ManyRead {X : Type 0} (spell : X → List (List ℕ)) (k : ℕ) (xs : List X) (lines : List (List ℕ)) (f : Found (List X)) : Type 0 where
+record ManyRead {X : Type 0} (spell : X → List (List ℕ)) (k : ℕ) (xs : List X) (lines : List (List ℕ)) (f : Parsed (List X)) : Type 0 where
   more : List X
   value : f.value ≡ xs ++ more
   count : length more ≡ k
   is : lines ≡ flat_map spell more ++ f.lines
 
-many_ok : {X : Type 0} (one : ℕ → List (List ℕ) → Result (Found X) CertFault) (spell : X → List (List ℕ))
-    → ((n : ℕ) (lines : List (List ℕ)) (f : Found X) → one n lines ≡ Ok f → lines ≡ spell f.value ++ f.lines)
-    → (k : ℕ) (xs : List X) (n : ℕ) (lines : List (List ℕ)) (f : Found (List X)) → many_after one k xs n lines ≡ Ok f → ManyRead spell k xs lines f
+many_ok : {X : Type 0} (one : ℕ → List (List ℕ) → Result (Parsed X) CertFault) (spell : X → List (List ℕ))
+    → ((n : ℕ) (lines : List (List ℕ)) (f : Parsed X) → one n lines ≡ Ok f → lines ≡ spell f.value ++ f.lines)
+    → (k : ℕ) (xs : List X) (n : ℕ) (lines : List (List ℕ)) (f : Parsed (List X)) → many_after one k xs n lines ≡ Ok f → ManyRead spell k xs lines f
 unfolding many_after
 many_ok one spell ok zero xs n lines f e =
     let is : record { value = xs; number = n; lines = lines } ≡ f = cc in

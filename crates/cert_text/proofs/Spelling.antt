@@ -22,7 +22,7 @@ use Rattle.cert_text.specs.declared.labels.Label.TheVariants as labels
 use Rattle.cert_text.specs.Labels.{label_word, label_of}
 use Rattle.cert_text.specs.Spelled.{header_line, end_line, winner_line, count_line, loose_line, row_line, position_line, node_lines, cert_lines, lines_text, cert_text}
 use Rattle.cert_text.specs.TextLines.{lines_of, tail_of}
-use Rattle.cert_text.specs.Texts.{Found, found, misfit, is_text, kept, fixed_of, winner_of, small_count, count_of, loose_of, follows, following, row_of, position_of, and_then, on_some, wanted, begins_reach, rows_after, leaf_after, node_labelled, node_after, nodes_after, ended, cert_of}
+use Rattle.cert_text.specs.Texts.{Parsed, found, misfit, is_text, kept, fixed_of, winner_of, small_count, count_of, loose_of, follows, following, row_of, position_of, and_then, on_some, wanted, begins_reach, rows_after, leaf_after, node_labelled, node_after, nodes_after, ended, cert_of}
 
 -- a text is its lines and what is behind them
 join_step : (b : ℕ) (bs : List ℕ) (v : Bool) (lines : List (List ℕ)) → (b == 10) ≡ v → lines_of bs ≡ lines → lines_text lines ++ tail_of bs ≡ bs → lines_text (lines_of (b ∷ bs)) ++ tail_of (b ∷ bs) ≡ b ∷ bs
@@ -46,19 +46,19 @@ pub then_ok : {A B : Type 0} (r : Result A CertFault) (next : A → Result B Cer
 then_ok (Ok a) next b e = record { value = a; first = refl; last = e }
 then_ok (Err fault) next b e = cc
 
-pub record Taken {A : Type 0} (read : List ℕ → Option A) (lines : List (List ℕ)) (f : Found A) : Type 0 where
+pub record Taken {A : Type 0} (read : List ℕ → Option A) (lines : List (List ℕ)) (f : Parsed A) : Type 0 where
   pub line : List ℕ
   pub is : lines ≡ line ∷ f.lines
   pub says : read line ≡ Some f.value
 
-some_ok : {A : Type 0} (read : List ℕ → Option A) (kind : CertKind) (n : ℕ) (line : List ℕ) (lines : List (List ℕ)) (f : Found A) (o : Option A) → read line ≡ o
+some_ok : {A : Type 0} (read : List ℕ → Option A) (kind : CertKind) (n : ℕ) (line : List ℕ) (lines : List (List ℕ)) (f : Parsed A) (o : Option A) → read line ≡ o
     → on_some o (misfit n kind) (λ a. found a (n + 1) lines) ≡ Ok f → Taken read (line ∷ lines) f
 some_ok read kind n line lines f None r e = cc
 some_ok read kind n line lines f (Some a) r e =
     let found_is : record { value = a; number = n + 1; lines = lines } ≡ f = cc in
     record { line = line; is = ap (λ g. line ∷ g.lines) found_is; says = r ∙ ap (λ g. Some g.value) found_is }
 
-pub wanted_ok : {A : Type 0} (read : List ℕ → Option A) (kind : CertKind) (n : ℕ) (lines : List (List ℕ)) (f : Found A) → wanted read kind n lines ≡ Ok f → Taken read lines f
+pub wanted_ok : {A : Type 0} (read : List ℕ → Option A) (kind : CertKind) (n : ℕ) (lines : List (List ℕ)) (f : Parsed A) → wanted read kind n lines ≡ Ok f → Taken read lines f
 unfolding wanted
 wanted_ok read kind n [] f e = cc
 wanted_ok read kind n (line ∷ lines) f e = some_ok read kind n line lines f (read line) refl e
@@ -130,17 +130,17 @@ unfolding position_of
 position_ok label line q e = (kept_ok (position_line label) line _ q (if_left (nat_lt (length line) (length (label_word label) + 1)) _ q e)).1
 
 -- rows behind rows
-pub record RowsRead (rows : List Row) (lines : List (List ℕ)) (f : Found (List Row)) : Type 0 where
+pub record RowsRead (rows : List Row) (lines : List (List ℕ)) (f : Parsed (List Row)) : Type 0 where
   pub more : List Row
   pub value : f.value ≡ rows ++ more
   pub is : lines ≡ map row_line more ++ f.lines
 
-done_rows : (rows : List Row) (n : ℕ) (lines : List (List ℕ)) (f : Found (List Row)) → found rows n lines ≡ Ok f → RowsRead rows lines f
+done_rows : (rows : List Row) (n : ℕ) (lines : List (List ℕ)) (f : Parsed (List Row)) → found rows n lines ≡ Ok f → RowsRead rows lines f
 done_rows rows n lines f e =
     let one : record { value = rows; number = n; lines = lines } ≡ f = cc in
     record { more = []; value = sym (ap (λ g. g.value) one) ∙ sym (append-nil rows); is = ap (λ g. g.lines) one }
 
-mutual_rows : (tail : List ℕ) (rows : List Row) (n : ℕ) (line : List ℕ) (lines : List (List ℕ)) (f : Found (List Row)) (b : Bool) (o : Option Row) → row_of rows line ≡ o
+mutual_rows : (tail : List ℕ) (rows : List Row) (n : ℕ) (line : List ℕ) (lines : List (List ℕ)) (f : Parsed (List Row)) (b : Bool) (o : Option Row) → row_of rows line ≡ o
     → ((row : Row) → rows_after tail (rows ++ row ∷ []) (n + 1) lines ≡ Ok f → RowsRead (rows ++ row ∷ []) lines f)
     → (if b then on_some o (misfit n kinds.Reach) (λ row. rows_after tail (rows ++ row ∷ []) (n + 1) lines) else found rows n (line ∷ lines)) ≡ Ok f → RowsRead rows (line ∷ lines) f
 mutual_rows tail rows n line lines f true None r ih e = cc
@@ -153,17 +153,17 @@ mutual_rows tail rows n line lines f true (Some row) r ih e =
     }
 mutual_rows tail rows n line lines f false o r ih e = done_rows rows n (line ∷ lines) f e
 
-rows_none : (tail : List ℕ) (rows : List Row) (n : ℕ) (f : Found (List Row)) (b : Bool) → (if b then misfit n kinds.Reach else found rows n []) ≡ Ok f → RowsRead rows [] f
+rows_none : (tail : List ℕ) (rows : List Row) (n : ℕ) (f : Parsed (List Row)) (b : Bool) → (if b then misfit n kinds.Reach else found rows n []) ≡ Ok f → RowsRead rows [] f
 rows_none tail rows n f true e = cc
 rows_none tail rows n f false e = done_rows rows n [] f e
 
-pub rows_ok : (tail : List ℕ) (rows : List Row) (n : ℕ) (lines : List (List ℕ)) (f : Found (List Row)) → rows_after tail rows n lines ≡ Ok f → RowsRead rows lines f
+pub rows_ok : (tail : List ℕ) (rows : List Row) (n : ℕ) (lines : List (List ℕ)) (f : Parsed (List Row)) → rows_after tail rows n lines ≡ Ok f → RowsRead rows lines f
 unfolding rows_after
 rows_ok tail rows n [] f e = rows_none tail rows n f (begins_reach tail) e
 rows_ok tail rows n (line ∷ lines) f e = mutual_rows tail rows n line lines f (begins_reach line) (row_of rows line) refl (λ row. rows_ok tail (rows ++ row ∷ []) (n + 1) lines f) e
 
 -- a node, by its lines
-leaf_read : (tail : List ℕ) (q : Board) (n : ℕ) (lines : List (List ℕ)) (f : Found Node) → leaf_after tail q n lines ≡ Ok f → position_line labels.Leaf q ∷ lines ≡ node_lines f.value ++ f.lines
+leaf_read : (tail : List ℕ) (q : Board) (n : ℕ) (lines : List (List ℕ)) (f : Parsed Node) → leaf_after tail q n lines ≡ Ok f → position_line labels.Leaf q ∷ lines ≡ node_lines f.value ++ f.lines
 unfolding leaf_after
 leaf_read tail q n lines f e =
     let a = then_ok (wanted loose_of kinds.Loose n lines) _ f e in
@@ -175,38 +175,38 @@ leaf_read tail q n lines f e =
     let says = loose_ok loose.line a.value.value loose.says in
     let behind : a.value.lines ≡ map row_line b.value.value ++ b.value.lines = rows.is ∙ ap (λ rs. map row_line rs ++ b.value.lines) (sym rows.value) in
     let here : position_line labels.Leaf q ∷ lines ≡ node_lines node ++ b.value.lines = ap (λ ls. position_line labels.Leaf q ∷ ls) (loose.is ∙ (λ i. says i ∷ behind i)) in
-    here ∙ ap (λ (g : Found Node). node_lines g.value ++ g.lines) one
+    here ∙ ap (λ (g : Parsed Node). node_lines g.value ++ g.lines) one
 
-behind_ok : (tail : List ℕ) (label : Label) (q : Board) (n : ℕ) (lines : List (List ℕ)) (f : Found Node) → node_labelled tail label q n lines ≡ Ok f → position_line label q ∷ lines ≡ node_lines f.value ++ f.lines
+behind_ok : (tail : List ℕ) (label : Label) (q : Board) (n : ℕ) (lines : List (List ℕ)) (f : Parsed Node) → node_labelled tail label q n lines ≡ Ok f → position_line label q ∷ lines ≡ node_lines f.value ++ f.lines
 behind_ok tail labels.Inner q n lines f e =
     let one : record { value = record { position = q; part = Inner }; number = n + 1; lines = lines } ≡ f = cc in
-    ap (λ (g : Found Node). node_lines g.value ++ g.lines) one
+    ap (λ (g : Parsed Node). node_lines g.value ++ g.lines) one
 behind_ok tail labels.Leaf q n lines f e = leaf_read tail q (n + 1) lines f e
 behind_ok tail (labels.Men reason) q n lines f e = cc
 
-position_cases : (tail : List ℕ) (n : ℕ) (line : List ℕ) (lines : List (List ℕ)) (f : Found Node) (label : Label) (o : Option Board) → position_of label line ≡ o
+position_cases : (tail : List ℕ) (n : ℕ) (line : List ℕ) (lines : List (List ℕ)) (f : Parsed Node) (label : Label) (o : Option Board) → position_of label line ≡ o
     → on_some o (misfit n kinds.Node) (λ q. node_labelled tail label q n lines) ≡ Ok f → line ∷ lines ≡ node_lines f.value ++ f.lines
 position_cases tail n line lines f label None s e = cc
 position_cases tail n line lines f label (Some q) s e = ap (λ l. l ∷ lines) (position_ok label line q s) ∙ behind_ok tail label q n lines f e
 
-label_cases : (tail : List ℕ) (n : ℕ) (line : List ℕ) (lines : List (List ℕ)) (f : Found Node) (o : Option Label)
+label_cases : (tail : List ℕ) (n : ℕ) (line : List ℕ) (lines : List (List ℕ)) (f : Parsed Node) (o : Option Label)
     → on_some o (misfit n kinds.Node) (λ label. on_some (position_of label line) (misfit n kinds.Node) (λ q. node_labelled tail label q n lines)) ≡ Ok f
     → line ∷ lines ≡ node_lines f.value ++ f.lines
 label_cases tail n line lines f None e = cc
 label_cases tail n line lines f (Some label) e = position_cases tail n line lines f label (position_of label line) refl e
 
-node_ok : (tail : List ℕ) (n : ℕ) (lines : List (List ℕ)) (f : Found Node) → node_after tail n lines ≡ Ok f → lines ≡ node_lines f.value ++ f.lines
+node_ok : (tail : List ℕ) (n : ℕ) (lines : List (List ℕ)) (f : Parsed Node) → node_after tail n lines ≡ Ok f → lines ≡ node_lines f.value ++ f.lines
 unfolding node_after
 node_ok tail n [] f e = cc
 node_ok tail n (line ∷ lines) f e = label_cases tail n line lines f (label_of line) e
 
-record NodesRead (k : ℕ) (nodes : List Node) (lines : List (List ℕ)) (f : Found (List Node)) : Type 0 where
+record NodesRead (k : ℕ) (nodes : List Node) (lines : List (List ℕ)) (f : Parsed (List Node)) : Type 0 where
   more : List Node
   value : f.value ≡ nodes ++ more
   count : length more ≡ k
   is : lines ≡ flat_map node_lines more ++ f.lines
 
-nodes_ok : (tail : List ℕ) (k : ℕ) (nodes : List Node) (n : ℕ) (lines : List (List ℕ)) (f : Found (List Node)) → nodes_after tail k nodes n lines ≡ Ok f → NodesRead k nodes lines f
+nodes_ok : (tail : List ℕ) (k : ℕ) (nodes : List Node) (n : ℕ) (lines : List (List ℕ)) (f : Parsed (List Node)) → nodes_after tail k nodes n lines ≡ Ok f → NodesRead k nodes lines f
 unfolding nodes_after
 nodes_ok tail zero nodes n lines f e =
     let one : record { value = nodes; number = n; lines = lines } ≡ f = cc in

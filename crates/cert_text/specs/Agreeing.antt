@@ -4,7 +4,7 @@ use Rattle.mob_sets.specs.Rows.{Row}
 use Rattle.cert_text.specs.declared.faults.CertFault.{CertFault}
 use Rattle.cert_text.specs.declared.rest.Left.{Left}
 use Rattle.cert_text.specs.TextLines.{lines_of, tail_of}
-use Rattle.cert_text.specs.Texts.{Found, rows_after}
+use Rattle.cert_text.specs.Texts.{Parsed, rows_after}
 use Rattle.cert_text.specs.declared.faults.CertKind.TheVariants as kinds
 
 -- an answer is what is said, unless memory is wanting
@@ -13,7 +13,7 @@ Agrees view (Ok x) said = said ≡ Ok (view x)
 Agrees view (Err fault) said = fault.kind ≢ kinds.NoMemory → said ≡ Err fault
 
 -- what was read, and what is left behind it
-abbrev pub seen : {A : Type 0} → List ℕ → A → Left → Found A
+abbrev pub seen : {A : Type 0} → List ℕ → A → Left → Parsed A
 seen bytes value left = record { value = value; number = left.number; lines = lines_of (drop left.at bytes) }
 
 -- where a further row is read: it goes behind those so far; where none is, these are all

@@ -19,7 +19,7 @@ use Rattle.cert_text.specs.Labels.{label_of}
 use Rattle.cert_text.specs.Spelled.{end_line}
 use Rattle.cert_text.specs.SharedSpelled.{sets_line, shared_leaf_line, shared_header_line}
 use Rattle.cert_text.specs.TextLines.{lines_of, tail_of}
-use Rattle.cert_text.specs.Texts.{Found, found, and_then, on_some, kept, fixed_of, winner_of, count_of, loose_of, position_if, position_of, wanted, rows_after, ended}
+use Rattle.cert_text.specs.Texts.{Parsed, found, and_then, on_some, kept, fixed_of, winner_of, count_of, loose_of, position_if, position_of, wanted, rows_after, ended}
 
 -- a number of sets: from 0 to 4294967295
 abbrev pub small_number : ℕ → Option ℕ
@@ -63,13 +63,13 @@ unfoldable pub shared_node_of : ℕ → List ℕ → Option SharedNode
 shared_node_of m line = on_some (label_of line) None (shared_labelled m line)
 
 -- the lines of sets
-unfoldable pub sets_after : List ℕ → ℕ → List (List ℕ) → Result (Found SetRows) CertFault
+unfoldable pub sets_after : List ℕ → ℕ → List (List ℕ) → Result (Parsed SetRows) CertFault
 sets_after tail n lines =
     and_then (wanted loose_of kinds.Loose n lines) (λ loose.
     and_then (rows_after tail [] loose.number loose.lines) (λ rows. found (record { rows = rows.value; loose = loose.value }) rows.number rows.lines))
 
 -- so many items, behind some, each by a reader of one
-unfoldable pub many_after : {X : Type 0} → (ℕ → List (List ℕ) → Result (Found X) CertFault) → ℕ → List X → ℕ → List (List ℕ) → Result (Found (List X)) CertFault
+unfoldable pub many_after : {X : Type 0} → (ℕ → List (List ℕ) → Result (Parsed X) CertFault) → ℕ → List X → ℕ → List (List ℕ) → Result (Parsed (List X)) CertFault
 many_after one zero xs n lines = found xs n lines
 many_after one (suc k) xs n lines = and_then (one n lines) (λ x. many_after one k (xs ++ x.value ∷ []) x.number x.lines)
 

@@ -82,12 +82,12 @@ position_of label line =
     else kept (position_line label) line (position_if (fen (drop (length (label_word label) + 1) line)))
 
 -- What a reader found, the number of the line behind it, and the lines from there on.
-pub record Found (A : Type 0) : Type 0 where
+pub record Parsed (A : Type 0) : Type 0 where
   pub value : A
   pub number : ℕ
   pub lines : List (List ℕ)
 
-abbrev pub found : {A : Type 0} → A → ℕ → List (List ℕ) → Result (Found A) CertFault
+abbrev pub found : {A : Type 0} → A → ℕ → List (List ℕ) → Result (Parsed A) CertFault
 found value number lines = Ok (record { value = value; number = number; lines = lines })
 
 -- a line does not fit, where a kind of line was wanted
@@ -103,7 +103,7 @@ on_some None missing next = missing
 on_some (Some a) missing next = next a
 
 -- the next line, where one kind of line is wanted
-unfoldable pub wanted : {A : Type 0} → (List ℕ → Option A) → CertKind → ℕ → List (List ℕ) → Result (Found A) CertFault
+unfoldable pub wanted : {A : Type 0} → (List ℕ → Option A) → CertKind → ℕ → List (List ℕ) → Result (Parsed A) CertFault
 wanted read kind n [] = misfit n kind
 wanted read kind n (line ∷ lines) = on_some (read line) (misfit n kind) (λ a. found a (n + 1) lines)
 
@@ -111,34 +111,34 @@ abbrev pub begins_reach : List ℕ → Bool
 begins_reach line = starts_with nat_eq line (codes "reach ")
 
 -- the rows of a leaf: those so far, and those of the lines that begin as rows
-unfoldable pub rows_after : List ℕ → List Row → ℕ → List (List ℕ) → Result (Found (List Row)) CertFault
+unfoldable pub rows_after : List ℕ → List Row → ℕ → List (List ℕ) → Result (Parsed (List Row)) CertFault
 rows_after tail rows n [] = if begins_reach tail then misfit n kinds.Reach else found rows n []
 rows_after tail rows n (line ∷ lines) =
     if begins_reach line then on_some (row_of rows line) (misfit n kinds.Reach) (λ row. rows_after tail (rows ++ row ∷ []) (n + 1) lines)
     else found rows n (line ∷ lines)
 
 -- what is behind a leaf's line
-unfoldable pub leaf_after : List ℕ → Board → ℕ → List (List ℕ) → Result (Found Node) CertFault
+unfoldable pub leaf_after : List ℕ → Board → ℕ → List (List ℕ) → Result (Parsed Node) CertFault
 leaf_after tail q n lines =
     and_then (wanted loose_of kinds.Loose n lines) (λ loose.
     and_then (rows_after tail [] loose.number loose.lines) (λ rows.
     found (record { position = q; part = Leaf (record { rows = rows.value; loose = loose.value }) }) rows.number rows.lines))
 
 -- what stands behind the line of a position; version 1 has no such line for what the men alone show
-abbrev pub node_labelled : List ℕ → Label → Board → ℕ → List (List ℕ) → Result (Found Node) CertFault
+abbrev pub node_labelled : List ℕ → Label → Board → ℕ → List (List ℕ) → Result (Parsed Node) CertFault
 node_labelled tail labels.Inner q n lines = found (record { position = q; part = Inner }) (n + 1) lines
 node_labelled tail labels.Leaf q n lines = leaf_after tail q (n + 1) lines
 node_labelled tail (labels.Men reason) q n lines = misfit n kinds.Node
 
 -- a node's lines
-unfoldable pub node_after : List ℕ → ℕ → List (List ℕ) → Result (Found Node) CertFault
+unfoldable pub node_after : List ℕ → ℕ → List (List ℕ) → Result (Parsed Node) CertFault
 node_after tail n [] = misfit n kinds.Node
 node_after tail n (line ∷ lines) =
     on_some (label_of line) (misfit n kinds.Node) (λ label.
     on_some (position_of label line) (misfit n kinds.Node) (λ q. node_labelled tail label q n lines))
 
 -- so many nodes, behind some
-unfoldable pub nodes_after : List ℕ → ℕ → List Node → ℕ → List (List ℕ) → Result (Found (List Node)) CertFault
+unfoldable pub nodes_after : List ℕ → ℕ → List Node → ℕ → List (List ℕ) → Result (Parsed (List Node)) CertFault
 nodes_after tail zero nodes n lines = found nodes n lines
 nodes_after tail (suc k) nodes n lines = and_then (node_after tail n lines) (λ node. nodes_after tail k (nodes ++ node.value ∷ []) node.number node.lines)
 

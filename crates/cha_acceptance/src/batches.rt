@@ -2,7 +2,7 @@
 
 use crate::running::{Asked, run_into, sink_of};
 use adjudicate::Status;
-use cha_outside::Kept;
+use cha_outside::KeptSink;
 use std::alloc::Global;
 use std::process::Abort;
 use std::sync::Wait;
@@ -31,7 +31,7 @@ fn written<R: Threads + Wait + Abort + Sync>(
     alloc: Global,
     asked: &Asked,
     status: Status,
-) -> Kept {
+) -> KeptSink {
     let mut sink = sink_of(rt, alloc, 100_000, asked.write);
     let mut notes = sink_of(rt, alloc, 1000, 0);
     assert_eq!(rt; run_into(rt, alloc, asked, &mut sink, &mut notes), status);

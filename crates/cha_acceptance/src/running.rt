@@ -1,7 +1,7 @@
 //! One run over an input in pieces, of which a read or a write may fail.
 
 use adjudicate::{Status, run};
-use cha_outside::{Kept, Pieces};
+use cha_outside::{KeptSink, Pieces};
 use std::alloc::Global;
 use std::process::Abort;
 use std::sync::Wait;
@@ -40,9 +40,9 @@ fn source_of(rt: &impl Abort, alloc: Global, asked: &Asked) -> Pieces {
 }
 
 /// A sink with this room that fails at a numbered write.
-pub fn sink_of(rt: &impl Abort, alloc: Global, room: u32, write: u32) -> Kept {
+pub fn sink_of(rt: &impl Abort, alloc: Global, room: u32, write: u32) -> KeptSink {
     let fails = [write].to_vec(alloc).expect(rt, "memory");
-    Kept::new(alloc, room, fails).expect(rt, "memory")
+    KeptSink::new(alloc, room, fails).expect(rt, "memory")
 }
 
 /// How a run ends that writes to these sinks.
@@ -50,8 +50,8 @@ pub fn run_into<R: Threads + Wait + Abort + Sync>(
     rt: &R,
     alloc: Global,
     asked: &Asked,
-    sink: &mut Kept,
-    notes: &mut Kept,
+    sink: &mut KeptSink,
+    notes: &mut KeptSink,
 ) -> Status {
     let words = words_of(rt, alloc, asked.line);
     let mut source = source_of(rt, alloc, asked);

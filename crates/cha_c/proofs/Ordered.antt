@@ -8,7 +8,7 @@ use Rattle.cha_words.specs.declared.orders.Order.{Order}
 use Rattle.cha_words.specs.Language.{order, order_of}
 use Rattle.adjudicate.specs.declared.endings.Status.{Status}
 use Rattle.adjudicate.specs.declared.endings.Status.TheVariants.{Done, Usage, ReadFault, WriteFault, TooLong, NoMemory, NotAccepted}
-use Rattle.cha_c.specs.Answers.{Kept, Orders, Ran, HandsOut, Answers, words_at_zeros, number_in_c}
+use Rattle.cha_c.specs.Answers.{GrownState, Orders, Ran, HandsOut, Answers, words_at_zeros, number_in_c}
 
 -- the number 1 is that of words that order nothing
 of_usage : (s : Status) → number_in_c s ≡ 1 → s ≡ Usage
@@ -20,7 +20,7 @@ of_usage TooLong e = cc
 of_usage NoMemory e = cc
 of_usage NotAccepted e = cc
 
-module _ (texts : List (String Global)) (words input : List ℕ) (number used : ℕ) (room : List ℕ) (status : Status) (kept : Kept)
+module _ (texts : List (String Global)) (words input : List ℕ) (number used : ℕ) (room : List ℕ) (status : Status) (kept : GrownState)
     (spelled : map string_bytes texts ≡ words_at_zeros words) (text : IsUtf8 words)
     (ran : IfSome (order texts) (λ o. Ran o input status kept))
     (usage : (status ≡ Usage) ↔ IsNone (order texts))

@@ -19,7 +19,7 @@ abbrev pub Orders : List ℕ → Order → Type 0
 Orders words order = IsUtf8 words × (order_of (words_at_zeros words) ≡ Some order)
 
 -- what a sink that grows has taken, and how often memory was refused
-pub record Kept : Type 0 where
+pub record GrownState : Type 0 where
   pub bytes : List ℕ
   pub faults : ℕ
 
@@ -35,8 +35,8 @@ number_in_c NotAccepted = 6
 
 -- a run over a whole input ended in a status and wrote an output; the summary that stands on standard error, of a run that corrects
 -- games, is not handed out
-abbrev pub Ran : Order → List ℕ → Status → Kept → Type 0
-Ran order input status kept = (left : Option (List ℕ)) × (notes : Kept) ×
+abbrev pub Ran : Order → List ℕ → Status → GrownState → Type 0
+Ran order input status kept = (left : Option (List ℕ)) × (notes : GrownState) ×
     IsRun order status (outside (Some input) 0 (Some []) 0) (outside left 0 (Some kept.bytes) kept.faults) (noted (Some []) 0) (noted (Some notes.bytes) notes.faults)
 
 -- What is answered of an output of a status: its length; and where it fits into the room, the number of the status with the output
@@ -50,6 +50,6 @@ pub record HandsOut (status : Status) (whole : List ℕ) (number used : ℕ) (ro
 -- What is answered to words and an input: of words that order something the output of a run for their order, and 1 with no output
 -- of any others, unless memory is refused.
 pub record Answers (words input : List ℕ) (number used : ℕ) (room : List ℕ) : Type 0 where
-  pub ran : (order : Order) → Orders words order → (status : Status) × (kept : Kept) × Ran order input status kept × HandsOut status kept.bytes number used room
+  pub ran : (order : Order) → Orders words order → (status : Status) × (kept : GrownState) × Ran order input status kept × HandsOut status kept.bytes number used room
   pub usage : number ≡ 1 → (used ≡ 0) × ((order : Order) → Orders words order → ⊥)
   pub other : ((order : Order) → Orders words order → ⊥) → (used ≡ 0) × ((number ≡ 1) ⊎ (number ≡ 5))

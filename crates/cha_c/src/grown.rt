@@ -17,9 +17,9 @@ pub struct Grown {
 
 /// Contracts see what was written, and how often memory was refused.
 impl Model for Grown {
-    ghost use Rattle.cha_c.specs.Answers.{Kept};
+    ghost use Rattle.cha_c.specs.Answers.{GrownState};
 
-    ghost Value = { Kept };
+    ghost Value = { GrownState };
 
     ghost view = { λ s. record { bytes = s.kept.items; faults = s.faults } };
 }

@@ -7,7 +7,7 @@ use Rattle.std.proofs.lemmas.List.{length-map, get_or-map}
 use Rattle.cha_board.specs.Board.{Board}
 use Rattle.cha_moves.specs.Moves.{legal}
 use Rattle.mob_sets.specs.Rows.{SetRows}
-use Rattle.cha_cert.specs.declared.indexing.Place.{Place}
+use Rattle.cha_cert.specs.declared.indexing.IndexEntry.{IndexEntry}
 use Rattle.cha_cert.specs.declared.nodes.Node.{Node}
 use Rattle.cha_cert.specs.declared.nodes.Part.{Part}
 use Rattle.cha_cert.specs.declared.nodes.Part.TheVariants.{Inner}
@@ -87,11 +87,11 @@ pub cost_within : (n k m x y : ℕ) → k ≤ m → CostsAtMost n k x y → Cost
 cost_within n k m x y less one = (one.0, λ b large. within x y (b * k) (b * m) (one.1 b large) (mul-le-mul_left b less))
 
 -- an inner node
-pub inner_cost : (nodes : List Node) (places : List Place) (q : Board) (part : Part) (x y : ℕ) → IsIndexOf nodes places → part ≡ Inner → CostsAtMost (length places) (length (legal q)) x y → CostsAtMost (length nodes) (moves_at q part) x y
+pub inner_cost : (nodes : List Node) (places : List IndexEntry) (q : Board) (part : Part) (x y : ℕ) → IsIndexOf nodes places → part ≡ Inner → CostsAtMost (length places) (length (legal q)) x y → CostsAtMost (length nodes) (moves_at q part) x y
 inner_cost nodes places q part x y is inner cost =
     subst (λ p. CostsAtMost (length nodes) (moves_at q p) x y) (sym inner) (subst (λ n. CostsAtMost n (length (legal q)) x y) (index_length nodes places is) cost)
 
-pub shared_inner_cost : (c : Shared) (places : List Place) (q : Board) (part : SharedPart) (x y : ℕ) → IsIndexOf (expansion c) places → part ≡ SharedInner
+pub shared_inner_cost : (c : Shared) (places : List IndexEntry) (q : Board) (part : SharedPart) (x y : ℕ) → IsIndexOf (expansion c) places → part ≡ SharedInner
     → CostsAtMost (length places) (length (legal q)) x y → CostsAtMost (length c.nodes) (shared_moves_at q part) x y
 shared_inner_cost c places q part x y is inner cost =
     subst (λ p. CostsAtMost (length c.nodes) (shared_moves_at q p) x y) (sym inner)

@@ -10,7 +10,7 @@ use Rattle.std.proofs.lemmas.Simd.{map-map}
 use Rattle.cha_board.specs.Board.{Board, IsValid}
 use Rattle.cha_board.specs.declared.men.Color.{Color}
 use Rattle.cha_cert.specs.declared.nodes.Node.{Node}
-use Rattle.cha_cert.specs.declared.indexing.Place.{Place}
+use Rattle.cha_cert.specs.declared.indexing.IndexEntry.{IndexEntry}
 use Rattle.cha_cert.specs.declared.shared.SharedNode.{SharedNode}
 use Rattle.cha_cert.specs.declared.shared.SharedPart.TheVariants.{Inner as SharedInner}
 use Rattle.cha_cert.specs.Certificates.{positions_of, BeginsAt, AllValid, NodeHolds, FirstFailing}
@@ -24,7 +24,7 @@ expansion_valid c valid = All-map (λ (node : Node). IsValid node.position) (nod
 
 -- the sorted words of the nodes' positions show the expansion
 -- sorted places of shared nodes are an index of the expansion
-pub shared_index : (c : Shared) (nodes : List SharedNode) (first sorted : List Place) → nodes ≡ c.nodes → first ≡ places_from 0 (map (λ (node : SharedNode). node.position) nodes) → IsPermutation first sorted
+pub shared_index : (c : Shared) (nodes : List SharedNode) (first sorted : List IndexEntry) → nodes ≡ c.nodes → first ≡ places_from 0 (map (λ (node : SharedNode). node.position) nodes) → IsPermutation first sorted
     → All (λ (node : SharedNode). IsValid node.position) nodes → IsIndexOf (expansion c) sorted
 shared_index c nodes first sorted same is moved valid =
     let qs : map (λ (node : SharedNode). node.position) nodes ≡ positions_of (expansion c) =

@@ -14,7 +14,7 @@ use Rattle.cha_board.specs.Board.{Board, IsValid}
 use Rattle.cha_board.specs.Packing.{words_of}
 use Rattle.cha_board.specs.declared.packed.Packed.{Packed}
 use Rattle.cha_board.proofs.PackedWords.{words_tell}
-use Rattle.cha_cert.specs.declared.indexing.Place.{Place}
+use Rattle.cha_cert.specs.declared.indexing.IndexEntry.{IndexEntry}
 use Rattle.cha_cert.specs.declared.nodes.Node.{Node}
 use Rattle.cha_cert.specs.declared.nodes.Part.TheVariants.{Inner}
 use Rattle.cha_cert.specs.Certificates.{AllValid, positions_of}
@@ -25,7 +25,7 @@ packed_same : (a b : Packed) → a.words ≡ b.words → a ≡ b
 packed_same a b e = λ i. record { words = e i }
 
 -- the words of a key against those of a place
-abbrev pub against : Packed → Place → Ordering
+abbrev pub against : Packed → IndexEntry → Ordering
 against key place = slice_cmp nat_cmp key.words place.packed.words
 
 -- places in order of their words and then of their numbers are in order of their words
@@ -34,8 +34,8 @@ first_less Less p e = e
 first_less Equal p e = refl
 first_less Greater p e = refl
 
-pub words_sorted : (places : List Place)
-    → IsSorted (λ (a b : Place). ordering_then (slice_cmp nat_cmp a.packed.words b.packed.words) (nat_cmp a.number b.number)) places → AreSorted places
+pub words_sorted : (places : List IndexEntry)
+    → IsSorted (λ (a b : IndexEntry). ordering_then (slice_cmp nat_cmp a.packed.words b.packed.words) (nat_cmp a.number b.number)) places → AreSorted places
 words_sorted places sorted k d low high =
     let a = get_or places (k + 1) d in
     let b = get_or places k d in
@@ -53,37 +53,37 @@ greatest Equal many = absurd (omega (arith, many))
 greatest Greater many = refl
 
 -- Places whose words rise, and a key:
-module _ (places : List Place) (key : Packed) (sorted : AreSorted places) where
-  turned : (p : Place) → slice_cmp nat_cmp p.packed.words key.words ≡ ordering_reverse (against key p)
+module _ (places : List IndexEntry) (key : Packed) (sorted : AreSorted places) where
+  turned : (p : IndexEntry) → slice_cmp nat_cmp p.packed.words key.words ≡ ordering_reverse (against key p)
   turned p = (nat_list_cmp_total).antisymm p.packed.words key.words
 
-  turned_back : (p : Place) → against key p ≡ ordering_reverse (slice_cmp nat_cmp p.packed.words key.words)
+  turned_back : (p : IndexEntry) → against key p ≡ ordering_reverse (slice_cmp nat_cmp p.packed.words key.words)
   turned_back p = (nat_list_cmp_total).antisymm key.words p.packed.words
 
-  rising : (i j : ℕ) (d : Place) → i ≤ j → j < length places
+  rising : (i j : ℕ) (d : IndexEntry) → i ≤ j → j < length places
       → ordering_index (slice_cmp nat_cmp (get_or places i d).packed.words key.words) ≤ ordering_index (slice_cmp nat_cmp (get_or places j d).packed.words key.words)
-  rising = searchable_from_sorted nat_list_cmp_total (λ (p : Place). p.packed.words) places key.words sorted
+  rising = searchable_from_sorted nat_list_cmp_total (λ (p : IndexEntry). p.packed.words) places key.words sorted
 
   -- where the key lies behind a place, it lies behind those before it
-  pub behind : (k : ℕ) → k < length places → ((d : Place) → Greater ≡ against key (get_or places k d)) → (j : ℕ) (d : Place) → j < k + 1 → against key (get_or places j d) ≡ Greater
+  pub behind : (k : ℕ) → k < length places → ((d : IndexEntry) → Greater ≡ against key (get_or places k d)) → (j : ℕ) (d : IndexEntry) → j < k + 1 → against key (get_or places j d) ≡ Greater
   behind k inside here j d less =
       let low = turned (get_or places k d) ∙ ap ordering_reverse (sym (here d)) in
       let up = subst (λ o. ordering_index (slice_cmp nat_cmp (get_or places j d).packed.words key.words) ≤ ordering_index o) low (rising j k d (omega (arith, less)) inside) in
       turned_back (get_or places j d) ∙ ap ordering_reverse (least (slice_cmp nat_cmp (get_or places j d).packed.words key.words) up)
 
   -- where it lies before one, it lies before those behind it
-  pub ahead : (k : ℕ) → k < length places → ((d : Place) → Less ≡ against key (get_or places k d)) → (j : ℕ) (d : Place) → k ≤ j → j < length places → against key (get_or places j d) ≡ Less
+  pub ahead : (k : ℕ) → k < length places → ((d : IndexEntry) → Less ≡ against key (get_or places k d)) → (j : ℕ) (d : IndexEntry) → k ≤ j → j < length places → against key (get_or places j d) ≡ Less
   ahead k inside here j d more there =
       let high = turned (get_or places k d) ∙ ap ordering_reverse (sym (here d)) in
       let up = subst (λ o. ordering_index o ≤ ordering_index (slice_cmp nat_cmp (get_or places j d).packed.words key.words)) high (rising k j d more there) in
       turned_back (get_or places j d) ∙ ap ordering_reverse (greatest (slice_cmp nat_cmp (get_or places j d).packed.words key.words) up)
 
 -- a search that ends at a place has found the key
-pub found_there : (places : List Place) (key : Packed) (k : ℕ) → k < length places → ((d : Place) → Equal ≡ against key (get_or places k d)) → Contains (words_in places) key
+pub found_there : (places : List IndexEntry) (key : Packed) (k : ℕ) → k < length places → ((d : IndexEntry) → Equal ≡ against key (get_or places k d)) → Contains (words_in places) key
 found_there places key k inside here =
-    let d : Place = record { packed = key; number = 0 } in
+    let d : IndexEntry = record { packed = key; number = 0 } in
     let same = packed_same (get_or places k d).packed key (sym (exact_bytes key.words (get_or places k d).packed.words (sym (here d)))) in
-    (k, omega (arith, inside, length-map places (λ (p : Place). p.packed)), get_or-map (λ (p : Place). p.packed) places k d key inside ∙ same)
+    (k, omega (arith, inside, length-map places (λ (p : IndexEntry). p.packed)), get_or-map (λ (p : IndexEntry). p.packed) places k d key inside ∙ same)
 
 unlike : (o : Ordering) → o ≡ Equal → o ≡ Greater → ⊥
 unlike o e f = cc
@@ -92,13 +92,13 @@ unlike_less : (o : Ordering) → o ≡ Equal → o ≡ Less → ⊥
 unlike_less o e f = cc
 
 -- a search that is left without places has not missed it
-pub found_nowhere : (places : List Place) (key : Packed) (low high : ℕ) → high ≤ low → ((j : ℕ) (d : Place) → j < low → against key (get_or places j d) ≡ Greater)
-    → ((j : ℕ) (d : Place) → high ≤ j → j < length places → against key (get_or places j d) ≡ Less) → Contains (words_in places) key → ⊥
+pub found_nowhere : (places : List IndexEntry) (key : Packed) (low high : ℕ) → high ≤ low → ((j : ℕ) (d : IndexEntry) → j < low → against key (get_or places j d) ≡ Greater)
+    → ((j : ℕ) (d : IndexEntry) → high ≤ j → j < length places → against key (get_or places j d) ≡ Less) → Contains (words_in places) key → ⊥
 found_nowhere places key low high ended before after there =
-    let d : Place = record { packed = key; number = 0 } in
+    let d : IndexEntry = record { packed = key; number = 0 } in
     let j = there.0 in
-    let inside : j < length places = (let t = there.1 in omega (arith, t, length-map places (λ (p : Place). p.packed))) in
-    let same : (get_or places j d).packed ≡ key = sym (get_or-map (λ (p : Place). p.packed) places j d key inside) ∙ there.2 in
+    let inside : j < length places = (let t = there.1 in omega (arith, t, length-map places (λ (p : IndexEntry). p.packed))) in
+    let same : (get_or places j d).packed ≡ key = sym (get_or-map (λ (p : IndexEntry). p.packed) places j d key inside) ∙ there.2 in
     let tie : against key (get_or places j d) ≡ Equal = ap (λ (p : Packed). slice_cmp nat_cmp key.words p.words) same ∙ tied_itself nat_list_cmp_total key.words in
     elim (cases_lt j low) [
       | inl early ↦ unlike (against key (get_or places j d)) tie (before j d early)
@@ -123,7 +123,7 @@ unfolding places_from
 words_in_places n [] = refl
 words_in_places n (q ∷ qs) = ap (λ ps. packed_of q ∷ ps) (words_in_places (n + 1) qs)
 
-pub index_length : (nodes : List Node) (places : List Place) → IsIndexOf nodes places → length places ≡ length nodes
+pub index_length : (nodes : List Node) (places : List IndexEntry) → IsIndexOf nodes places → length places ≡ length nodes
 index_length nodes places is =
     length_permutation (places_from 0 (positions_of nodes)) places is.same ∙ length-places 0 (positions_of nodes) ∙ length-map nodes (λ node. node.position)
 
@@ -152,27 +152,27 @@ packed_shows nodes valid q good = (
 )
 
 -- a position is that of some node exactly where its words are in the list
-abbrev pub Shows : List Node → List Place → Type 0
+abbrev pub Shows : List Node → List IndexEntry → Type 0
 Shows nodes places =
     (q : Board) → IsValid q → Contains (words_in places) (packed_of q) ↔ Contains (positions_of nodes) q
 
 -- an index shows the positions of its nodes
-pub index_shows : (nodes : List Node) (places : List Place) → IsIndexOf nodes places → Shows nodes places
+pub index_shows : (nodes : List Node) (places : List IndexEntry) → IsIndexOf nodes places → Shows nodes places
 index_shows nodes places is q good =
     let first = places_from 0 (positions_of nodes) in
     let same : words_in first ≡ map (λ node. packed_of node.position) nodes = words_in_places 0 (positions_of nodes) ∙ map-map packed_of (λ (node : Node). node.position) nodes in
-    let moved : IsPermutation (words_in first) (words_in places) = IsPermutation-map (λ (p : Place). p.packed) first places is.same in
+    let moved : IsPermutation (words_in first) (words_in places) = IsPermutation-map (λ (p : IndexEntry). p.packed) first places is.same in
     let shows = packed_shows nodes is.valid q good in (
       (λ there. shows.0 (subst (λ (ps : List Packed). Contains ps (packed_of q)) same (Contains-permutation (words_in places) (words_in first) (packed_of q) (IsPermutation-sym (words_in first) (words_in places) moved) there))),
       (λ there. Contains-permutation (words_in first) (words_in places) (packed_of q) moved (subst (λ (ps : List Packed). Contains ps (packed_of q)) (sym same) (shows.1 there))),
     )
 
 -- sorted places are an index
-pub index_made : (nodes : List Node) (first sorted : List Place) → first ≡ places_from 0 (positions_of nodes) → IsPermutation first sorted → AllValid nodes → IsIndexOf nodes sorted
-index_made nodes first sorted is moved valid = record { same = subst (λ (ps : List Place). IsPermutation ps sorted) is moved; valid = valid }
+pub index_made : (nodes : List Node) (first sorted : List IndexEntry) → first ≡ places_from 0 (positions_of nodes) → IsPermutation first sorted → AllValid nodes → IsIndexOf nodes sorted
+index_made nodes first sorted is moved valid = record { same = subst (λ (ps : List IndexEntry). IsPermutation ps sorted) is moved; valid = valid }
 
 -- and not too many
-pub few_places : (qs : List Board) (n : ℕ) (first sorted : List Place) → first ≡ places_from 0 qs → IsPermutation first sorted → length qs < n → length sorted < n
+pub few_places : (qs : List Board) (n : ℕ) (first sorted : List IndexEntry) → first ≡ places_from 0 qs → IsPermutation first sorted → length qs < n → length sorted < n
 few_places qs n first sorted is moved few =
     let long : length sorted ≡ length qs = length_permutation first sorted moved ∙ ap length is ∙ length-places 0 qs in
     omega (arith, long, few)
@@ -182,7 +182,7 @@ unfolding places_from
 no_place n = refl
 
 -- one more node has its place, whatever kind of node it is
-pub place_more : {X : Type 0} (position : X → Board) (nodes : List X) (k m : ℕ) (places more : List Place) (p : Packed) (d : X) → k < length nodes
+pub place_more : {X : Type 0} (position : X → Board) (nodes : List X) (k m : ℕ) (places more : List IndexEntry) (p : Packed) (d : X) → k < length nodes
     → places ≡ places_from 0 (map position (take k nodes)) → p.words ≡ words_of (position (get_or nodes k d)) → m ≡ k
     → more ≡ places ++ (record { packed = p; number = m }) ∷ [] → more ≡ places_from 0 (map position (take (k + 1) nodes))
 unfolding places_from

@@ -10,14 +10,14 @@ use Rattle.cha_moves.specs.Moves.{after, legal}
 use Rattle.cha_moves.specs.Ends.{IsMated}
 use Rattle.cha_moves.proofs.Listed.{is_listed}
 use Rattle.cha_moves.proofs.Validity.{after_is_valid}
-use Rattle.cha_cert.specs.declared.indexing.Place.{Place}
+use Rattle.cha_cert.specs.declared.indexing.IndexEntry.{IndexEntry}
 use Rattle.cha_cert.specs.declared.nodes.Node.{Node}
 use Rattle.cha_cert.specs.Certificates.{positions_of, InnerHolds}
 use Rattle.cha_cert.specs.Indexed.{packed_of, words_in, LeadsInto}
 use Rattle.cha_cert.proofs.Finding.{Shows}
 
 -- one more move leads to a position of the index
-pub leads_more : (places : List Place) (q : Board) (moves : List Move) (k : ℕ) → ((j : ℕ) (d : Move) → j < k → Contains (words_in places) (packed_of (after q (get_or moves j d))))
+pub leads_more : (places : List IndexEntry) (q : Board) (moves : List Move) (k : ℕ) → ((j : ℕ) (d : Move) → j < k → Contains (words_in places) (packed_of (after q (get_or moves j d))))
     → ((d : Move) → Contains (words_in places) (packed_of (after q (get_or moves k d)))) → (j : ℕ) (d : Move) → j < k + 1 → Contains (words_in places) (packed_of (after q (get_or moves j d)))
 leads_more places q moves k before here j d less =
     elim (cases_lt j k) [
@@ -26,7 +26,7 @@ leads_more places q moves k before here j d less =
     ]
 
 -- all moves do
-pub leads_all : (w : Color) (places : List Place) (q : Board) (n : ℕ) → (IsMated q (other_color w) → ⊥) → length (legal q) ≤ n
+pub leads_all : (w : Color) (places : List IndexEntry) (q : Board) (n : ℕ) → (IsMated q (other_color w) → ⊥) → length (legal q) ≤ n
     → ((k : ℕ) (d : Move) → k < n → Contains (words_in places) (packed_of (after q (get_or (legal q) k d)))) → LeadsInto w places q
 leads_all w places q n free ended all = record {
   no_mate = free;
@@ -34,7 +34,7 @@ leads_all w places q n free ended all = record {
 }
 
 -- what leads to positions of an index leads to the positions of the nodes that it shows
-pub leads_shown : (w : Color) (nodes : List Node) (places : List Place) (q : Board) → IsValid q → Shows nodes places → LeadsInto w places q ↔ InnerHolds w nodes q
+pub leads_shown : (w : Color) (nodes : List Node) (places : List IndexEntry) (q : Board) → IsValid q → Shows nodes places → LeadsInto w places q ↔ InnerHolds w nodes q
 leads_shown w nodes places q valid shows =
     let next : (m : Move) → Contains (legal q) m → Contains (words_in places) (packed_of (after q m)) ↔ Contains (positions_of nodes) (after q m) = λ m there. (
     let is = is_listed q m there in

@@ -20,7 +20,7 @@ use std::sync::ledger::Ledger;
 
 /// The position of a node as words, and the number of the node, from 0.
 #[derive(Clone, Copy, Debug, PartialEq, Eq, PartialOrd, Ord)]
-pub struct Place {
+pub struct IndexEntry {
     pub packed: Packed,
     pub number: u32,
 }
@@ -29,15 +29,15 @@ pub struct Place {
 /// of their nodes.
 #[derive(Drop)]
 pub struct Index {
-    places: Vec<Place>,
+    places: Vec<IndexEntry>,
 }
 
 impl Model for Index {
     ghost use Rattle.std.specs.Prelude.{List, ◌<◌, ◌^◌, length};
-    ghost use Rattle.cha_cert.specs.declared.indexing.Place.{Place};
+    ghost use Rattle.cha_cert.specs.declared.indexing.IndexEntry.{IndexEntry};
     ghost use Rattle.cha_cert.specs.Indexed.{AreSorted};
 
-    ghost Value = { List Place };
+    ghost Value = { List IndexEntry };
 
     ghost view = { λ s. s.places.items };
 
@@ -121,7 +121,7 @@ pub(crate) fn has<L: Ledger>(index: &Index, position: &Position, steps: &mut Ste
 }
 
 /// The places of nodes, in order of the nodes.
-fn places_of(alloc: Global, nodes: &[Node]) -> Result<Vec<Place>, NoMemory>
+fn places_of(alloc: Global, nodes: &[Node]) -> Result<Vec<IndexEntry>, NoMemory>
     requires { length nodes.now < 2 ^ 32 }
     ensures places { IfOk result (λ places. places.items ≡ places_from 0 (positions_of nodes.now)) }
     ensures valid { IfOk result (λ places. AllValid nodes.now) }
@@ -130,7 +130,7 @@ fn places_of(alloc: Global, nodes: &[Node]) -> Result<Vec<Place>, NoMemory>
     for number in 0..nodes.len() {
         let node = &nodes[number];
         node.position.known();
-        places.push(Place {
+        places.push(IndexEntry {
             packed: node.position.pack(),
             number: number as u32,
         })?;
@@ -139,7 +139,7 @@ fn places_of(alloc: Global, nodes: &[Node]) -> Result<Vec<Place>, NoMemory>
 }
 
 /// The places of the nodes of a shared certificate, in their order.
-fn places_of_shared(alloc: Global, nodes: &[SharedNode]) -> Result<Vec<Place>, NoMemory>
+fn places_of_shared(alloc: Global, nodes: &[SharedNode]) -> Result<Vec<IndexEntry>, NoMemory>
     requires { length nodes.now < 2 ^ 32 }
     ensures places { IfOk result (λ places. places.items ≡ places_from 0 (map (λ node. node.position) nodes.now)) }
     ensures valid { IfOk result (λ places. All (λ node. IsValid node.position) nodes.now) }
@@ -148,7 +148,7 @@ fn places_of_shared(alloc: Global, nodes: &[SharedNode]) -> Result<Vec<Place>, N
     for number in 0..nodes.len() {
         let node = &nodes[number];
         node.position.known();
-        places.push(Place {
+        places.push(IndexEntry {
             packed: node.position.packed(),
             number: number as u32,
         })?;

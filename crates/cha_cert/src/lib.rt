@@ -15,7 +15,7 @@ mod shared_checking;
 mod sharing;
 
 pub use checking::{Checked, check, check_counted};
-pub use indexing::{Index, Place};
+pub use indexing::{Index, IndexEntry};
 pub use law::valid_means_unwinnable;
 pub use nodes::{Cert, Node, Part};
 pub use shared::{SharedCert, SharedNode, SharedPart};

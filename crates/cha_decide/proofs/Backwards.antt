@@ -14,7 +14,7 @@ use Rattle.cha_limits.specs.Bounds.{Bounds}
 use Rattle.cha_verdict.specs.Verdicts.{is_winnable, is_skipped, IsPrintable}
 use Rattle.cha_verdict.specs.Sound.{IsSound}
 use Rattle.cha_verdict.specs.Scans.{IsEarlier, IsOpenEdge, HasEdge}
-use Rattle.cha_decide.specs.declared.scanning.Before.TheVariants.{Dead}
+use Rattle.cha_decide.specs.declared.scanning.EarlierPly.TheVariants.{Dead}
 use Rattle.cha_decide.specs.declared.scanning.DeadPly.{DeadPly}
 use Rattle.cha_decide.specs.declared.scanning.OpenPly.{OpenPly}
 use Rattle.cha_decide.specs.Scanning.{edge_by, certs_by, IsFoundAt, IsShownAt, IsOpenAt, IsScanFound}

@@ -10,8 +10,8 @@ use Rattle.cha_verdict.specs.declared.scans.Edge.TheVariants.{Live, Unclear}
 use Rattle.cha_verdict.specs.declared.scans.Scan.{Scan}
 use Rattle.cha_limits.specs.Bounds.{Bounds}
 use Rattle.cha_verdict.specs.Scans.{AreValidCerts, ArePrintable, IsEarlier, IsOpenEdge, IsSoundScan, IsPrintableScan}
-use Rattle.cha_decide.specs.declared.scanning.Before.{Before}
-use Rattle.cha_decide.specs.declared.scanning.Before.TheVariants.{Dead, Open}
+use Rattle.cha_decide.specs.declared.scanning.EarlierPly.{EarlierPly}
+use Rattle.cha_decide.specs.declared.scanning.EarlierPly.TheVariants.{Dead, Open}
 use Rattle.cha_decide.specs.declared.scanning.DeadPly.{DeadPly}
 use Rattle.cha_decide.specs.declared.scanning.OpenPly.{OpenPly}
 use Rattle.cha_decide.specs.declared.scanning.Reached.{Reached}
@@ -26,7 +26,7 @@ certs_by (Unwinnable white) (Unwinnable black) = Some (record { white = white; b
 certs_by _ _ = None
 
 -- certificates show the position dead, or it has an open edge
-abbrev pub IsFoundAt : Board → Color → Bounds → Before → Type 0
+abbrev pub IsFoundAt : Board → Color → Bounds → EarlierPly → Type 0
 IsFoundAt q first limits (Dead certs) = AreValidCerts q certs × ArePrintable certs
 IsFoundAt q first limits (Open edge) = IsOpenEdge q first limits edge
 

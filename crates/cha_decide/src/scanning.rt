@@ -17,7 +17,7 @@ use std::alloc::Global;
 
 /// What is found about a position before the last one.
 #[derive(Drop)]
-pub enum Before {
+pub enum EarlierPly {
     /// It is dead, as these certificates show.
     Dead(EarlierCerts),
     /// It is not shown dead.
@@ -81,7 +81,7 @@ fn look<C: Crew>(
     first: Color,
     limits: &Limits,
     crew: &mut C,
-) -> Result<Before, NoMemory>
+) -> Result<EarlierPly, NoMemory>
     requires ready { C.ready crew.old }
     ensures stays_ready { C.ready crew.new }
     ensures found { IfOk result (IsFoundAt position.now first limits.now) }
@@ -90,8 +90,8 @@ fn look<C: Crew>(
     let decision = decide_by(alloc, position, first, limits, crew)?;
     let edge = edge_of(&decision.white, &decision.black);
     match certs_of(decision) {
-        Some(certs) => Ok(Before::Dead(certs)),
-        None => Ok(Before::Open(edge)),
+        Some(certs) => Ok(EarlierPly::Dead(certs)),
+        None => Ok(EarlierPly::Open(edge)),
     }
 }
 
@@ -130,13 +130,13 @@ fn go_back<C: Crew>(
     while dead.ply > 0 {
         let ply = sooner_than(dead.ply, last);
         match look(alloc, &positions[ply], first, limits, crew)? {
-            Before::Dead(certs) => {
+            EarlierPly::Dead(certs) => {
                 dead = DeadPly {
                     ply,
                     certs: Some(certs),
                 };
             }
-            Before::Open(edge) => {
+            EarlierPly::Open(edge) => {
                 return Ok(Reached {
                     dead,
                     before: Some(OpenPly { ply, edge }),
@@ -180,13 +180,13 @@ fn narrow<C: Crew>(
     while before.ply + 1 < dead.ply {
         let ply = halfway(before.ply, dead.ply);
         match look(alloc, &positions[ply], first, limits, crew)? {
-            Before::Dead(certs) => {
+            EarlierPly::Dead(certs) => {
                 dead = DeadPly {
                     ply,
                     certs: Some(certs),
                 };
             }
-            Before::Open(edge) => before = OpenPly { ply, edge },
+            EarlierPly::Open(edge) => before = OpenPly { ply, edge },
         }
     }
     Ok(Scan {

@@ -6,5 +6,5 @@ pub mod Gathering
 -- what they say of sources and sinks in memory, and of readers and writers of std
 pub mod RepeatState
 pub mod PiecesState
-pub mod KeptState
+pub mod SinkState
 pub mod Adapters

@@ -3,7 +3,7 @@
 ghost use Rattle.std.specs.Prelude.{◌≡◌, ◌<◌, [], length, IfOk};
 ghost use Rattle.std.specs.declared.option.Option.TheVariants.{Some};
 ghost use Rattle.cha_outside.specs.Writing.{TakesBelow, Takes, WriteCause};
-ghost use Rattle.cha_outside.specs.KeptState.{kept_answer, kept_after};
+ghost use Rattle.cha_outside.specs.SinkState.{kept_answer, kept_after};
 
 use crate::failing::is_among;
 use crate::writing::{Sink, Wrote};
@@ -13,7 +13,7 @@ use std::marker::Model;
 
 /// A sink that keeps what it takes, in room that is taken at the start. It takes no memory later.
 #[derive(Drop)]
-pub struct Kept {
+pub struct KeptSink {
     kept: Vec<u8>,
     room: usize,
     fails: Vec<u32>,
@@ -22,25 +22,25 @@ pub struct Kept {
 }
 
 /// Contracts see what was written, the room, the calls that are to fail, and the counts of calls and of faults.
-impl Model for Kept {
+impl Model for KeptSink {
     ghost use Rattle.std.specs.Prelude.{◌≤◌, vec_len, vec_capacity};
-    ghost use Rattle.cha_outside.specs.KeptState.{KeptState};
+    ghost use Rattle.cha_outside.specs.SinkState.{SinkState};
 
-    ghost Value = { KeptState };
+    ghost Value = { SinkState };
 
     ghost view = { λ s. record { written = s.kept.items; room = s.room; fails = s.fails.items; calls = s.calls; faults = s.faults } };
 
     ghost invariant = { λ s. (vec_len s.kept ≤ s.room) × (s.room ≤ vec_capacity s.kept) };
 }
 
-impl Kept {
+impl KeptSink {
     /// A sink with room for so many bytes. The calls numbered in `fails`, counted from 1, fail with no byte taken.
-    pub fn new(alloc: Global, room: u32, fails: Vec<u32>) -> Result<Kept, NoMemory>
+    pub fn new(alloc: Global, room: u32, fails: Vec<u32>) -> Result<KeptSink, NoMemory>
         ensures { IfOk result (λ kept. kept ≡ record { written = []; room = room; fails = fails.items; calls = 0; faults = 0 }) }
     {
         let room = room as usize;
         let kept = Vec::with_capacity(alloc, room)?;
-        Ok(Kept {
+        Ok(KeptSink {
             kept,
             room,
             fails,
@@ -57,7 +57,7 @@ impl Kept {
     }
 }
 
-impl Sink for Kept {
+impl Sink for KeptSink {
     ghost written = { λ s. Some s.written };
 
     ghost faults = { λ s. s.faults };

@@ -18,7 +18,7 @@ mod writing;
 
 pub use bytes_source::Bytes;
 pub use gathering::{MOST_BYTES, ReadEnd, read_all, take_all};
-pub use kept_sink::Kept;
+pub use kept_sink::KeptSink;
 pub use pieces_source::Pieces;
 pub use reading::{Got, Source};
 pub use repeat_source::Repeat;

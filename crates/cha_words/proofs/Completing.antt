@@ -15,7 +15,7 @@ use Rattle.cha_words.specs.declared.given.Said.TheVariants.{Nothing, Seeded, Gam
 use Rattle.cha_words.specs.declared.given.Progress.{Progress}
 use Rattle.cha_words.specs.Language.{number, is_number, side_named, setting_named, part_of, piece, takes, numbers_for, range, say_all, bounds, style, made, made_of}
 use Rattle.cha_words.specs.Language.Part.{Plain}
-use Rattle.cha_words.specs.Reading.{value_in, put, open_in, numbers_from, order_from, order_with, parts_awaiting, IsSaid, Fits, IsOpen, Stands}
+use Rattle.cha_words.specs.Reading.{value_in, put, open_in, numbers_from, order_from, order_with, parts_awaiting, IsSaid, Fits, AwaitsValue, Stands}
 use Rattle.cha_words.proofs.Cutting.{awaited_part}
 use Rattle.cha_words.proofs.Choosing.{value_taken, put_fits, opened}
 use Rattle.cha_words.proofs.Ending.{whole, is_open, of_some}
@@ -120,7 +120,7 @@ number_goes c g s r fits e =
     let goes = given_goes c (put s n.0 g) (put_fits c g s r (some_number s) n.0 fits e n.1) in
     (some_number s ∷ goes.0, goes.1, rw (awaited_part s (some_number s) goes.0) (value_taken c g s r (some_number s) n.0 e n.1 (parts_awaiting None goes.0) ∙ goes.2))
 
-awaited_goes : (c : Command) (g : Given) (o : Option Setting) → Fits c g → IsOpen c g o → CanGo (λ more. order_from c g (parts_awaiting o more))
+awaited_goes : (c : Command) (g : Given) (o : Option Setting) → Fits c g → AwaitsValue c g o → CanGo (λ more. order_from c g (parts_awaiting o more))
 awaited_goes c g None fits open_ = given_goes c g fits
 awaited_goes c g (Some s) fits open_ = let r = is_open (open_in c g s) open_ in number_goes c g s r.0 fits r.1
 

@@ -111,14 +111,14 @@ pub record Fits (command : Command) (given : Given) : Type 0 where
   pub said : IsSaid command given.said
 
 -- the option whose value comes next may be given one
-abbrev pub IsOpen : Command → Given → Option Setting → Type 0
-IsOpen command given None = ⊤
-IsOpen command given (Some setting) = IsSome (open_in command given setting)
+abbrev pub AwaitsValue : Command → Given → Option Setting → Type 0
+AwaitsValue command given None = ⊤
+AwaitsValue command given (Some setting) = IsSome (open_in command given setting)
 
 -- words can stand so behind a command
 pub record Stands (command : Command) (progress : Progress) : Type 0 where
   pub fits : Fits command progress.given
-  pub awaits : IsOpen command progress.given progress.awaited
+  pub awaits : AwaitsValue command progress.given progress.awaited
 
 -- one part is taken: it makes the order refused, or is what is given from then on
 unfoldable pub Takes : Command → Given → Part → Option Given → Type 0

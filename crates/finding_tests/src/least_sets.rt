@@ -4,7 +4,7 @@
 use crate::from_fen::place;
 use cha_board::Kind;
 use mob_sets::{SetRow, Sets};
-use mob_solve::least;
+use mob_solve::least_closed_sets;
 
 /// Positions and their least sets, by the rules in which each man is followed by hand.
 const SETS: &[(&str, u64, &[(u8, Kind, u64)])] = &[
@@ -90,7 +90,7 @@ fn are_sets(sets: &Sets, loose: u64, rows: &[(u8, Kind, u64)]) -> bool {
 #[test]
 fn least_sets_are_the_worked_ones(rt: HostRuntime) {
     for (fen, loose, rows) in SETS {
-        let sets = least(rt.alloc(), &place(&rt, fen)).expect(&rt, "memory");
+        let sets = least_closed_sets(rt.alloc(), &place(&rt, fen)).expect(&rt, "memory");
         assert!(rt; are_sets(&sets, *loose, rows), "{fen}");
     }
 }

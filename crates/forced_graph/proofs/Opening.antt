@@ -16,16 +16,16 @@ use Rattle.cha_cert.specs.AtOnce.{IsShownAtOnce, BySets, ByMen}
 use Rattle.cha_cert.specs.Certificates.{LeafHolds, IsLeaf}
 use Rattle.node_store.specs.declared.origin.Origin.{Origin}
 use Rattle.node_store.specs.Nodes.{Node, origins, IsAt}
-use Rattle.forced_graph.specs.Regions.{IsLeafPart, IsOpen}
+use Rattle.forced_graph.specs.Regions.{IsLeafPart, IsUnshown}
 
 -- the root came by no move
-pub open_root : (nodes : List Node) (name : ℕ) (w : Color) → slice_get (origins nodes) name ≡ Some None → IsOpen nodes name w
-unfolding IsOpen
+pub open_root : (nodes : List Node) (name : ℕ) (w : Color) → slice_get (origins nodes) name ≡ Some None → IsUnshown nodes name w
+unfolding IsUnshown
 open_root nodes name w none o p q from parent here zeroing shown = cc
 
 -- the move was neither a capture nor a pawn's
-pub open_quiet : (nodes : List Node) (name : ℕ) (w : Color) (o : Origin) (p : Board) → slice_get (origins nodes) name ≡ Some (Some o) → IsAt nodes o.parent p → (IsTrue (is_zeroing p o.by) → ⊥) → IsOpen nodes name w
-unfolding IsOpen
+pub open_quiet : (nodes : List Node) (name : ℕ) (w : Color) (o : Origin) (p : Board) → slice_get (origins nodes) name ≡ Some (Some o) → IsAt nodes o.parent p → (IsTrue (is_zeroing p o.by) → ⊥) → IsUnshown nodes name w
+unfolding IsUnshown
 open_quiet nodes name w o p from at quiet o2 p2 q from2 at2 here zeroing shown =
     let o_is : o2 ≡ o = same_Some o2 o (same_Some (Some o2) (Some o) (sym from2 ∙ from)) in
     let p_at : IsAt nodes o.parent p2 = subst (λ (x : Origin). IsAt nodes x.parent p2) o_is at2 in
@@ -37,8 +37,8 @@ shown_not q w sets men (BySets s) = sets s
 shown_not q w sets men (ByMen reason holds) = men reason holds
 
 -- no closed sets are without a mate, and the men alone show nothing
-pub open_unshown : (nodes : List Node) (name : ℕ) (w : Color) (q : Board) (verdict : Option SetRows) → IsAt nodes name q → verdict ≡ None → IfNone verdict (IsStaticallyUnwinnable q w → ⊥) → ((reason : Reason) → ReasonHolds q w reason → ⊥) → IsOpen nodes name w
-unfolding IsOpen
+pub open_unshown : (nodes : List Node) (name : ℕ) (w : Color) (q : Board) (verdict : Option SetRows) → IsAt nodes name q → verdict ≡ None → IfNone verdict (IsStaticallyUnwinnable q w → ⊥) → ((reason : Reason) → ReasonHolds q w reason → ⊥) → IsUnshown nodes name w
+unfolding IsUnshown
 open_unshown nodes name w q (Some sets) at none unshown men o p q2 from parent here zeroing shown = cc
 open_unshown nodes name w q None at none unshown men o p q2 from parent here zeroing shown =
     shown_not q w unshown men (subst (λ (b : Board). IsShownAtOnce b w) (same_Some q2 q (sym here ∙ at)) shown)

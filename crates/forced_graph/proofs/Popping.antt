@@ -23,7 +23,7 @@ use Rattle.forced_graph.specs.HowManyWait.{how_many}
 use Rattle.forced_graph.specs.Grown.{IsGrown}
 use Rattle.cha_cert.specs.AtOnce.{BySets}
 use Rattle.cha_cert.specs.Certificates.{IsLeaf}
-use Rattle.forced_graph.specs.Regions.{Waits, IsLeafPart, IsOpen, IsSettled, AreLed, AreExpanded, IsMap, Between, Popped, Expanding}
+use Rattle.forced_graph.specs.Regions.{Waits, IsLeafPart, IsUnshown, IsSettled, AreLed, AreExpanded, IsMap, Between, Popped, Expanding}
 use Rattle.forced_graph.proofs.Waiting.{none_waits, fewer_wait, first_waits, waits_on, waited, waits_nowhere, put_waits}
 use Rattle.forced_graph.proofs.Members.{IsNext, grown_none, grown_more}
 use Rattle.forced_graph.proofs.ByName.{get_contained, contained_get, get_set, same_origins}
@@ -174,8 +174,8 @@ some_before members p there = (let small = there.1 in omega arith)
 
 -- the position of a node that was taken may be expanded next
 next_here : (root : Board) (w : Color) (nodes : List Node) (waiting : List (List ℕ)) (parts : List Part) (members : List Board) (name : ℕ) (here : Board) (origin : Option Origin)
-    → IsMap root w nodes waiting parts members → IsGrown root w members → IsAt nodes name here → (Contains members here → ⊥) → HasOrigin nodes name here origin → slice_get (origins nodes) name ≡ Some origin → IsOpen nodes name w → IsNext root w members here
-unfolding HasOrigin IsOpen
+    → IsMap root w nodes waiting parts members → IsGrown root w members → IsAt nodes name here → (Contains members here → ⊥) → HasOrigin nodes name here origin → slice_get (origins nodes) name ≡ Some origin → IsUnshown nodes name w → IsNext root w members here
+unfolding HasOrigin IsUnshown
 next_here root w nodes waiting parts members name here None m grown at new has from unshown =
     let is : here ≡ root = same_Some here root (sym at ∙ ap (slice_get (positions nodes)) has ∙ m.begins) in
     inl (none_before root members grown.first (subst (λ (b : Board). Contains members b → ⊥) is new), is)
@@ -202,7 +202,7 @@ next_here root w nodes waiting parts members name here (Some o) m grown at new h
     )
 
 -- the node that was taken is to be expanded
-pub opened : (name : ℕ) (root : Board) (w : Color) (count : ℕ) (nodes : List Node) (waiting : List (List ℕ)) (parts : List Part) → IsStore nodes waiting → Popped name root w count nodes waiting parts → IsOpen nodes name w → Expanding name [] root w count nodes waiting parts
+pub opened : (name : ℕ) (root : Board) (w : Color) (count : ℕ) (nodes : List Node) (waiting : List (List ℕ)) (parts : List Part) → IsStore nodes waiting → Popped name root w count nodes waiting parts → IsUnshown nodes name w → Expanding name [] root w count nodes waiting parts
 unfolding IsSettled AreLed
 opened name root w count nodes waiting parts store was unshown =
     let node = origin_of nodes name was.within in

@@ -26,8 +26,8 @@ unfoldable pub IsLeafPart : List Node → ℕ → Color → Part → Type 0
 IsLeafPart nodes name w part = (q : Board) → IsAt nodes name q → IsLeaf w q part
 
 -- where a capture or a pawn's move led to a node, nothing shows at once that w cannot mate
-unfoldable pub IsOpen : List Node → ℕ → Color → Type 0
-IsOpen nodes name w = (o : Origin) (p q : Board) → slice_get (origins nodes) name ≡ Some (Some o) → IsAt nodes o.parent p → IsAt nodes name q
+unfoldable pub IsUnshown : List Node → ℕ → Color → Type 0
+IsUnshown nodes name w = (o : Origin) (p q : Board) → slice_get (origins nodes) name ≡ Some (Some o) → IsAt nodes o.parent p → IsAt nodes name q
     → IsTrue (is_zeroing p o.by) → IsShownAtOnce q w → ⊥
 
 -- a node waits, or was expanded, or is a leaf

@@ -1,7 +1,7 @@
 //! How the next position is taken from those that wait.
 
 ghost use Rattle.std.specs.Prelude.{◌≡◌, ◌<◌, [], length, IfOk, IfSome, IfNone};
-ghost use Rattle.forced_graph.specs.Regions.{IsBetween, IsPopped, IsExpanding, IsDone, IsLeafPart, IsOpen, IsSameTask};
+ghost use Rattle.forced_graph.specs.Regions.{IsBetween, IsPopped, IsExpanding, IsDone, IsLeafPart, IsUnshown, IsSameTask};
 ghost use Rattle.forced_graph.specs.HowManyWait.{how_many};
 
 use crate::lasting::is_lasting;
@@ -69,7 +69,7 @@ fn leaf_part(
 ) -> Result<Option<Part>, NoMemory>
     requires { name < length store.now.nodes }
     ensures leaf { IfOk result (λ o. IfSome o (IsLeafPart store.now.nodes name winner)) }
-    ensures open { IfOk result (λ o. IfNone o (IsOpen store.now.nodes name winner)) }
+    ensures open { IfOk result (λ o. IfNone o (IsUnshown store.now.nodes name winner)) }
 {
     let Some(origin) = store.origin(name) else {
         return Ok(None);

@@ -8,7 +8,7 @@ ghost use Rattle.helpmate_list.specs.Parts.{AreParts, HasRoot};
 
 use crate::answers::Lines;
 use crate::leading::{add_led, standing_lines};
-use crate::parts::{MOST_KEPT, RootLines, Task};
+use crate::parts::{MOST_KEPT, MateTask, RootLines};
 use crate::spread::Spread;
 use cha_list::NoMemory;
 use cha_moves::Move;
@@ -31,7 +31,7 @@ fn of_root(found: &[RootLines], root_move: usize) -> &RootLines
 /// The first lines of all parts, in the order of root moves, whatever the order in which the parts were done.
 fn gathered(
     alloc: Global,
-    task: &Task,
+    task: &MateTask,
     moves: &[Move],
     parts: &[Result<Vec<RootLines>, NoMemory>],
 ) -> Result<Lines, NoMemory>
@@ -58,7 +58,7 @@ fn gathered(
 pub fn root_lines<S: Spread>(
     hands: &S,
     alloc: Global,
-    task: &Task,
+    task: &MateTask,
     moves: &[Move],
     count: usize,
 ) -> Result<Lines, NoMemory>

@@ -12,7 +12,7 @@ ghost use Rattle.helpmate_list.specs.declared.answers.Shortest.TheVariants.{None
 
 use crate::answers::{Lines, MOST_LINES, Shortest};
 use crate::gather::root_lines;
-use crate::parts::{MOST_KEPT, Task};
+use crate::parts::{MOST_KEPT, MateTask};
 use crate::spread::Spread;
 use cha_board::{Color, Position};
 use cha_list::NoMemory;
@@ -56,7 +56,7 @@ pub fn least_mates<S: Spread>(
     let mut plies = 0;
     while plies <= depth {
         if !mover.is(winner) {
-            let task = Task {
+            let task = MateTask {
                 position: *position,
                 winner,
                 plies,

@@ -15,5 +15,5 @@ mod spread;
 
 pub use answers::{Lines, MOST_LINES, Shortest};
 pub use least::{least_mates, shortest_says};
-pub use parts::{RootLines, Task};
+pub use parts::{MateTask, RootLines};
 pub use spread::{OneByOne, Spread, Threaded};

@@ -21,7 +21,7 @@ const MOST_KNOWN: u32 = 65_536;
 
 /// What is looked for: all lists of so many moves by which a side mates from the root.
 #[derive(Clone, Copy, Debug, PartialEq, Eq)]
-pub struct Task {
+pub struct MateTask {
     pub position: Position,
     pub winner: Color,
     pub plies: u8,
@@ -40,7 +40,7 @@ pub struct RootLines {
 /// remembers positions without a mate in a shard of its own.
 pub fn part_of(
     alloc: Global,
-    task: &Task,
+    task: &MateTask,
     moves: &[Move],
     number: usize,
     count: usize,

@@ -5,7 +5,7 @@ ghost use Rattle.cha_moves.specs.Moves.{legal as legal_moves};
 ghost use Rattle.helpmate_list.specs.Shortest.{HasNoMateBelow};
 ghost use Rattle.helpmate_list.specs.Parts.{IsPart, AreParts};
 
-use crate::parts::{RootLines, Task, part_of};
+use crate::parts::{MateTask, RootLines, part_of};
 use cha_list::NoMemory;
 use cha_moves::Move;
 use std::alloc::Global;
@@ -21,7 +21,7 @@ pub trait Spread {
     fn parts(
         &self,
         alloc: Global,
-        task: &Task,
+        task: &MateTask,
         moves: &[Move],
         count: usize,
     ) -> Result<Vec<Result<Vec<RootLines>, NoMemory>>, NoMemory>
@@ -42,7 +42,7 @@ impl Spread for OneByOne {
     fn parts(
         &self,
         alloc: Global,
-        task: &Task,
+        task: &MateTask,
         moves: &[Move],
         count: usize,
     ) -> Result<Vec<Result<Vec<RootLines>, NoMemory>>, NoMemory> {
@@ -71,7 +71,7 @@ impl<'a, R: Threads + Sync> Spread for Threaded<'a, R> {
     fn parts(
         &self,
         alloc: Global,
-        task: &Task,
+        task: &MateTask,
         moves: &[Move],
         count: usize,
     ) -> Result<Vec<Result<Vec<RootLines>, NoMemory>>, NoMemory> {

@@ -17,7 +17,7 @@ use std::alloc::Global;
 
 /// The least closed sets of a position: they are closed, and they lie within all closed sets (this project). `NoMemory`
 /// means that the allocator refused memory, and says nothing of the position.
-pub fn least(alloc: Global, position: &Position) -> Result<Sets, NoMemory>
+pub fn least_closed_sets(alloc: Global, position: &Position) -> Result<Sets, NoMemory>
     ensures { IfOk result (λ s. IsLeast position.now (sets_of s)) }
 {
     let sets = entered_sets(alloc, &grown(position))?;

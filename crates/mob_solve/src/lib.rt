@@ -15,6 +15,6 @@ mod rule_passes;
 mod verdicts;
 mod weak;
 
-pub use closure::least;
+pub use closure::least_closed_sets;
 pub use verdicts::{least_show, static_verdict};
 pub use weak::is_weak;

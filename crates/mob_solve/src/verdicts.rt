@@ -9,7 +9,7 @@ ghost use Rattle.mob_law.specs.Static.{IsStaticallyUnwinnable};
 ghost use Rattle.mob_sets.specs.Rows.{sets_of};
 ghost use Rattle.mob_solve.specs.Least.{IsLeast};
 
-use crate::closure::{begun, least};
+use crate::closure::{begun, least_closed_sets};
 use crate::weak::is_weak;
 use cha_board::{Color, Position};
 use cha_list::NoMemory;
@@ -60,7 +60,7 @@ pub fn static_verdict(
     if begins_with_mate(alloc, position, winner)? {
         return Ok(None);
     }
-    let sets = least(alloc, position)?;
+    let sets = least_closed_sets(alloc, position)?;
     if least_show(position, winner, &sets) {
         Ok(Some(sets))
     } else {

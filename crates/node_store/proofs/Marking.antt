@@ -4,7 +4,7 @@ use Rattle.std.proofs.lemmas.Option.{same_Some}
 use Rattle.cha_board.specs.Board.{Board}
 use Rattle.node_store.specs.declared.spot.Spot.{Spot}
 use Rattle.node_store.specs.declared.origin.Origin.{Origin}
-use Rattle.node_store.specs.declared.origin.Place.{Place}
+use Rattle.node_store.specs.declared.origin.NodeMark.{NodeMark}
 use Rattle.node_store.specs.NameLists.{list_at, Has}
 use Rattle.node_store.specs.Nodes.{Node, positions, leaves, mark, IsAt}
 use Rattle.node_store.specs.Graphs.{HasOrigin, IsStore}
@@ -74,20 +74,20 @@ store_mark nodes waiting name was free =
     }
 
 -- the marks of the entries
-pub marked_entries : (es : List (Spot × Place)) (i : ℕ) (place : Place) → Some place ≡ slice_get (values_of es) i → nodes_of (set_value_at es i (record { origin = place.origin; leaf = true })) ≡ mark (nodes_of es) i
+pub marked_entries : (es : List (Spot × NodeMark)) (i : ℕ) (place : NodeMark) → Some place ≡ slice_get (values_of es) i → nodes_of (set_value_at es i (record { origin = place.origin; leaf = true })) ≡ mark (nodes_of es) i
 unfolding mark
 marked_entries [] i place at = refl
 marked_entries (e ∷ es) zero place at =
     let same : place ≡ e.1 = same_Some place e.1 at in
-    ap (λ (o : Option Origin). record { position = e.0.position; origin = o; leaf = true } ∷ nodes_of es) (ap (λ (p : Place). p.origin) same)
+    ap (λ (o : Option Origin). record { position = e.0.position; origin = o; leaf = true } ∷ nodes_of es) (ap (λ (p : NodeMark). p.origin) same)
 marked_entries (e ∷ es) (suc i) place at = ap (λ (ns : List Node). node_of e ∷ ns) (marked_entries es i place at)
 
-kept_length : (es : List (Spot × Place)) (i : ℕ) (place : Place) → length (set_value_at es i place) ≡ length es
+kept_length : (es : List (Spot × NodeMark)) (i : ℕ) (place : NodeMark) → length (set_value_at es i place) ≡ length es
 kept_length [] i place = refl
 kept_length (e ∷ es) zero place = refl
 kept_length (e ∷ es) (suc i) place = ap suc (kept_length es i place)
 
-pub stored_mark : (es : List (Spot × Place)) (lists : List (List ℕ)) (slots i : ℕ) (place : Place) → AreStored es lists slots → Some place ≡ slice_get (values_of es) i → ((b : ℕ) → Has (list_at lists b) i → ⊥)
+pub stored_mark : (es : List (Spot × NodeMark)) (lists : List (List ℕ)) (slots i : ℕ) (place : NodeMark) → AreStored es lists slots → Some place ≡ slice_get (values_of es) i → ((b : ℕ) → Has (list_at lists b) i → ⊥)
     → AreStored (set_value_at es i (record { origin = place.origin; leaf = true })) lists slots
 stored_mark es lists slots i place was at free = record {
   store = subst (λ (ns : List Node). IsStore ns lists) (sym (marked_entries es i place at)) (store_mark (nodes_of es) lists i was.store free);
@@ -95,7 +95,7 @@ stored_mark es lists slots i place was at free = record {
 }
 
 -- the node of an entry
-pub node_entry : (es : List (Spot × Place)) (i : ℕ) (spot : Spot) (place : Place) → slice_get es i ≡ Some (spot, place) → slice_get (nodes_of es) i ≡ Some (node_of (spot, place))
+pub node_entry : (es : List (Spot × NodeMark)) (i : ℕ) (spot : Spot) (place : NodeMark) → slice_get es i ≡ Some (spot, place) → slice_get (nodes_of es) i ≡ Some (node_of (spot, place))
 node_entry [] i spot place at = cc
-node_entry (e ∷ es) zero spot place at = ap (λ (o : Option (Spot × Place)). option_map node_of o) at
+node_entry (e ∷ es) zero spot place at = ap (λ (o : Option (Spot × NodeMark)). option_map node_of o) at
 node_entry (e ∷ es) (suc i) spot place at = node_entry es i spot place at

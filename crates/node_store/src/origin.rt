@@ -11,7 +11,7 @@ pub struct Origin {
 
 /// What is kept of a node beside its position.
 #[derive(Clone, Copy)]
-pub struct Place {
+pub struct NodeMark {
     pub origin: Option<Origin>,
     pub leaf: bool,
 }

@@ -7,7 +7,7 @@ ghost use Rattle.node_store.specs.Nodes.{leaves, origins, mark, IsAt, IsNew, IsR
 ghost use Rattle.node_store.specs.Graphs.{IsStore, HasOrigin};
 
 use crate::chains::Chains;
-use crate::origin::{Origin, Place};
+use crate::origin::{NodeMark, Origin};
 use crate::spot::Spot;
 use cha_board::{Kept, Position};
 use cha_list::{NoMemory, Steps};
@@ -22,7 +22,7 @@ use std::sync::ledger::Ledger;
 /// nodes room was made ready.
 #[derive(Drop)]
 pub struct Store {
-    nodes: IndexMap<Spot, Place>,
+    nodes: IndexMap<Spot, NodeMark>,
     pub(crate) waiting: Chains,
 }
 
@@ -51,7 +51,7 @@ impl Store {
         let mut waiting = Chains::new(alloc);
         waiting.reserve(1)?;
         let mut nodes = IndexMap::new(alloc);
-        let place = Place {
+        let place = NodeMark {
             origin: None,
             leaf: false,
         };
@@ -157,7 +157,7 @@ impl Store {
         let spot = Spot {
             position: Kept::of(position),
         };
-        let place = Place {
+        let place = NodeMark {
             origin: Some(origin),
             leaf,
         };

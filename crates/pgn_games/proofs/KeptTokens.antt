@@ -17,7 +17,7 @@ use Rattle.pgn_games.specs.declared.token_turns.Place.{Place}
 use Rattle.pgn_games.specs.Cutting.{turn, place_after, place_behind, is_before, cut}
 use Rattle.pgn_games.specs.Games.{placed_game_of, placed_games, is_closed}
 use Rattle.pgn_games.specs.Settling.{games_ended, settled_games}
-use Rattle.pgn_games.specs.Holding.{first_end, IsScanned, IsCut, IsCutAtEnd, IsOpen, IsLast}
+use Rattle.pgn_games.specs.Holding.{first_end, IsScanned, IsCut, IsCutAtEnd, IsHeldOpen, IsLast}
 use Rattle.pgn_games.proofs.GameEnds.{closes, ended_place, none_ended, some_first, none_scanned, nothing_scanned, open_game}
 
 -- before the first byte
@@ -154,7 +154,7 @@ all_settled fed bytes game behind place given h scanned none e =
     ap (games_ended Before) (sym (append-nil (settled_tokens fed))) ∙ h.counts [] ∙ ap (λ xs. given + games_ended Before xs) (append-nil (game ++ behind) ∙ kept) in
     omega (arith, ap (λ bs. games_ended Before (settled_tokens bs)) e, count, none_ended Before game (none_scanned game place scanned))
 
-nothing_settled : IsOpen [] false [] [] 0 0 0
+nothing_settled : IsHeldOpen [] false [] [] 0 0 0
 unfolding settled_tokens has_half_mark has_mark settled_after
 nothing_settled = record {
   not_ended = refl;
@@ -165,7 +165,7 @@ nothing_settled = record {
   few_bytes = omega arith;
 }
 
-pub opened : (fed : List ℕ) (ended : Bool) (game behind : List Placed) (piece : List ℕ) → fed ≡ [] → ended ≡ false → game ≡ [] → behind ≡ [] → piece ≡ [] → IsOpen fed ended (game ++ behind) piece 0 0 0 × IsScanned game Before
+pub opened : (fed : List ℕ) (ended : Bool) (game behind : List Placed) (piece : List ℕ) → fed ≡ [] → ended ≡ false → game ≡ [] → behind ≡ [] → piece ≡ [] → IsHeldOpen fed ended (game ++ behind) piece 0 0 0 × IsScanned game Before
 opened fed ended game behind piece e f g h i = rw (e, f, g, h, i) (nothing_settled, nothing_scanned)
 
 drop_none : (n : ℕ) → drop {A = ℕ} n [] ≡ []
@@ -173,7 +173,7 @@ drop_none zero = refl
 drop_none (suc n) = refl
 
 -- the end of the source
-pub ended : (fed fed' : List ℕ) (lexer_ended : Bool) (game behind behind' : List Placed) (piece : List ℕ) (used given taken : ℕ) → IsOpen fed lexer_ended (game ++ behind) piece used given taken → fed' ≡ fed → piece ≡ []
+pub ended : (fed fed' : List ℕ) (lexer_ended : Bool) (game behind behind' : List Placed) (piece : List ℕ) (used given taken : ℕ) → IsHeldOpen fed lexer_ended (game ++ behind) piece used given taken → fed' ≡ fed → piece ≡ []
     → Appends behind behind' (settled_tokens fed) (tokens fed) → IsLast fed' (game ++ behind') piece used given
 ended fed fed' lexer_ended game behind behind' piece used given taken h same none a = rw same (record {
   told = told_last (settled_tokens fed) (tokens fed) (game ++ behind) (game ++ behind') a.added given h.told a.are_next (ap (λ xs. game ++ xs) a.appended ∙ sym (append_assoc game behind a.added));
@@ -184,7 +184,7 @@ ended fed fed' lexer_ended game behind behind' piece used given taken h same non
 
 -- the text is closed where a line begins and no game is open
 pub ends_closed : (fed fed' : List ℕ) (lexer_ended : Bool) (game behind behind' : List Placed) (place place' : Place) (piece : List ℕ) (used given taken : ℕ) (line closed : Bool)
-    → IsOpen fed lexer_ended (game ++ behind) piece used given taken → IsScanned game place → behind ≡ [] → fed' ≡ fed → piece ≡ []
+    → IsHeldOpen fed lexer_ended (game ++ behind) piece used given taken → IsScanned game place → behind ≡ [] → fed' ≡ fed → piece ≡ []
     → Appends behind behind' (settled_tokens fed) (tokens fed) → line ≡ ends_line fed' → place' ≡ place_behind place behind' → closed ≡ (line && is_before place') → closed ≡ is_closed (fed' ++ drop used piece)
 unfolding is_closed
 ends_closed fed fed' lexer_ended game behind behind' place place' piece used given taken line closed h scanned none same nothing a l p c =
@@ -223,8 +223,8 @@ pub waits_on : (taken taken' : List ℕ) (given given' : ℕ) → (piece : List 
 waits_on taken taken' given given' w e p = (w.0, (w.1.0, e ∙ w.1.1, w.1.2, omega (arith, w.1.3, p)))
 
 -- the game is given, and those behind it are kept
-pub gave_is_open : (fed : List ℕ) (lexer_ended : Bool) (game behind : List Placed) (piece : List ℕ) (used given taken : ℕ) (game' : List Placed) (given' : ℕ) → IsOpen fed lexer_ended (game ++ behind) piece used given taken
-    → first_end Before (game ++ behind) ≡ Some (length game) → game' ≡ [] → given' ≡ given + 1 → IsOpen fed lexer_ended (game' ++ behind) piece used given' taken
+pub gave_is_open : (fed : List ℕ) (lexer_ended : Bool) (game behind : List Placed) (piece : List ℕ) (used given taken : ℕ) (game' : List Placed) (given' : ℕ) → IsHeldOpen fed lexer_ended (game ++ behind) piece used given taken
+    → first_end Before (game ++ behind) ≡ Some (length game) → game' ≡ [] → given' ≡ given + 1 → IsHeldOpen fed lexer_ended (game' ++ behind) piece used given' taken
 gave_is_open fed lexer_ended game behind piece used given taken game' given' h whole none g = record {
   not_ended = h.not_ended;
   told = gave_open (settled_tokens fed) game behind (game' ++ behind) given given' h.told whole (ap (λ xs. xs ++ behind) none) g;
@@ -259,7 +259,7 @@ pub none_found : (fed bytes : List ℕ) (game behind : List Placed) (given g : �
 none_found fed bytes game behind given g h none nothing e f = omega (arith, none_last fed bytes (game ++ behind) given h (rw (none, nothing) refl) e, f)
 
 -- no more tokens than places
-pub few_open : (fed : List ℕ) (ended : Bool) (game behind : List Placed) (piece : List ℕ) (used given taken : ℕ) → IsOpen fed ended (game ++ behind) piece used given taken → length game + length behind < 2 ^ 64 - 1
+pub few_open : (fed : List ℕ) (ended : Bool) (game behind : List Placed) (piece : List ℕ) (used given taken : ℕ) → IsHeldOpen fed ended (game ++ behind) piece used given taken → length game + length behind < 2 ^ 64 - 1
 few_open fed ended game behind piece used given taken h = omega (arith, h.told.few, h.sparse, h.taken_is, h.few_bytes, length-append game behind)
 
 pub few_last : (fed : List ℕ) (game behind : List Placed) (piece : List ℕ) (used given : ℕ) → IsLast fed (game ++ behind) piece used given → length game + length behind < 2 ^ 64 - 1

@@ -50,7 +50,7 @@ pub record IsCutAtEnd (told rest : List Placed) (given : ℕ) : Type 0 where
 
 -- What is kept while the source goes on: the tokens of the bytes that were fed, but for those of the games that were given, and the
 -- rest of the piece that was read last.
-pub record IsOpen (fed : List ℕ) (lexer_ended : Bool) (kept : List Placed) (piece : List ℕ) (used given taken : ℕ) : Type 0 where
+pub record IsHeldOpen (fed : List ℕ) (lexer_ended : Bool) (kept : List Placed) (piece : List ℕ) (used given taken : ℕ) : Type 0 where
   pub not_ended : lexer_ended ≡ false
   pub told : IsCut (settled_tokens fed) kept given
   pub sparse : length (settled_tokens fed) ≤ 2 * length fed

@@ -8,14 +8,14 @@ use Rattle.pgn_games.specs.declared.cutter.Cutter.{Cutter}
 use Rattle.pgn_games.specs.Games.{is_closed}
 use Rattle.pgn_games.specs.Reading.{TookNoMore}
 use Rattle.pgn_games.specs.Settling.{settled_games}
-use Rattle.pgn_games.specs.Holding.{first_end, IsScanned, IsOpen, IsLast}
+use Rattle.pgn_games.specs.Holding.{first_end, IsScanned, IsHeldOpen, IsLast}
 
 -- the bytes that were taken of the source
 abbrev pub taken_by : Cutter → List ℕ
 taken_by c = c.lexer.fed ++ drop c.used c.piece.items
 
 abbrev pub IsOpenAt : Cutter → Type 0
-IsOpenAt c = IsOpen c.lexer.fed c.lexer.ended (c.game ++ c.behind.items) c.piece.items c.used c.given c.taken
+IsOpenAt c = IsHeldOpen c.lexer.fed c.lexer.ended (c.game ++ c.behind.items) c.piece.items c.used c.given c.taken
 
 abbrev pub IsLastAt : Cutter → Type 0
 IsLastAt c = IsLast c.lexer.fed (c.game ++ c.behind.items) c.piece.items c.used c.given

@@ -10,7 +10,7 @@ ghost use Rattle.pgn_games.specs.Settling.{settled_games};
 ghost use Rattle.pgn_games.specs.Reading.{Takes};
 
 use crate::filling::{Filled, MOST_TAKEN, fill};
-use crate::gathering::{Standing, gather, gather_any};
+use crate::gathering::{Wholeness, gather, gather_any};
 use crate::played::PlacedGame;
 use crate::summary::Summary;
 use crate::token_turns::{Place, is_as_new, led_to};
@@ -82,23 +82,23 @@ impl Cutter {
     }
 
     /// Feeds the piece byte by byte, until the game is whole or the piece is used up.
-    pub fn feed_piece(&mut self) -> Result<Standing, NoMemory>
+    pub fn feed_piece(&mut self) -> Result<Wholeness, NoMemory>
         requires open { IsOpenAt self.old }
         requires scanned { IsScannedAt self.old }
         ensures taken { taken_by self.new ≡ taken_by self.old }
         ensures same { (self.new.given ≡ self.old.given) × (self.new.taken ≡ self.old.taken) }
         ensures piece { self.new.piece ≡ self.old.piece }
         ensures open { OnOk result (IsOpenAt self.new) }
-        ensures whole { result ≡ Ok Standing.Whole → HasGame self.new }
-        ensures used_up { result ≡ Ok Standing.Open → IsScannedAt self.new × (self.new.behind.items ≡ []) × (self.new.used ≡ length self.new.piece.items) }
+        ensures whole { result ≡ Ok Wholeness.Whole → HasGame self.new }
+        ensures used_up { result ≡ Ok Wholeness.Open → IsScannedAt self.new × (self.new.behind.items ≡ []) × (self.new.used ≡ length self.new.piece.items) }
     {
         loop {
             match gather_any(&mut self.game, &mut self.behind, &mut self.place)? {
-                Standing::Whole => return Ok(Standing::Whole),
-                Standing::Open => {}
+                Wholeness::Whole => return Ok(Wholeness::Whole),
+                Wholeness::Open => {}
             }
             if self.used == self.piece.len() {
-                return Ok(Standing::Open);
+                return Ok(Wholeness::Open);
             }
             self.feed_next()?;
         }
@@ -205,8 +205,8 @@ impl Cutter {
     {
         loop {
             match self.feed_piece() {
-                Ok(Standing::Whole) => return Ok(Advanced::Whole),
-                Ok(Standing::Open) => {}
+                Ok(Wholeness::Whole) => return Ok(Advanced::Whole),
+                Ok(Wholeness::Open) => {}
                 Err(_) => return Err(ReadEnd::NoMemory),
             }
             match self.refill(room, source) {
@@ -223,13 +223,13 @@ impl Cutter {
     }
 
     /// Finds whether a game is left, once the source has ended.
-    pub fn finish(&mut self) -> Result<Standing, NoMemory>
+    pub fn finish(&mut self) -> Result<Wholeness, NoMemory>
         requires last { IsLastAt self.old }
         requires scanned { IsScannedAt self.old }
         ensures same { (self.new.given ≡ self.old.given) × (self.new.lexer ≡ self.old.lexer) × (self.new.piece ≡ self.old.piece) × (self.new.used ≡ self.old.used) × (self.new.closed ≡ self.old.closed) }
         ensures last { OnOk result (IsLastAt self.new) }
-        ensures whole { result ≡ Ok Standing.Whole → HasGame self.new }
-        ensures open { result ≡ Ok Standing.Open → IsScannedAt self.new × (self.new.behind.items ≡ []) }
+        ensures whole { result ≡ Ok Wholeness.Whole → HasGame self.new }
+        ensures open { result ≡ Ok Wholeness.Open → IsScannedAt self.new × (self.new.behind.items ≡ []) }
     {
         gather(&mut self.game, &mut self.behind, &mut self.place)
     }
@@ -271,8 +271,8 @@ impl Cutter {
         ensures none { result ≡ Ok None → length (placed_games (taken_by self.old)) ≤ self.old.given }
     {
         match self.finish()? {
-            Standing::Whole => Ok(Some(self.take_game(alloc))),
-            Standing::Open => {
+            Wholeness::Whole => Ok(Some(self.take_game(alloc))),
+            Wholeness::Open => {
                 if self.game.is_empty() {
                     return Ok(None);
                 }

@@ -13,7 +13,7 @@ use pgn_lex::Placed;
 
 /// Whether the game that is being read is whole.
 #[derive(Clone, Copy, Debug, PartialEq, Eq)]
-pub enum Standing {
+pub enum Wholeness {
     /// It is: its last token is known.
     Whole,
     /// It goes on, or has not begun.
@@ -25,12 +25,12 @@ pub fn gather(
     game: &mut Summary,
     behind: &mut Vec<Placed>,
     place: &mut Place,
-) -> Result<Standing, NoMemory>
+) -> Result<Wholeness, NoMemory>
     requires scanned { IsScanned game.old place.old }
     requires few { length game.old + length behind.old.items < 2 ^ 64 - 1 }
     ensures same { OnOk result (game.new ++ behind.new.items ≡ game.old ++ behind.old.items) }
-    ensures open { result ≡ Ok Standing.Open → IsScanned game.new place.new × (behind.new.items ≡ []) }
-    ensures whole { result ≡ Ok Standing.Whole → first_end Before (game.new ++ behind.new.items) ≡ Some (length game.new) }
+    ensures open { result ≡ Ok Wholeness.Open → IsScanned game.new place.new × (behind.new.items ≡ []) }
+    ensures whole { result ≡ Ok Wholeness.Whole → first_end Before (game.new ++ behind.new.items) ≡ Some (length game.new) }
 {
     while !behind.as_slice().is_empty() {
         match turned(*place, &behind[0].token) {
@@ -42,12 +42,12 @@ pub fn gather(
             Turn::Ends => {
                 let token = behind.remove(0);
                 game.take(token)?;
-                return Ok(Standing::Whole);
+                return Ok(Wholeness::Whole);
             }
-            Turn::Begins => return Ok(Standing::Whole),
+            Turn::Begins => return Ok(Wholeness::Whole),
         }
     }
-    Ok(Standing::Open)
+    Ok(Wholeness::Open)
 }
 
 /// The same, where there may be no token: most bytes give none.
@@ -56,15 +56,15 @@ pub fn gather_any(
     game: &mut Summary,
     behind: &mut Vec<Placed>,
     place: &mut Place,
-) -> Result<Standing, NoMemory>
+) -> Result<Wholeness, NoMemory>
     requires scanned { IsScanned game.old place.old }
     requires few { length game.old + length behind.old.items < 2 ^ 64 - 1 }
     ensures same { OnOk result (game.new ++ behind.new.items ≡ game.old ++ behind.old.items) }
-    ensures open { result ≡ Ok Standing.Open → IsScanned game.new place.new × (behind.new.items ≡ []) }
-    ensures whole { result ≡ Ok Standing.Whole → first_end Before (game.new ++ behind.new.items) ≡ Some (length game.new) }
+    ensures open { result ≡ Ok Wholeness.Open → IsScanned game.new place.new × (behind.new.items ≡ []) }
+    ensures whole { result ≡ Ok Wholeness.Whole → first_end Before (game.new ++ behind.new.items) ≡ Some (length game.new) }
 {
     if behind.as_slice().is_empty() {
-        return Ok(Standing::Open);
+        return Ok(Wholeness::Open);
     }
     gather(game, behind, place)
 }

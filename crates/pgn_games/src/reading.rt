@@ -12,7 +12,7 @@ ghost use Rattle.pgn_games.specs.Keeping.{found_one};
 ghost use Rattle.pgn_games.specs.Reading.{Takes, TookNoMore, gives_game};
 
 use crate::cutter::{Advanced, Cutter};
-use crate::gathering::Standing;
+use crate::gathering::Wholeness;
 use crate::opening::games_begin_at_the_opening;
 use crate::played::PlacedGame;
 use cha_list::NoMemory;
@@ -146,8 +146,8 @@ impl Reader {
             return Ok(None);
         }
         match self.cutter.feed_piece() {
-            Ok(Standing::Whole) => Ok(Some(self.cutter.give(self.alloc))),
-            Ok(Standing::Open) => Ok(None),
+            Ok(Wholeness::Whole) => Ok(Some(self.cutter.give(self.alloc))),
+            Ok(Wholeness::Open) => Ok(None),
             Err(refused) => {
                 self.failed = true;
                 Err(refused)

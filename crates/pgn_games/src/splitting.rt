@@ -7,7 +7,7 @@ ghost use Rattle.pgn_games.specs.Games.{placed_games, is_closed as is_closed_tex
 ghost use Rattle.pgn_games.specs.Settling.{settled_games};
 
 use crate::cutter::Cutter;
-use crate::gathering::Standing;
+use crate::gathering::Wholeness;
 use crate::played::PlacedGame;
 use cha_list::NoMemory;
 use cha_outside::MOST_BYTES;
@@ -105,11 +105,11 @@ impl Splitter {
     {
         if !self.ended {
             match self.cutter.feed_piece() {
-                Ok(Standing::Whole) => {
+                Ok(Wholeness::Whole) => {
                     self.spent = false;
                     return Ok(Some(self.cutter.give(self.alloc)));
                 }
-                Ok(Standing::Open) => {
+                Ok(Wholeness::Open) => {
                     self.spent = true;
                     return Ok(None);
                 }

@@ -12,7 +12,7 @@ use Rattle.pgn_games.proofs.KeptTokens.{nothing_more, waits_on}
 use Rattle.pgn_games.proofs.Settled.{settled_grow}
 use Rattle.pgn_results.specs.declared.intake.Intake.{Intake}
 use Rattle.pgn_results.specs.Correcting.{between}
-use Rattle.pgn_results.specs.Keeping.{arrived, IsOpen, Waits}
+use Rattle.pgn_results.specs.Keeping.{arrived, IsGoingOn, Waits}
 use Rattle.pgn_results.proofs.GameByGame.{same_first}
 
 -- the games given are the same, whatever comes
@@ -56,16 +56,16 @@ given_few bytes n k None there few same = tt
 given_few bytes n k (Some game) there few same = omega (arith, games_few bytes n game there, few, same)
 
 -- all that came was handed on
-pub arrived_is : (i : Intake) → IsOpen i false → arrived i ≡ i.games.taken
+pub arrived_is : (i : Intake) → IsGoingOn i false → arrived i ≡ i.games.taken
 arrived_is i h = ap (λ xs. i.games.taken ++ xs) h.handed_on ∙ append-nil i.games.taken
 
-pub settled_of : (i : Intake) → IsOpen i false → i.games.given ≤ settled_games (arrived i)
+pub settled_of : (i : Intake) → IsGoingOn i false → i.games.given ≤ settled_games (arrived i)
 settled_of i h = omega (arith, h.settled refl, ap settled_games (arrived_is i h))
 
 -- a piece was kept and handed on
-pub open_more : (i j : Intake) (piece : List ℕ) → IsOpen i false → (j.games.failed ≡ false) × (j.games.ended ≡ false) → j.piece.items ≡ []
+pub open_more : (i j : Intake) (piece : List ℕ) → IsGoingOn i false → (j.games.failed ≡ false) × (j.games.ended ≡ false) → j.piece.items ≡ []
     → arrived j ≡ i.games.taken ++ piece → j.games.given ≡ i.games.given → j.kept ≡ drop i.written i.kept ++ piece → (j.start ≡ i.start + i.written) × (j.written ≡ 0)
-    → i.start + (length i.kept + length piece) ≤ MOST_BYTES → length piece ≤ 8388608 → settled_games i.games.taken ≤ i.games.given → IsOpen j false
+    → i.start + (length i.kept + length piece) ≤ MOST_BYTES → length piece ≤ 8388608 → settled_games i.games.taken ≤ i.games.given → IsGoingOn j false
 open_more i j piece h games handed_on now given kept start few short needed =
     let taken : j.games.taken ≡ i.games.taken ++ piece = sym (ap (λ xs. j.games.taken ++ xs) handed_on ∙ append-nil j.games.taken) ∙ now in
     let size = ap length taken ∙ length-append i.games.taken piece in
@@ -89,7 +89,7 @@ first_on given games now mid before e second first =
     ap (λ n. take n (placed_games now)) (sym e) ∙ second ∙ ap (λ n. take n (placed_games mid)) e ∙ first
 
 -- all of what has come waits, where the piece that came last was handed on
-pub arrived_waits : (i : Intake) (taken : List ℕ) (given : ℕ) (ended : Bool) → IsOpen i ended → taken ≡ i.games.taken → i.games.given ≡ given → Waits (taken ++ i.piece.items) given
+pub arrived_waits : (i : Intake) (taken : List ℕ) (given : ℕ) (ended : Bool) → IsGoingOn i ended → taken ≡ i.games.taken → i.games.given ≡ given → Waits (taken ++ i.piece.items) given
 arrived_waits i taken given ended h same e = waits_on _ _ _ _ h.waits (ap (λ xs. taken ++ xs) h.handed_on ∙ append-nil taken ∙ same) (omega (arith, e))
 
 -- where nothing has come, no piece was taken

@@ -29,7 +29,7 @@ Waits taken given = (piece : List ℕ) × TookNoMore taken piece given
 -- No call failed: the splitter has taken all bytes, and is open as long as the source is; the bytes that are kept are the last ones of
 -- them, as many as were not written at least; as long as the source has not ended, the games given are settled; the last piece was taken
 -- when it was needed, and the end when each game that is settled was given.
-pub record IsOpen (i : Intake) (ended : Bool) : Type 0 where
+pub record IsGoingOn (i : Intake) (ended : Bool) : Type 0 where
   pub handed_on : i.piece.items ≡ []
   pub games : (i.games.failed ≡ false) × (i.games.ended ≡ ended)
   pub few : length i.games.taken ≤ MOST_BYTES
@@ -42,7 +42,7 @@ pub record IsOpen (i : Intake) (ended : Bool) : Type 0 where
 
 -- the same, as long as no call failed
 abbrev pub IsKept : Intake → Bool → Bool → Type 0
-IsKept i ended failed = failed ≡ false → IsOpen i ended
+IsKept i ended failed = failed ≡ false → IsGoingOn i ended
 
 -- what is written of a game, with what stands before it from a place on
 abbrev pub piece_of : List ℕ → ℕ → Span → Option ResultMark → List ℕ

@@ -8,7 +8,7 @@ ghost use Rattle.cha_outside.specs.Gathering.{Gathers};
 ghost use Rattle.pgn_games.specs.Games.{placed_games};
 ghost use Rattle.pgn_games.specs.Settling.{settled_games};
 ghost use Rattle.pgn_results.specs.Correcting.{between};
-ghost use Rattle.pgn_results.specs.Keeping.{IsOpen, Waits, arrived};
+ghost use Rattle.pgn_results.specs.Keeping.{IsGoingOn, Waits, arrived};
 
 use cha_list::{NoMemory, Text, text_of};
 use cha_outside::{MOST_BYTES, ReadEnd, Source};
@@ -37,16 +37,16 @@ impl Intake {
     /// Reads the next piece of a source and hands it on, or finds that the source has ended. No game that is
     /// settled may be left to give. After an error no call may follow.
     pub fn refill<S: Source>(&mut self, source: &mut S) -> Result<Filled, ReadEnd>
-        requires open { IsOpen self.old false }
+        requires open { IsGoingOn self.old false }
         requires spent { self.old.games.spent ≡ true }
         requires needed { settled_games self.old.games.taken ≤ self.old.games.given }
         ensures bytes { Gathers (S.left source.old) (S.left source.new) (arrived self.old) (arrived self.new) }
         ensures written { self.new.start + self.new.written ≡ self.old.start + self.old.written }
         ensures given { self.new.games.given ≡ self.old.games.given }
         ensures first { take self.old.games.given (placed_games (arrived self.new)) ≡ take self.old.games.given (placed_games (arrived self.old)) }
-        ensures more { result ≡ Ok Filled.More → IsOpen self.new false }
+        ensures more { result ≡ Ok Filled.More → IsGoingOn self.new false }
         ensures longer { result ≡ Ok Filled.More → length (arrived self.old) < length (arrived self.new) }
-        ensures end { result ≡ Ok Filled.End → IsOpen self.new true × IsAtEnd (S.left source.new) }
+        ensures end { result ≡ Ok Filled.End → IsGoingOn self.new true × IsAtEnd (S.left source.new) }
         ensures read_fault { result ≡ Err ReadEnd.ReadFault → Rose (S.faults source.old) (S.faults source.new) × (arrived self.new ≡ arrived self.old) }
         ensures too_long { (result ≡ Err ReadEnd.TooLong) ↔ (MOST_BYTES < length (arrived self.new)) }
         ensures few { length (arrived self.new) ≤ MOST_BYTES + 4096 }

@@ -15,7 +15,7 @@ use Rattle.root_workers.specs.Making.{at_default}
 use Rattle.shard_table.specs.Tables.{IsOfTable, SplitsAll, splits_of}
 use Rattle.shard_table.specs.declared.table.Table.{Table}
 use Rattle.shard_table.specs.declared.table.TablePass.{TablePass}
-use Rattle.root_workers.specs.declared.task.Task.{Task}
+use Rattle.root_workers.specs.declared.task.RoundTask.{RoundTask}
 use Rattle.root_workers.specs.declared.work.Work.{Work}
 use Rattle.root_workers.specs.declared.work.Worker.{Worker}
 use Rattle.root_workers.specs.declared.answers.RoundsEnd.{RoundsEnd}
@@ -25,13 +25,13 @@ use Rattle.root_workers.specs.Crews.{IsCrew, CrewMakes, LeavesWork, WorkerDone}
 use Rattle.root_workers.specs.Splits.{OnlySplits, IsFresh, AreFresh}
 
 -- what all calls keep is kept by a worker's part of a round
-pub calls_keep : {S X : Type 0} (made : S → List Entry → S → Type 0) (f : S → X) (a b : S) (task : Task) (moves : List Move) (number count : ℕ) (work : Work)
+pub calls_keep : {S X : Type 0} (made : S → List Entry → S → Type 0) (f : S → X) (a b : S) (task : RoundTask) (moves : List Move) (number count : ℕ) (work : Work)
     → ((xs : List Entry) → made a xs b → f b ≡ f a) → ShareCalls made a b task moves number count work → f b ≡ f a
 unfolding ShareCalls
 calls_keep made f a b task moves number count work keeps calls = keeps calls.0 calls.1
 
 -- the calls of one place are the calls of another
-pub calls_seen : {S T : Type 0} (made : S → List Entry → S → Type 0) (lifted : T → List Entry → T → Type 0) (a b : S) (x y : T) (task : Task) (moves : List Move) (number count : ℕ) (work : Work)
+pub calls_seen : {S T : Type 0} (made : S → List Entry → S → Type 0) (lifted : T → List Entry → T → Type 0) (a b : S) (x y : T) (task : RoundTask) (moves : List Move) (number count : ℕ) (work : Work)
     → ((xs : List Entry) → made a xs b → lifted x xs y) → ShareCalls made a b task moves number count work → ShareCalls lifted x y task moves number count work
 unfolding ShareCalls
 calls_seen made lifted a b x y task moves number count work lift calls = (calls.0, lift calls.0 calls.1, calls.2, calls.3)
@@ -121,7 +121,7 @@ one_more_fresh first old new crew w before only split = worker_at (λ i x. IsFre
 })
 
 -- all workers did their parts of a round
-module _ (table : Table) (task : Task) (moves : List Move) where
+module _ (table : Table) (task : RoundTask) (moves : List Move) where
   abbrev pub AreDone : List Worker → List Worker → Type 0
   AreDone old new = (i : ℕ) (d : Worker) → i < length old → WorkerDone table task moves (length old) (slice_index_or old i d) (slice_index_or new i d)
 
@@ -164,7 +164,7 @@ module _ (table : Table) (task : Task) (moves : List Move) where
 pub written_back : {X : Type 0} (xs ys : List X) (len : ℕ) → len ≡ length ys → take len (ys ++ drop (length ys) xs) ≡ ys
 written_back xs ys len same = ap (λ (n : ℕ). take n (ys ++ drop (length ys) xs)) same ∙ take-append_seam ys (drop (length ys) xs)
 
-module _ (table : Table) (task : Task) (moves : List Move) where
+module _ (table : Table) (task : RoundTask) (moves : List Move) where
   pub done_back : (old items new : List Worker) (len : ℕ) → old ≡ items → len ≡ length items → length new ≡ length old → AreDone table task moves old new
       → (length (take len (new ++ drop (length new) items)) ≡ length items) × AreDone table task moves items (take len (new ++ drop (length new) items))
   done_back old items new len is all same done =

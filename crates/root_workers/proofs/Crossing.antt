@@ -5,7 +5,7 @@ use Rattle.shard_table.proofs.Sending.{call_send, reply_send, shard_send, table_
 use Rattle.helpmate.below.atomic_table.proofs.shared.Seat.TheSendSync.{the_send as seat_send}
 use Rattle.cha_moves.specs.contracts.chess_move.Move.{the_row as move_row}
 use Rattle.root_workers.proofs.work.Work.TheSendSync.{the_send as work_send}
-use Rattle.root_workers.specs.contracts.task.Task.{the_row as task_row}
+use Rattle.root_workers.specs.contracts.task.RoundTask.{the_row as task_row}
 use Rattle.root_workers.specs.contracts.work.Worker.{the_row as worker_row}
 
 pub move_sync : IsSync move_row

@@ -26,7 +26,7 @@ use Rattle.helpmate.specs.declared.answers.RoundAnswer.TheVariants.{NoneWithin a
 use Rattle.helpmate.specs.Rounds.{decided_by}
 use Rattle.helpmate.proofs.Saying.{says_none}
 use Rattle.helpmate.proofs.Trying.{the_same}
-use Rattle.root_workers.specs.declared.task.Task.{Task}
+use Rattle.root_workers.specs.declared.task.RoundTask.{RoundTask}
 use Rattle.root_workers.specs.declared.work.Work.{Work}
 use Rattle.root_workers.specs.declared.answers.RoundsEnd.{RoundsEnd}
 use Rattle.root_workers.specs.declared.answers.RoundsEnd.TheVariants.{Mate, NoneWithin}
@@ -225,19 +225,19 @@ deepened_kept made made_by count old mid new q w from all inner result claim bot
     (d.0 ++ g.0, both i old mid new d.0 g.0 d.1 g.1, (λ n is more deep. shares_front d.0 g.0 q w (n - 1) (legal q) i all (d.2 n (ends (NoneWithin n) is) more deep)))
 
 -- one worker has all root moves
-pub one_share : (task : Task) (moves : List Move) (i : ℕ) (a b : Work) → IsShare task moves 0 1 a → i < 1 → b ≡ a → IsShare task moves i 1 b
+pub one_share : (task : RoundTask) (moves : List Move) (i : ℕ) (a b : Work) → IsShare task moves 0 1 a → i < 1 → b ≡ a → IsShare task moves i 1 b
 one_share task moves i a b share less is =
     let e : 0 ≡ i = omega (arith, less) in
     subst (λ (k : ℕ). IsShare task moves k 1 b) e (subst (λ (x : Work). IsShare task moves 0 1 x) (sym is) share)
 
-pub one_calls : {S T : Type 0} (made : S → List Entry → S → Type 0) (lifted : T → List Entry → T → Type 0) (a b : S) (x y : T) (task : Task) (moves : List Move) (i : ℕ) (u v : Work)
+pub one_calls : {S T : Type 0} (made : S → List Entry → S → Type 0) (lifted : T → List Entry → T → Type 0) (a b : S) (x y : T) (task : RoundTask) (moves : List Move) (i : ℕ) (u v : Work)
     → ((entries : List Entry) → made a entries b → lifted x entries y) → ShareCalls made a b task moves 0 1 u → i < 1 → v ≡ u → ShareCalls lifted x y task moves i 1 v
 unfolding ShareCalls
 one_calls made lifted a b x y task moves i u v lift calls less is =
     let e : 0 ≡ i = omega (arith, less) in
     subst (λ (k : ℕ). ShareCalls lifted x y task moves k 1 v) e (subst (λ (z : Work). ShareCalls lifted x y task moves 0 1 z) (sym is) (calls.0, lift calls.0 calls.1, calls.2, calls.3))
 
-pub one_grows : {S T : Type 0} (made : S → List Entry → S → Type 0) (lifted : ℕ → T → List Entry → T → Type 0) (a b : S) (x y : T) (task : Task) (moves : List Move) (u : Work) (count : ℕ)
+pub one_grows : {S T : Type 0} (made : S → List Entry → S → Type 0) (lifted : ℕ → T → List Entry → T → Type 0) (a b : S) (x y : T) (task : RoundTask) (moves : List Move) (u : Work) (count : ℕ)
     → ((i : ℕ) (entries : List Entry) → made a entries b → lifted i x entries y) → ShareCalls made a b task moves 0 1 u → AllGrowTo task.depth lifted x y count
 unfolding ShareCalls AllGrowTo
 one_grows made lifted a b x y task moves u count lift calls i less = (calls.0, lift i calls.0 calls.1, calls.2)

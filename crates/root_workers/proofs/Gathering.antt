@@ -10,37 +10,37 @@ use Rattle.cha_board.specs.Men.{other_color}
 use Rattle.cha_moves.specs.Step.{Move}
 use Rattle.cha_moves.specs.Moves.{after, legal}
 use Rattle.cha_moves.specs.Ends.{IsMated, IsMatingLine, HasNoMateWithin}
-use Rattle.root_workers.specs.declared.task.Task.{Task}
+use Rattle.root_workers.specs.declared.task.RoundTask.{RoundTask}
 use Rattle.root_workers.specs.declared.work.RootMate.{RootMate}
 use Rattle.root_workers.specs.declared.work.Work.{Work}
 use Rattle.root_workers.specs.Shares.{IsWhole, IsCleared, IsRootMate, IsShare}
 use Rattle.root_workers.specs.Gathers.{IsNoHigher, IsRootMateOr, AreShares, AreWhole}
 
-pub share_at : (leaves : ℕ → Work → Type 0) (task : Task) (moves : List Move) (count i : ℕ) (work : Work) → AreShares leaves task moves count → i < count → leaves i work → IsShare task moves i count work
+pub share_at : (leaves : ℕ → Work → Type 0) (task : RoundTask) (moves : List Move) (count i : ℕ) (work : Work) → AreShares leaves task moves count → i < count → leaves i work → IsShare task moves i count work
 unfolding AreShares
 share_at leaves task moves count i work shares inside left = shares i work inside left
 
 -- a root move in front of a mate
-pub root_line : (task : Task) (moves : List Move) (x : RootMate) (m : Move) → IsRootMate task moves x → slice_get moves x.root_move ≡ Some m → Contains (legal task.position) m × IsMatingLine (after task.position m) task.winner x.line × (length x.line ≤ 39)
+pub root_line : (task : RoundTask) (moves : List Move) (x : RootMate) (m : Move) → IsRootMate task moves x → slice_get moves x.root_move ≡ Some m → Contains (legal task.position) m × IsMatingLine (after task.position m) task.winner x.line × (length x.line ≤ 39)
 unfolding IsRootMate
 root_line task moves x m mates at =
     let e : mates.0 ≡ m = same_Some mates.0 m (sym mates.1 ∙ at) in
     (subst (λ (k : Move). Contains (legal task.position) k) e mates.2, subst (λ (k : Move). IsMatingLine (after task.position k) task.winner x.line) e mates.3, mates.4)
 
-pub root_inside : (task : Task) (moves : List Move) (x : RootMate) → IsRootMate task moves x → x.root_move < length moves
+pub root_inside : (task : RoundTask) (moves : List Move) (x : RootMate) → IsRootMate task moves x → x.root_move < length moves
 unfolding IsRootMate
 root_inside task moves x mates = slice_get_within moves x.root_move mates.0 mates.1
 
-pub root_short : (task : Task) (moves : List Move) (x : RootMate) → IsRootMate task moves x → length x.line ≤ 39
+pub root_short : (task : RoundTask) (moves : List Move) (x : RootMate) → IsRootMate task moves x → length x.line ≤ 39
 unfolding IsRootMate
 root_short task moves x mates = mates.4
 
-pub mate_or : (task : Task) (moves : List Move) (o : Option RootMate) → ((x : RootMate) → o ≡ Some x → IsRootMate task moves x) → IsRootMateOr task moves o
+pub mate_or : (task : RoundTask) (moves : List Move) (o : Option RootMate) → ((x : RootMate) → o ≡ Some x → IsRootMate task moves x) → IsRootMateOr task moves o
 mate_or task moves None each = tt
 mate_or task moves (Some x) each = each x refl
 
 -- one of two mates of the root is one
-pub either_mate : (task : Task) (moves : List Move) (best mate result : Option RootMate) → IsRootMateOr task moves best → IsRootMateOr task moves mate → (result ≡ best) ⊎ (result ≡ mate) → IsRootMateOr task moves result
+pub either_mate : (task : RoundTask) (moves : List Move) (best mate result : Option RootMate) → IsRootMateOr task moves best → IsRootMateOr task moves mate → (result ≡ best) ⊎ (result ≡ mate) → IsRootMateOr task moves result
 either_mate task moves best mate result one two (inl e) = subst (λ (p : Option RootMate). IsRootMateOr task moves p) (sym e) one
 either_mate task moves best mate result one two (inr e) = subst (λ (p : Option RootMate). IsRootMateOr task moves p) (sym e) two
 
@@ -93,7 +93,7 @@ unfolding AreWhole
 whole_of leaves n count whole all i less = whole i (omega (arith, all, less))
 
 -- all root moves are cleared: the one with each number by the worker whose number it leaves as the rest
-cleared_all : (leaves : ℕ → Work → Type 0) (task : Task) (moves : List Move) (count : ℕ) → 0 < count → AreShares leaves task moves count → AreWhole leaves count → (i : ℕ) → i < length moves → IsCleared task moves i
+cleared_all : (leaves : ℕ → Work → Type 0) (task : RoundTask) (moves : List Move) (count : ℕ) → 0 < count → AreShares leaves task moves count → AreWhole leaves count → (i : ℕ) → i < length moves → IsCleared task moves i
 unfolding AreWhole
 cleared_all leaves task moves count some shares whole i inside =
     let small : i % count < count = mod-lt i some in
@@ -101,11 +101,11 @@ cleared_all leaves task moves count some shares whole i inside =
     let share = share_at leaves task moves count (i % count) w.0 shares small w.1 in
     (share.cleared i (share.whole w.2 i inside refl)).2
 
-none_at : (task : Task) (moves : List Move) (i : ℕ) (m : Move) → IsCleared task moves i → slice_get moves i ≡ Some m → HasNoMateWithin (after task.position m) task.winner (task.depth - 1)
+none_at : (task : RoundTask) (moves : List Move) (i : ℕ) (m : Move) → IsCleared task moves i → slice_get moves i ≡ Some m → HasNoMateWithin (after task.position m) task.winner (task.depth - 1)
 unfolding IsCleared
 none_at task moves i m cleared at = cleared m at
 
-pub no_mate_behind : (leaves : ℕ → Work → Type 0) (task : Task) (moves : List Move) (count : ℕ) → 0 < count → AreShares leaves task moves count → AreWhole leaves count
+pub no_mate_behind : (leaves : ℕ → Work → Type 0) (task : RoundTask) (moves : List Move) (count : ℕ) → 0 < count → AreShares leaves task moves count → AreWhole leaves count
     → moves ≡ legal task.position → (IsMated task.position (other_color task.winner) → ⊥) → HasNoMateWithin task.position task.winner task.depth
 no_mate_behind leaves task moves count some shares whole listed running [] few line = running line
 no_mate_behind leaves task moves count some shares whole listed running (m ∷ rest) few line =
@@ -123,7 +123,7 @@ pub lowest_end : (leaves : ℕ → Work → Type 0) (n end count : ℕ) (best : 
 lowest_end leaves n end count best lowest over same = lowest_of leaves n count best lowest (omega (arith, over, same))
 
 -- the root move and the line behind it
-pub root_found : (task : Task) (moves : List Move) (x : RootMate) → IsRootMate task moves x → (m : Move) × (slice_get moves x.root_move ≡ Some m)
+pub root_found : (task : RoundTask) (moves : List Move) (x : RootMate) → IsRootMate task moves x → (m : Move) × (slice_get moves x.root_move ≡ Some m)
 unfolding IsRootMate
 root_found task moves x mates = (mates.0, mates.1)
 

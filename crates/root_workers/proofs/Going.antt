@@ -10,7 +10,7 @@ use Rattle.cha_fact.specs.declared.calls.Stored.{Stored}
 use Rattle.cha_fact.specs.Truths.{Claim}
 use Rattle.cha_fact.specs.Entries.{Entry, store_entry}
 use Rattle.cha_fact.proofs.Searching.{Within, front_within, back_within, searched_more}
-use Rattle.root_workers.specs.declared.task.Task.{Task}
+use Rattle.root_workers.specs.declared.task.RoundTask.{RoundTask}
 use Rattle.root_workers.specs.declared.work.Work.{Work}
 use Rattle.root_workers.specs.declared.answers.RoundsEnd.TheVariants.{Mate, NoneWithin}
 use Rattle.root_workers.specs.declared.answers.RoundsEnd.{RoundsEnd}
@@ -23,13 +23,13 @@ unfolding AreSharesSearched
 shares_within xs ys q w d moves number count all searched i m at own = searched_more xs ys all (after q m) w d (searched i m at own)
 
 -- the shares of a crew after a round
-pub are_shares : (leaves : ℕ → Work → Type 0) (task : Task) (moves : List Move) (count more : ℕ) → ((i : ℕ) (work : Work) → i < count → leaves i work → IsShare task moves i count work) → more ≡ count → AreShares leaves task moves more
+pub are_shares : (leaves : ℕ → Work → Type 0) (task : RoundTask) (moves : List Move) (count more : ℕ) → ((i : ℕ) (work : Work) → i < count → leaves i work → IsShare task moves i count work) → more ≡ count → AreShares leaves task moves more
 unfolding AreShares
 are_shares leaves task moves count more each same =
     subst (λ (n : ℕ). (i : ℕ) (work : Work) → i < n → leaves i work → IsShare task moves i n work) (sym same) each
 
 -- where all workers cleared their root moves they searched them
-pub round_searches : {S : Type 0} (made_by : ℕ → S → List Entry → S → Type 0) (leaves : ℕ → Work → Type 0) (old new : S) (task : Task) (moves : List Move) (count more : ℕ)
+pub round_searches : {S : Type 0} (made_by : ℕ → S → List Entry → S → Type 0) (leaves : ℕ → Work → Type 0) (old new : S) (task : RoundTask) (moves : List Move) (count more : ℕ)
     → ((i : ℕ) (work : Work) → i < count → leaves i work → ShareCalls (made_by i) old new task moves i count work) → AreWhole leaves more → more ≡ count → moves ≡ legal task.position → RoundSearches made_by old new task count
 unfolding RoundSearches ShareCalls AreWhole
 round_searches made_by leaves old new task moves count more calls whole same listed i less =
@@ -52,7 +52,7 @@ unfolding CrewCalls WorkerCalls
 no_calls made_by s q w from count none i less = ([], none i s, (λ more deep. absurd (omega (arith, more))))
 
 -- one more round
-pub round_more : {S : Type 0} (made_by : ℕ → S → List Entry → S → Type 0) (old mid new : S) (q : Board) (w : Color) (from depth count other : ℕ) (task : Task)
+pub round_more : {S : Type 0} (made_by : ℕ → S → List Entry → S → Type 0) (old mid new : S) (q : Board) (w : Color) (from depth count other : ℕ) (task : RoundTask)
     → ((i : ℕ) (a b c : S) (xs ys : List Entry) → made_by i a xs b → made_by i b ys c → made_by i a (xs ++ ys) c)
     → CrewCalls made_by old mid q w from depth count → RoundSearches made_by mid new task other → other ≡ count → task.position ≡ q → task.winner ≡ w → task.depth ≡ depth + 1 → CrewCalls made_by old new q w from (depth + 1) count
 unfolding CrewCalls WorkerCalls RoundSearches
@@ -136,7 +136,7 @@ unfolding KeepCalls
 keeps made old new row claim reply stored is = (reply, subst (λ (r : Claim). made old (store_entry r reply ∷ []) new) is stored)
 
 -- what a round spent is the budget
-pub spent_lines : (task : Task) (depth budget : ℕ) → IsSpent task → task.depth ≡ depth + 1 → ((n : ℕ) → task.allowance ≡ Some n → (3 ≤ depth + 1) × (n ≡ budget)) → HasLines task.position depth budget × (2 ≤ depth)
+pub spent_lines : (task : RoundTask) (depth budget : ℕ) → IsSpent task → task.depth ≡ depth + 1 → ((n : ℕ) → task.allowance ≡ Some n → (3 ≤ depth + 1) × (n ≡ budget)) → HasLines task.position depth budget × (2 ≤ depth)
 unfolding IsSpent
 spent_lines task depth budget spent plies bound =
     let b = bound spent.0 spent.1 in

@@ -6,11 +6,11 @@ use Rattle.cha_list.proofs.Distinct.{none_apart}
 use Rattle.cha_moves.specs.Step.{Move}
 use Rattle.cha_moves.proofs.Contained.{not_in_nothing}
 use Rattle.cha_fact.specs.Entries.{Entry}
-use Rattle.root_workers.specs.declared.task.Task.{Task}
+use Rattle.root_workers.specs.declared.task.RoundTask.{RoundTask}
 use Rattle.root_workers.specs.declared.work.Work.{Work}
 use Rattle.root_workers.specs.Shares.{IsRefused, IsShare, ShareCalls, AllGrowTo}
 
-share_itself : (w : Work) → IsRefused w → (task : Task) (moves : List Move) (i count : ℕ) → IsShare task moves i count w
+share_itself : (w : Work) → IsRefused w → (task : RoundTask) (moves : List Move) (i count : ℕ) → IsShare task moves i count w
 share_itself w is task moves i count = record {
   cleared = λ j there. (let C : List ℕ → Type 0 = λ xs. Contains xs j in absurd (not_in_nothing j (subst C is.0 there)));
   once = (let D : List ℕ → Type 0 = λ xs. AreDistinct xs in subst D (sym is.0) (none_apart ℕ));
@@ -20,12 +20,12 @@ share_itself w is task moves i count = record {
 }
 
 -- the work that was left is it
-pub refused_share : (left work : Work) → IsRefused left → work ≡ left → (task : Task) (moves : List Move) (i count : ℕ) → IsShare task moves i count work
+pub refused_share : (left work : Work) → IsRefused left → work ≡ left → (task : RoundTask) (moves : List Move) (i count : ℕ) → IsShare task moves i count work
 refused_share left work is same task moves i count =
     let P : Work → Type 0 = λ x. IsShare task moves i count x in
     subst P (sym same) (share_itself left is task moves i count)
 
-pub refused_calls : {S : Type 0} (made : S → List Entry → S → Type 0) (a b : S) → made a [] b → (left work : Work) → left.refused ≡ true → work ≡ left → (task : Task) (moves : List Move) (i count : ℕ) → ShareCalls made a b task moves i count work
+pub refused_calls : {S : Type 0} (made : S → List Entry → S → Type 0) (a b : S) → made a [] b → (left work : Work) → left.refused ≡ true → work ≡ left → (task : RoundTask) (moves : List Move) (i count : ℕ) → ShareCalls made a b task moves i count work
 unfolding ShareCalls
 refused_calls made a b makes left work is same task moves i count =
     let P : Work → Type 0 = λ x. x.refused ≡ true in

@@ -22,7 +22,7 @@ use Rattle.helpmate.specs.declared.answers.RoundDone.{RoundDone}
 use Rattle.helpmate.specs.Units.{AreUnits}
 use Rattle.helpmate.specs.Rounds.{IsAnswer, IsAllowed, RoundCalls}
 use Rattle.helpmate.proofs.Counting.{Begins, HasLinesFrom, from_one_more, still_begins}
-use Rattle.root_workers.specs.declared.task.Task.{Task}
+use Rattle.root_workers.specs.declared.task.RoundTask.{RoundTask}
 use Rattle.root_workers.specs.declared.work.RootMate.{RootMate}
 use Rattle.root_workers.specs.declared.work.Work.{Work}
 use Rattle.root_workers.specs.Shares.{IsWhole, IsCleared, IsRootMate, IsSpent, IsShare, AreSharesSearched, ShareCalls}
@@ -31,7 +31,7 @@ use Rattle.root_workers.specs.Gathers.{left_after}
 use Rattle.root_workers.proofs.Numbering.{before_or_here, next_own, none_below}
 
 -- a worker has cleared its root moves below a number, with so much of its allowance left as the units that it took leave
-pub record IsBegun (task : Task) (moves : List Move) (number count index : ℕ) (left : Option ℕ) (work : Work) : Type 0 where
+pub record IsBegun (task : RoundTask) (moves : List Move) (number count index : ℕ) (left : Option ℕ) (work : Work) : Type 0 where
   pub own : index % count ≡ number
   pub near : index < length moves + count
   pub units : ℕ
@@ -93,7 +93,7 @@ left_first None = refl
 left_first (Some most) = ap Some (let e : most ≡ most - 0 = omega arith in e)
 
 -- nothing is done before a worker's first root move
-pub begun_first : (task : Task) (moves : List Move) (number count : ℕ) (work : Work) → number < count → work.cleared.items ≡ [] → IsWhole work → IsBegun task moves number count number task.allowance work
+pub begun_first : (task : RoundTask) (moves : List Move) (number count : ℕ) (work : Work) → number < count → work.cleared.items ≡ [] → IsWhole work → IsBegun task moves number count number task.allowance work
 begun_first task moves number count work few empty clean =
     let L : List ℕ → ℕ → Type 0 = λ xs i. Contains xs i in record {
       own = mod-eq_of_lt few;
@@ -110,19 +110,19 @@ begun_first task moves number count work few empty clean =
     }
 
 -- the lines of one more root move
-pub lines_here : (task : Task) (moves : List Move) (number count index u v : ℕ) (m : Move) (left : Option ℕ) (work : Work) (begun : IsBegun task moves number count index left work) → AreUnits (after task.position m) (task.depth - 1) u → index < length moves → m ≡ get_or moves index m → moves ≡ legal task.position → v ≡ begun.units + u
+pub lines_here : (task : RoundTask) (moves : List Move) (number count index u v : ℕ) (m : Move) (left : Option ℕ) (work : Work) (begun : IsBegun task moves number count index left work) → AreUnits (after task.position m) (task.depth - 1) u → index < length moves → m ≡ get_or moves index m → moves ≡ legal task.position → v ≡ begun.units + u
     → HasLinesFrom task.position (task.depth - 1) (take (index + 1) moves) v
 lines_here task moves number count index u v m left work begun units inside at listed sum =
     from_one_more task.position (task.depth - 1) begun.units u v moves index m begun.lines units inside at listed sum
 
-cleared_here : (task : Task) (moves : List Move) (index : ℕ) (m : Move) → index < length moves → m ≡ get_or moves index m → HasNoMateWithin (after task.position m) task.winner (task.depth - 1) → IsCleared task moves index
+cleared_here : (task : RoundTask) (moves : List Move) (index : ℕ) (m : Move) → index < length moves → m ≡ get_or moves index m → HasNoMateWithin (after task.position m) task.winner (task.depth - 1) → IsCleared task moves index
 unfolding IsCleared
 cleared_here task moves index m inside at none k is =
     let e : m ≡ k = at ∙ get_or_from_slice_get moves index k m is in
     subst (λ (x : Move). HasNoMateWithin (after task.position x) task.winner (task.depth - 1)) e none
 
 -- one more root move is cleared
-pub begun_more : (task : Task) (moves : List Move) (number count index u : ℕ) (m : Move) (left more : Option ℕ) (work new : Work) → IsBegun task moves number count index left work → 0 < count → more ≡ left_after left u → IsAllowed left u
+pub begun_more : (task : RoundTask) (moves : List Move) (number count index u : ℕ) (m : Move) (left more : Option ℕ) (work new : Work) → IsBegun task moves number count index left work → 0 < count → more ≡ left_after left u → IsAllowed left u
     → AreUnits (after task.position m) (task.depth - 1) u → index < length moves → m ≡ get_or moves index m → moves ≡ legal task.position → HasNoMateWithin (after task.position m) task.winner (task.depth - 1)
     → new.cleared.items ≡ work.cleared.items ++ index ∷ [] → IsWhole new → IsBegun task moves number count (index + count) more new
 begun_more task moves number count index u m left more work new begun some is few units inside at listed none pushed clean =
@@ -151,7 +151,7 @@ begun_more task moves number count index u m left more work new begun some is fe
     }
 
 -- a worker's part that ends before its last root move
-pub share_ends : (task : Task) (moves : List Move) (number count index : ℕ) (left : Option ℕ) (work new : Work) → IsBegun task moves number count index left work → new.cleared.items ≡ work.cleared.items → (IsWhole new → ⊥) → ((mate : RootMate) → new.mate ≡ Some mate → IsRootMate task moves mate) → (new.spent ≡ true → IsSpent task)
+pub share_ends : (task : RoundTask) (moves : List Move) (number count index : ℕ) (left : Option ℕ) (work new : Work) → IsBegun task moves number count index left work → new.cleared.items ≡ work.cleared.items → (IsWhole new → ⊥) → ((mate : RootMate) → new.mate ≡ Some mate → IsRootMate task moves mate) → (new.spent ≡ true → IsSpent task)
     → IsShare task moves number count new
 share_ends task moves number count index left work new begun same ended mate spent =
     record {
@@ -166,7 +166,7 @@ no_mate : (mate : Option RootMate) (P : RootMate → Type 0) → mate ≡ None �
 no_mate mate P none m some = absurd (none-some m (sym none ∙ some))
 
 -- a worker's part that goes to the end
-pub share_done : (task : Task) (moves : List Move) (number count index : ℕ) (left : Option ℕ) (work : Work) → IsBegun task moves number count index left work → length moves ≤ index → IsShare task moves number count work
+pub share_done : (task : RoundTask) (moves : List Move) (number count index : ℕ) (left : Option ℕ) (work : Work) → IsBegun task moves number count index left work → length moves ≤ index → IsShare task moves number count work
 share_done task moves number count index left work begun end =
     record {
       cleared = begun.cleared;
@@ -185,22 +185,22 @@ whole_allowance (Some most) n u few is =
     ap Some f
 
 -- the allowance was spent
-pub spent_here : (task : Task) (moves : List Move) (number count index u : ℕ) (m : Move) (left : Option ℕ) (work : Work) → IsBegun task moves number count index left work → left ≡ Some u → AreUnits (after task.position m) (task.depth - 1) u
+pub spent_here : (task : RoundTask) (moves : List Move) (number count index u : ℕ) (m : Move) (left : Option ℕ) (work : Work) → IsBegun task moves number count index left work → left ≡ Some u → AreUnits (after task.position m) (task.depth - 1) u
     → index < length moves → m ≡ get_or moves index m → moves ≡ legal task.position → IsSpent task
 unfolding IsSpent
 spent_here task moves number count index u m left work begun all units inside at listed =
     (begun.units + u, whole_allowance task.allowance begun.units u begun.allowed (sym begun.remains ∙ all), lines_of task.position (task.depth - 1) (begun.units + u) (take (index + 1) moves) (lines_here task moves number count index u (begun.units + u) m left work begun units inside at listed refl))
 
 -- each root move of a worker below a number was searched
-unfoldable pub SharesTried : {S : Type 0} → (S → List Entry → S → Type 0) → S → S → Task → List Move → ℕ → ℕ → ℕ → Type 0
+unfoldable pub SharesTried : {S : Type 0} → (S → List Entry → S → Type 0) → S → S → RoundTask → List Move → ℕ → ℕ → ℕ → Type 0
 SharesTried made old new task moves number count index =
     (entries : List Entry) × made old entries new × ((i : ℕ) (m : Move) → slice_get moves i ≡ Some m → i < index → i % count ≡ number → IsSearched entries (after task.position m) task.winner (task.depth - 1))
 
-pub shares_none : {S : Type 0} (made : S → List Entry → S → Type 0) (s : S) (task : Task) (moves : List Move) (number count : ℕ) → made s [] s → number < count → SharesTried made s s task moves number count number
+pub shares_none : {S : Type 0} (made : S → List Entry → S → Type 0) (s : S) (task : RoundTask) (moves : List Move) (number count : ℕ) → made s [] s → number < count → SharesTried made s s task moves number count number
 unfolding SharesTried
 shares_none made s task moves number count none few = ([], none, (λ i m is less own. absurd (none_below i count number few own less)))
 
-pub shares_more : {S : Type 0} (made : S → List Entry → S → Type 0) (old mid new : S) (task : Task) (moves : List Move) (number count index : ℕ) (m : Move) (result : Result RoundDone NoMemory) (done : RoundDone)
+pub shares_more : {S : Type 0} (made : S → List Entry → S → Type 0) (old mid new : S) (task : RoundTask) (moves : List Move) (number count index : ℕ) (m : Move) (result : Result RoundDone NoMemory) (done : RoundDone)
     → ((a b c : S) (xs ys : List Entry) → made a xs b → made b ys c → made a (xs ++ ys) c)
     → SharesTried made old mid task moves number count index → RoundCalls made mid new (after task.position m) task.winner (task.depth - 1) result → result ≡ Ok done → done.round ≡ NoneWithin
     → 0 < count → index % count ≡ number → m ≡ get_or moves index m → SharesTried made old new task moves number count (index + count)
@@ -220,7 +220,7 @@ shares_more made old mid new task moves number count index m result done both tr
     )
 
 -- a part that ends otherwise than by clearing all root moves
-pub calls_end : {S : Type 0} (made : S → List Entry → S → Type 0) (old mid new : S) (task : Task) (moves : List Move) (number count index : ℕ) (m : Move) (result : Result RoundDone NoMemory) (work : Work)
+pub calls_end : {S : Type 0} (made : S → List Entry → S → Type 0) (old mid new : S) (task : RoundTask) (moves : List Move) (number count index : ℕ) (m : Move) (result : Result RoundDone NoMemory) (work : Work)
     → ((a b c : S) (xs ys : List Entry) → made a xs b → made b ys c → made a (xs ++ ys) c)
     → SharesTried made old mid task moves number count index → RoundCalls made mid new (after task.position m) task.winner (task.depth - 1) result → (IsWhole work → ⊥) → PartCalls made old new task moves number count work
 unfolding SharesTried PartCalls
@@ -229,50 +229,50 @@ calls_end made old mid new task moves number count index m result work both trie
     let ys = probe_entry (key_of (after task.position m) task.winner) calls.reply ∷ calls.rest in
     (xs ++ ys, both old mid new xs ys tried.1 calls.entered, (λ whole. absurd (ended whole)))
 
-pub calls_done : {S : Type 0} (made : S → List Entry → S → Type 0) (old new : S) (task : Task) (moves : List Move) (number count index : ℕ) (work : Work) → SharesTried made old new task moves number count index → length moves ≤ index → PartCalls made old new task moves number count work
+pub calls_done : {S : Type 0} (made : S → List Entry → S → Type 0) (old new : S) (task : RoundTask) (moves : List Move) (number count index : ℕ) (work : Work) → SharesTried made old new task moves number count index → length moves ≤ index → PartCalls made old new task moves number count work
 unfolding SharesTried PartCalls AreSharesSearched
 calls_done made old new task moves number count index work tried end =
     (tried.0, tried.1, (λ whole i m read own. tried.2 i m read (let inside = slice_get_within moves i m read in omega (arith, inside, end)) own))
 
 -- a round of at most 4 plies makes no call
-pub no_calls_made : {S : Type 0} (made : S → List Entry → S → Type 0) (s : S) (task : Task) (moves : List Move) (number count : ℕ) (work : Work) → made s [] s → task.depth ≤ 4 → ShareCalls made s s task moves number count work
+pub no_calls_made : {S : Type 0} (made : S → List Entry → S → Type 0) (s : S) (task : RoundTask) (moves : List Move) (number count : ℕ) (work : Work) → made s [] s → task.depth ≤ 4 → ShareCalls made s s task moves number count work
 unfolding ShareCalls
 no_calls_made made s task moves number count work none few = ([], none, (λ e. refl), (λ deep. absurd (omega (arith, deep, few))))
 
 -- a deeper round makes those of its search
-pub deep_calls : {S : Type 0} (made : S → List Entry → S → Type 0) (old new : S) (task : Task) (moves : List Move) (number count : ℕ) (work : Work) → PartCalls made old new task moves number count work → 4 < task.depth → ShareCalls made old new task moves number count work
+pub deep_calls : {S : Type 0} (made : S → List Entry → S → Type 0) (old new : S) (task : RoundTask) (moves : List Move) (number count : ℕ) (work : Work) → PartCalls made old new task moves number count work → 4 < task.depth → ShareCalls made old new task moves number count work
 unfolding PartCalls ShareCalls
 deep_calls made old new task moves number count work calls more = (calls.0, calls.1, (λ few. absurd (omega (arith, more, few))), (λ deep. calls.2))
 
-same_mate : (task : Task) (moves : List Move) (o : Option RootMate) (x : RootMate) → o ≡ Some x → IsRootMate task moves x → (mate : RootMate) → o ≡ Some mate → IsRootMate task moves mate
+same_mate : (task : RoundTask) (moves : List Move) (o : Option RootMate) (x : RootMate) → o ≡ Some x → IsRootMate task moves x → (mate : RootMate) → o ≡ Some mate → IsRootMate task moves mate
 same_mate task moves o x is mates mate e = subst (λ (y : RootMate). IsRootMate task moves y) (same_Some x mate (sym is ∙ e)) mates
 
 not_spent : (b : Bool) (P : Type 0) → b ≡ false → b ≡ true → P
 not_spent b P not is = cc
 
 -- a worker's part that ends with a mate
-pub share_mate : (task : Task) (moves : List Move) (number count index : ℕ) (x : RootMate) (left : Option ℕ) (work new : Work) → IsBegun task moves number count index left work → new.cleared.items ≡ work.cleared.items → new.mate ≡ Some x → new.spent ≡ work.spent → IsRootMate task moves x → IsShare task moves number count new
+pub share_mate : (task : RoundTask) (moves : List Move) (number count index : ℕ) (x : RootMate) (left : Option ℕ) (work new : Work) → IsBegun task moves number count index left work → new.cleared.items ≡ work.cleared.items → new.mate ≡ Some x → new.spent ≡ work.spent → IsRootMate task moves x → IsShare task moves number count new
 share_mate task moves number count index x left work new begun same is spent mates =
     share_ends task moves number count index left work new begun same (λ whole. none-some x (sym whole.0 ∙ is)) (same_mate task moves new.mate x is mates) (not_spent new.spent (IsSpent task) (spent ∙ begun.clean.1))
 
 -- a worker's part that ends since its allowance is spent
-pub share_spent : (task : Task) (moves : List Move) (number count index : ℕ) (left : Option ℕ) (work new : Work) → IsBegun task moves number count index left work → new.cleared.items ≡ work.cleared.items → new.mate ≡ work.mate → new.spent ≡ true → IsSpent task → IsShare task moves number count new
+pub share_spent : (task : RoundTask) (moves : List Move) (number count index : ℕ) (left : Option ℕ) (work new : Work) → IsBegun task moves number count index left work → new.cleared.items ≡ work.cleared.items → new.mate ≡ work.mate → new.spent ≡ true → IsSpent task → IsShare task moves number count new
 share_spent task moves number count index left work new begun same mate is spent =
     share_ends task moves number count index left work new begun same (λ whole. not_spent new.spent ⊥ whole.1 is) (no_mate new.mate (λ m. IsRootMate task moves m) (mate ∙ begun.clean.0)) (λ e. spent)
 
 -- a worker's part that ends for want of memory
-pub share_refused : (task : Task) (moves : List Move) (number count index : ℕ) (left : Option ℕ) (work new : Work) → IsBegun task moves number count index left work → new.cleared.items ≡ work.cleared.items → new.mate ≡ work.mate → new.spent ≡ work.spent → new.refused ≡ true → IsShare task moves number count new
+pub share_refused : (task : RoundTask) (moves : List Move) (number count index : ℕ) (left : Option ℕ) (work new : Work) → IsBegun task moves number count index left work → new.cleared.items ≡ work.cleared.items → new.mate ≡ work.mate → new.spent ≡ work.spent → new.refused ≡ true → IsShare task moves number count new
 share_refused task moves number count index left work new begun same mate spent is =
     share_ends task moves number count index left work new begun same (λ whole. not_spent new.refused ⊥ whole.2 is) (no_mate new.mate (λ m. IsRootMate task moves m) (mate ∙ begun.clean.0)) (not_spent new.spent (IsSpent task) (spent ∙ begun.clean.1))
 
 -- a mate behind a root move
-pub root_mate : (task : Task) (moves : List Move) (index : ℕ) (m : Move) (a : RoundAnswer) (line : List Move) → IsAnswer (after task.position m) task.winner (task.depth - 1) 39 a → a ≡ Mate line → index < length moves → m ≡ get_or moves index m → moves ≡ legal task.position → IsRootMate task moves (record { root_move = index; line = line })
+pub root_mate : (task : RoundTask) (moves : List Move) (index : ℕ) (m : Move) (a : RoundAnswer) (line : List Move) → IsAnswer (after task.position m) task.winner (task.depth - 1) 39 a → a ≡ Mate line → index < length moves → m ≡ get_or moves index m → moves ≡ legal task.position → IsRootMate task moves (record { root_move = index; line = line })
 unfolding IsRootMate
 root_mate task moves index m a line holds is inside at listed =
     let h = subst (λ (x : RoundAnswer). IsAnswer (after task.position m) task.winner (task.depth - 1) 39 x) is holds in
     (m, slice_get_read moves (length moves) index m refl inside at, subst (λ (ms : List Move). Contains ms m) listed (index, inside, sym at), h.0, h.1)
 
-pub none_behind : (task : Task) (m : Move) (a : RoundAnswer) → IsAnswer (after task.position m) task.winner (task.depth - 1) 39 a → a ≡ NoneWithin → HasNoMateWithin (after task.position m) task.winner (task.depth - 1)
+pub none_behind : (task : RoundTask) (m : Move) (a : RoundAnswer) → IsAnswer (after task.position m) task.winner (task.depth - 1) 39 a → a ≡ NoneWithin → HasNoMateWithin (after task.position m) task.winner (task.depth - 1)
 none_behind task m a holds is = subst (λ (x : RoundAnswer). IsAnswer (after task.position m) task.winner (task.depth - 1) 39 x) is holds
 
 pub none_left : (left more : Option ℕ) (u : ℕ) → more ≡ left_after left u → IsNone more → IsNone left

@@ -5,7 +5,7 @@ use Rattle.cha_fact.specs.Entries.{Entry}
 use Rattle.shard_table.specs.ShardRows.{Rows}
 use Rattle.shard_table.specs.declared.table.Table.{Table}
 use Rattle.shard_table.specs.declared.table.TablePass.{TablePass}
-use Rattle.root_workers.specs.declared.task.Task.{Task}
+use Rattle.root_workers.specs.declared.task.RoundTask.{RoundTask}
 use Rattle.root_workers.specs.declared.work.Work.{Work}
 use Rattle.root_workers.specs.declared.hired.Hired.{Hired}
 use Rattle.root_workers.specs.declared.staff.Staff.{Staff}
@@ -68,10 +68,10 @@ crew_of s h is at = (is.hired h at).crew
 refused_idle : (s : Staff) → IsStaff s → is_refused s ≡ true → IsRefused s.idle
 refused_idle s is refused = (is.idle.0, is.idle.1, is.idle.2, refused)
 
-pub idle_share : (s : Staff) → IsStaff s → s.hired ≡ None → is_refused s ≡ true → (task : Task) (moves : List Move) (i count : ℕ) (w : Work) → StaffLeaves s i w → IsShare task moves i count w
+pub idle_share : (s : Staff) → IsStaff s → s.hired ≡ None → is_refused s ≡ true → (task : RoundTask) (moves : List Move) (i count : ℕ) (w : Work) → StaffLeaves s i w → IsShare task moves i count w
 idle_share s is none refused task moves i count w left = refused_share s.idle w (refused_idle s is refused) (leaves_idle s i w none left) task moves i count
 
-pub idle_calls : (a b : Staff) (i : ℕ) → StaffMakes i a [] b → b.hired ≡ None → is_refused b ≡ true → (task : Task) (moves : List Move) (count : ℕ) (w : Work) → StaffLeaves b i w → ShareCalls (StaffMakes i) a b task moves i count w
+pub idle_calls : (a b : Staff) (i : ℕ) → StaffMakes i a [] b → b.hired ≡ None → is_refused b ≡ true → (task : RoundTask) (moves : List Move) (count : ℕ) (w : Work) → StaffLeaves b i w → ShareCalls (StaffMakes i) a b task moves i count w
 idle_calls a b i makes none refused task moves count w left = refused_calls (StaffMakes i) a b makes b.idle w refused (leaves_idle b i w none left) task moves i count
 
 pub all_idle : (a b : Staff) (depth count : ℕ) → ((i : ℕ) → StaffMakes i a [] b) → AllGrowTo depth StaffMakes a b count
@@ -79,7 +79,7 @@ unfolding AllGrowTo
 all_idle a b depth count makes i less = ([], makes i, (λ few. refl))
 
 -- a round of those who are hired
-module _ (task : Task) (moves : List Move) (a b : Staff) (old new : Hired) (begun : (i : ℕ) → StaffMakes i a [] b) (is : b.hired ≡ Some old)
+module _ (task : RoundTask) (moves : List Move) (a b : Staff) (old new : Hired) (begun : (i : ℕ) → StaffMakes i a [] b) (is : b.hired ≡ Some old)
     (crew : IsCrew old.table old.crew.items) (table : new.table ≡ old.table) (pass : new.pass ≡ old.pass) (same : length new.crew.items ≡ length old.crew.items)
     (done : AreDone old.table task moves old.crew.items new.crew.items) where
   abbrev later : Staff

@@ -5,7 +5,7 @@ use Rattle.cha_fact.specs.Entries.{Entry}
 use Rattle.shard_table.specs.Makes.{Makes}
 use Rattle.shard_table.specs.Tables.{IsOfTable, KnowsWell}
 use Rattle.shard_table.specs.declared.table.Table.{Table}
-use Rattle.root_workers.specs.declared.task.Task.{Task}
+use Rattle.root_workers.specs.declared.task.RoundTask.{RoundTask}
 use Rattle.root_workers.specs.declared.work.Work.{Work}
 use Rattle.root_workers.specs.declared.work.Worker.{Worker}
 use Rattle.root_workers.specs.Shares.{IsShare, ShareCalls}
@@ -32,7 +32,7 @@ unfoldable pub LeavesWork : List Worker → ℕ → Work → Type 0
 LeavesWork crew i work = (d : Worker) → i < length crew → work ≡ (slice_index_or crew i d).work
 
 -- One worker's part of a round was done.
-pub record WorkerDone (table : Table) (task : Task) (moves : List Move) (count : ℕ) (old new : Worker) : Type 0 where
+pub record WorkerDone (table : Table) (task : RoundTask) (moves : List Move) (count : ℕ) (old new : Worker) : Type 0 where
   pub number : new.number ≡ old.number
   pub of : IsOfTable table new.pass
   pub share : IsShare task moves old.number count new.work

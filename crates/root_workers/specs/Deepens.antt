@@ -10,7 +10,7 @@ use Rattle.cha_fact.specs.declared.fact.Fact.TheVariants.{Mate as MateFact, None
 use Rattle.cha_fact.specs.declared.calls.Stored.{Stored}
 use Rattle.cha_fact.specs.Truths.{Claim}
 use Rattle.cha_fact.specs.Entries.{Entry, store_entry}
-use Rattle.root_workers.specs.declared.task.Task.{Task}
+use Rattle.root_workers.specs.declared.task.RoundTask.{RoundTask}
 use Rattle.root_workers.specs.declared.work.Work.{Work}
 use Rattle.root_workers.specs.declared.answers.RoundsEnd.{RoundsEnd}
 use Rattle.root_workers.specs.declared.answers.RoundsEnd.TheVariants.{Mate, NoneWithin}
@@ -28,12 +28,12 @@ IsFrom from (Mate line) = ⊤
 IsFrom from (NoneWithin d) = from ≤ d
 
 -- the calls of a worker's part of a round whatever its depth: where it cleared its root moves, it searched them
-unfoldable pub PartCalls : {S : Type 0} → (S → List Entry → S → Type 0) → S → S → Task → List Move → ℕ → ℕ → Work → Type 0
+unfoldable pub PartCalls : {S : Type 0} → (S → List Entry → S → Type 0) → S → S → RoundTask → List Move → ℕ → ℕ → Work → Type 0
 PartCalls made old new task moves number count work =
     (entries : List Entry) × made old entries new × (IsWhole work → AreSharesSearched entries task.position task.winner (task.depth - 1) moves number count)
 
 -- the calls of one round of more than 4 plies that found no mate
-unfoldable pub RoundSearches : {S : Type 0} → (ℕ → S → List Entry → S → Type 0) → S → S → Task → ℕ → Type 0
+unfoldable pub RoundSearches : {S : Type 0} → (ℕ → S → List Entry → S → Type 0) → S → S → RoundTask → ℕ → Type 0
 RoundSearches made_by old new task count =
     (i : ℕ) → i < count → (entries : List Entry) × made_by i old entries new × (4 < task.depth → AreSharesSearched entries task.position task.winner (task.depth - 1) (legal task.position) i count)
 

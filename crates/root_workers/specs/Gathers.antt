@@ -1,7 +1,7 @@
 -- What the works of a round come to (this project).
 use Rattle.std.specs.Prelude.{ℕ, ◌-◌, ◌<◌, ◌≤◌, ⊤, List, Option, Some, None}
 use Rattle.cha_moves.specs.Step.{Move}
-use Rattle.root_workers.specs.declared.task.Task.{Task}
+use Rattle.root_workers.specs.declared.task.RoundTask.{RoundTask}
 use Rattle.root_workers.specs.declared.work.RootMate.{RootMate}
 use Rattle.root_workers.specs.declared.work.Work.{Work}
 use Rattle.root_workers.specs.Shares.{IsWhole, IsShare, IsRootMate}
@@ -13,12 +13,12 @@ IsNoHigher None (Some other) = ⊥
 IsNoHigher (Some best) (Some other) = best.root_move ≤ other.root_move
 
 -- the mate, if there is one, is a mate of the root
-abbrev pub IsRootMateOr : Task → List Move → Option RootMate → Type 0
+abbrev pub IsRootMateOr : RoundTask → List Move → Option RootMate → Type 0
 IsRootMateOr task moves None = ⊤
 IsRootMateOr task moves (Some mate) = IsRootMate task moves mate
 
 -- each worker left its share
-unfoldable pub AreShares : (ℕ → Work → Type 0) → Task → List Move → ℕ → Type 0
+unfoldable pub AreShares : (ℕ → Work → Type 0) → RoundTask → List Move → ℕ → Type 0
 AreShares leaves task moves count = (i : ℕ) (work : Work) → i < count → leaves i work → IsShare task moves i count work
 
 -- what is left of an allowance

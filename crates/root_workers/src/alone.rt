@@ -3,7 +3,7 @@
 ghost use Rattle.std.specs.Prelude.{◌≡◌};
 
 use crate::share::share_of;
-use crate::task::Task;
+use crate::task::RoundTask;
 use crate::work::Work;
 use crate::workers::Crew;
 use cha_fact::{Facts, Key, Probe, Proved, Stored};
@@ -89,7 +89,7 @@ impl<'a, F: Facts> Crew for Alone<'a, F> {
         &self.work
     }
 
-    fn share_out(&mut self, alloc: Global, task: &Task, moves: &[Move]) {
+    fn share_out(&mut self, alloc: Global, task: &RoundTask, moves: &[Move]) {
         self.work = share_of(alloc, task, moves, 0, 1, self.place);
     }
 }

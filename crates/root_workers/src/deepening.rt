@@ -14,7 +14,7 @@ ghost use Rattle.root_workers.specs.Deepens.{plies_of, IsFrom, RoundSearches, De
 
 use crate::answers::RoundsEnd;
 use crate::gather::gathered;
-use crate::task::Task;
+use crate::task::RoundTask;
 use crate::workers::Crew;
 use cha_board::{Color, Position};
 use cha_fact::{Fact, Key, Probe, Proved};
@@ -38,7 +38,7 @@ fn allowance_of(limits: &Limits, depth: u8) -> Option<u32>
 /// One round.
 fn one_round<C: Crew>(
     alloc: Global,
-    task: &Task,
+    task: &RoundTask,
     moves: &[Move],
     crew: &mut C,
 ) -> Result<RoundAnswer, NoMemory>
@@ -105,7 +105,7 @@ fn deepen<C: Crew>(
     let moves = legal(alloc, position)?;
     let mut depth = from;
     while depth < limits.depth() {
-        let task = Task {
+        let task = RoundTask {
             position: *position,
             winner,
             depth: depth + 1,

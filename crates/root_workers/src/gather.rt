@@ -8,7 +8,7 @@ ghost use Rattle.helpmate.specs.Rounds.{IsAnswer};
 ghost use Rattle.root_workers.specs.Shares.{IsWhole, IsRootMate, IsSpent};
 ghost use Rattle.root_workers.specs.Gathers.{IsNoHigher, IsRootMateOr, AreShares, AreWhole};
 
-use crate::task::Task;
+use crate::task::RoundTask;
 use crate::work::{RootMate, Work};
 use crate::workers::Crew;
 use cha_fact::Line;
@@ -78,7 +78,7 @@ fn lower(best: Option<RootMate>, mate: &Option<RootMate>) -> Option<RootMate>
 }
 
 /// Of the mates that workers met the one with the lowest root move.
-fn lowest_mate<C: Crew>(task: &Task, moves: &[Move], crew: &C) -> Option<RootMate>
+fn lowest_mate<C: Crew>(task: &RoundTask, moves: &[Move], crew: &C) -> Option<RootMate>
     requires ready { C.ready crew.now }
     requires shares { AreShares (C.leaves crew.now) task.now moves.now (C.count crew.now) }
     ensures holds { IsRootMateOr task.now moves.now result }
@@ -92,7 +92,7 @@ fn lowest_mate<C: Crew>(task: &Task, moves: &[Move], crew: &C) -> Option<RootMat
 }
 
 /// A mate of the root: the root move, and the mate of the position after it.
-fn led(task: &Task, moves: &[Move], mate: &RootMate) -> Line
+fn led(task: &RoundTask, moves: &[Move], mate: &RootMate) -> Line
     requires { IsRootMate task.now moves.now mate.now }
     ensures mates { IsMatingLine task.now.position task.now.winner result }
     ensures short { length result ≤ 40 }
@@ -106,7 +106,11 @@ fn led(task: &Task, moves: &[Move], mate: &RootMate) -> Line
 
 /// What a round comes to. There is no mate only where the root moves that workers cleared are all root moves, each once. It takes
 /// no memory itself: `NoMemory` is the answer only where a worker was refused memory.
-pub fn gathered<C: Crew>(task: &Task, moves: &[Move], crew: &C) -> Result<RoundAnswer, NoMemory>
+pub fn gathered<C: Crew>(
+    task: &RoundTask,
+    moves: &[Move],
+    crew: &C,
+) -> Result<RoundAnswer, NoMemory>
     requires ready { C.ready crew.now }
     requires listed { moves.now ≡ legal_moves task.now.position }
     requires some { 1 ≤ task.now.depth }

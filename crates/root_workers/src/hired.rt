@@ -9,7 +9,7 @@ ghost use Rattle.root_workers.specs.Hiring.{IsHired, IsFreshlyHired, HiredMakes}
 
 use crate::dismissing::close;
 use crate::many::{crew, first_probe, first_store, hand_out};
-use crate::task::Task;
+use crate::task::RoundTask;
 use crate::work::Worker;
 use cha_fact::{Key, Probe, Proved, Stored};
 use cha_list::NoMemory;
@@ -66,7 +66,7 @@ impl Hired {
         &mut self,
         rt: &R,
         alloc: Global,
-        task: &Task,
+        task: &RoundTask,
         moves: &[Move],
     )
         requires crew { IsCrew self.old.table self.old.crew.items }

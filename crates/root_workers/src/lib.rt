@@ -37,6 +37,6 @@ pub use nowhere::Nowhere;
 pub use on_demand::OnDemand;
 pub use staff::Staff;
 pub use table_rounds::rounds;
-pub use task::Task;
+pub use task::RoundTask;
 pub use work::{RootMate, Work, Worker};
 pub use workers::Crew;

@@ -8,7 +8,7 @@ ghost use Rattle.root_workers.specs.Crews.{IsCrew, CrewMakes, WorkerDone};
 ghost use Rattle.root_workers.specs.Splits.{OnlySplits, AreFresh};
 
 use crate::share::share_of;
-use crate::task::Task;
+use crate::task::RoundTask;
 use crate::work::{Work, Worker};
 use crate::workers::Crew;
 use cha_fact::{Facts, Key, Probe, Proved, Stored};
@@ -81,7 +81,7 @@ fn work_on<R: Wait>(
     rt: &R,
     alloc: Global,
     table: &Table,
-    task: &Task,
+    task: &RoundTask,
     moves: &[Move],
     count: u32,
     worker: &mut Worker,
@@ -104,7 +104,7 @@ pub(crate) fn hand_out<R: Threads + Wait + Sync>(
     rt: &R,
     alloc: Global,
     table: &Table,
-    task: &Task,
+    task: &RoundTask,
     moves: &[Move],
     crew: &mut [Worker],
 )
@@ -215,7 +215,7 @@ impl<'a, R: Threads + Wait + Sync> Crew for Many<'a, R> {
         &self.crew[number as usize].work
     }
 
-    fn share_out(&mut self, alloc: Global, task: &Task, moves: &[Move]) {
+    fn share_out(&mut self, alloc: Global, task: &RoundTask, moves: &[Move]) {
         hand_out(self.rt, alloc, self.table, task, moves, self.crew);
     }
 }

@@ -2,7 +2,7 @@
 
 ghost use Rattle.root_workers.specs.Shares.{IsRefused};
 
-use crate::task::Task;
+use crate::task::RoundTask;
 use crate::work::Work;
 use crate::workers::Crew;
 use cha_fact::{Facts, Key, Probe, Proved, Stored};
@@ -88,7 +88,7 @@ impl Crew for Nobody {
         &self.work
     }
 
-    fn share_out(&mut self, alloc: Global, _task: &Task, _moves: &[Move]) {
+    fn share_out(&mut self, alloc: Global, _task: &RoundTask, _moves: &[Move]) {
         self.work = refused(alloc);
     }
 }

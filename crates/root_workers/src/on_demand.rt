@@ -4,7 +4,7 @@ ghost use Rattle.std.specs.Prelude.{◌≤◌};
 ghost use Rattle.root_workers.specs.Hiring.{IsStaff, IsUnhired, StaffEnds};
 
 use crate::staff::Staff;
-use crate::task::Task;
+use crate::task::RoundTask;
 use crate::work::Work;
 use crate::workers::Crew;
 use cha_fact::{Facts, Key, Probe, Proved, Stored};
@@ -107,7 +107,7 @@ impl<'a, R: Threads + Wait + Sync> Crew for OnDemand<'a, R> {
         self.staff.work(number)
     }
 
-    fn share_out(&mut self, alloc: Global, task: &Task, moves: &[Move]) {
+    fn share_out(&mut self, alloc: Global, task: &RoundTask, moves: &[Move]) {
         self.staff.share_out(self.rt, alloc, task, moves);
     }
 }

@@ -9,7 +9,7 @@ ghost use Rattle.root_workers.specs.Deepens.{PartCalls};
 ghost use Rattle.root_workers.specs.Gathers.{left_after};
 
 use crate::nowhere::Nowhere;
-use crate::task::Task;
+use crate::task::RoundTask;
 use crate::work::{RootMate, Work};
 use cha_fact::Facts;
 use cha_list::NoMemory;
@@ -31,7 +31,7 @@ fn left_of(allowance: Option<u32>, units: u32) -> Option<u32>
 /// Searches the position after a root move to one ply less.
 fn search_root<F: Facts>(
     alloc: Global,
-    task: &Task,
+    task: &RoundTask,
     m: Move,
     left: Option<u32>,
     facts: &mut F,
@@ -60,7 +60,7 @@ const WITHOUT_FACTS: u8 = 4;
 /// four plies makes no call of the worker's place.
 pub fn share_of<F: Facts>(
     alloc: Global,
-    task: &Task,
+    task: &RoundTask,
     moves: &[Move],
     number: u32,
     count: u32,
@@ -86,7 +86,7 @@ pub fn share_of<F: Facts>(
 /// Searches the root moves of a worker with a place that is asked whatever the depth.
 fn part_of<F: Facts>(
     alloc: Global,
-    task: &Task,
+    task: &RoundTask,
     moves: &[Move],
     number: u32,
     count: u32,

@@ -8,7 +8,7 @@ ghost use Rattle.root_workers.specs.Shares.{IsShare, ShareCalls, AllGrowTo};
 ghost use Rattle.root_workers.specs.Hiring.{IsStaff, IsUnhired, StaffMakes, StaffLeaves, StaffEnds, staff_count, is_refused};
 
 use crate::hired::Hired;
-use crate::task::Task;
+use crate::task::RoundTask;
 use crate::work::Work;
 use cha_fact::{Key, Probe, Proved, Stored};
 use cha_moves::Move;
@@ -117,7 +117,7 @@ impl Staff {
         &mut self,
         rt: &R,
         alloc: Global,
-        task: &Task,
+        task: &RoundTask,
         moves: &[Move],
     )
         requires staff { IsStaff self.old }

@@ -4,7 +4,7 @@ use cha_board::{Color, Position};
 
 /// A round: the root, the side that may mate, and how far it is searched.
 #[derive(Clone, Copy, Debug, PartialEq, Eq)]
-pub struct Task {
+pub struct RoundTask {
     pub position: Position,
     pub winner: Color,
     /// How many plies, from 1 to 8.

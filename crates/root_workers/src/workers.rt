@@ -5,7 +5,7 @@ ghost use Rattle.cha_moves.specs.Moves.{legal as legal_moves};
 ghost use Rattle.cha_fact.specs.Entries.{Entry};
 ghost use Rattle.root_workers.specs.Shares.{IsShare, ShareCalls, AllGrow, AllGrowTo};
 
-use crate::task::Task;
+use crate::task::RoundTask;
 use crate::work::Work;
 use cha_fact::Facts;
 use cha_moves::Move;
@@ -48,7 +48,7 @@ pub trait Crew: Facts {
 
     /// Has each worker search its root moves: those whose number is the worker's own, modulo the count of workers. In a round of at
     /// most four plies no worker makes a call.
-    fn share_out(&mut self, alloc: Global, task: &Task, moves: &[Move])
+    fn share_out(&mut self, alloc: Global, task: &RoundTask, moves: &[Move])
         requires ready { Self.ready self.old }
         requires listed { moves.now ≡ legal_moves task.now.position }
         requires some { 1 ≤ task.now.depth }

@@ -8,7 +8,7 @@ ghost use Rattle.cha_outcome.specs.declared.questions.Question.{Question as Aske
 ghost use Rattle.side_by_side.specs.Progresses.{AreAsked, AllGoOn};
 ghost use Rattle.side_by_side.specs.Parts.{items_of, IsAbout};
 
-use crate::parts::{GoOn, Part, Task, advance_all, bell};
+use crate::parts::{GoOn, Part, PartTask, advance_all, bell};
 use crate::progress::Progress;
 use cert_par::check_par;
 use cha_board::{Color, Position};
@@ -122,7 +122,7 @@ impl<'a, R: Threads + Sync> Hands for Threaded<'a, R> {
             ensures { (length result.items ≡ length items.items) × AllGoOn asked items.items result.items }
         { advance_all(alloc, asked, items, theirs) };
         match thread::spawn_with(self.rt, promise, work) {
-            Ok(handle) => Part::There(ManuallyDrop::new(Task { handle, told })),
+            Ok(handle) => Part::There(ManuallyDrop::new(PartTask { handle, told })),
             Err(refused) => Part::Here((refused.value)()),
         }
     }
@@ -131,7 +131,7 @@ impl<'a, R: Threads + Sync> Hands for Threaded<'a, R> {
         match part {
             Part::Here(items) => items,
             Part::There(task) => {
-                let Task { handle, told } = ManuallyDrop::into_inner(task);
+                let PartTask { handle, told } = ManuallyDrop::into_inner(task);
                 drop(told);
                 handle.join(self.rt)
             }

@@ -13,5 +13,5 @@ mod progress;
 
 pub use cuts::{Cut, ItemKind, Purpose};
 pub use hands::Hands;
-pub use parts::{GoOn, Part, Task};
+pub use parts::{GoOn, Part, PartTask};
 pub use progress::{Progress, finish};

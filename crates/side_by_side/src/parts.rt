@@ -31,7 +31,7 @@ impl Promise<Vec<Progress>> for GoOn {
 
 /// The work of a thread. Where memory was there for it, the thread tells when this has ended.
 #[derive(Drop)]
-pub struct Task {
+pub struct PartTask {
     /// What it promises.
     pub handle: PromisedHandle<Vec<Progress>, GoOn>,
     /// Whether it has told that its work has ended.
@@ -44,7 +44,7 @@ pub enum Part {
     /// Nobody works on them.
     Here(Vec<Progress>),
     /// A thread works on them. It is joined where the part is ended, and never left to itself.
-    There(ManuallyDrop<Task>),
+    There(ManuallyDrop<PartTask>),
 }
 
 impl Part {

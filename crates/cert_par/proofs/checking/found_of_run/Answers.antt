@@ -6,7 +6,7 @@ use Rattle.rayon.proofs.ToStd.{nat_range-All}
 use Rattle.cha_list.specs.declared.memory.NoMemory.{NoMemory}
 use Rattle.cha_cert.specs.Shared.{expansion}
 use Rattle.cha_cert.specs.Indexed.{IsIndexOf}
-use Rattle.cert_par.specs.Failing.{Found}
+use Rattle.cert_par.specs.Failing.{TellsFirst}
 use Rattle.cert_par.proofs.checking.found_of_run.Goals as goal
 
 pub collect-requires-clause-ready : goal.collect-requires-clause-ready
@@ -23,7 +23,7 @@ pub returns : goal.returns
 returns g c =
     let ends = c.into_par_iter.ensures in
     let h = c.in_ok-found.ensures in
-    let F = Found c.args.winner (expansion c.args.cert.now) in
+    let F = TellsFirst c.args.winner (expansion c.args.cert.now) in
     let chain = rw (c.map.ensures.base, c.map.ensures.f) at h.1 in
     let places = chain.1 ∙ (λ i. nat_range (ends.0 i) (ends.1 i)) in
     subst (λ (xs : List ℕ). AllZip F xs c.in_ok-found.found.items) places

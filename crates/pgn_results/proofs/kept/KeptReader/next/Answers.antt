@@ -3,7 +3,7 @@ use Rattle.cha_outside.proofs.Gathered.{gathers_more}
 use Rattle.pgn_games.specs.declared.played.PlacedGame.{PlacedGame}
 use Rattle.pgn_games.specs.Games.{placed_games}
 use Rattle.pgn_games.specs.Settling.{settled_games}
-use Rattle.pgn_results.specs.Keeping.{arrived, IsOpen}
+use Rattle.pgn_results.specs.Keeping.{arrived, IsGoingOn}
 use Rattle.pgn_games.proofs.KeptTokens.{waits_on}
 use Rattle.pgn_results.proofs.KeptBytes.{games_few, first_on, arrived_is, arrived_waits}
 use Rattle.pgn_results.proofs.kept.KeptReader.next.Invariants.{end_left}
@@ -22,9 +22,9 @@ loop-found-preserved-in-Ok-More g c =
     let same = c.next.ensures.same in
     let given : c.next.new.self.given ≡ c.args.self.now.given = search rules in
     let none : settled_games c.next.new.self.taken ≤ c.next.new.self.given = search rules in
-    let all = sym (arrived_is c.loop-found.self-inside.intake (subst (IsOpen c.loop-found.self-inside.intake) c.if-self.false inv.is_open)) in
+    let all = sym (arrived_is c.loop-found.self-inside.intake (subst (IsGoingOn c.loop-found.self-inside.intake) c.if-self.false inv.is_open)) in
     record {
-      is_open = subst (IsOpen c.refill.new.self) (sym c.if-self.false) (h.more (c.in-Ok-More.is ∙ ap Ok c.in-Ok-More.field-0-is));
+      is_open = subst (IsGoingOn c.refill.new.self) (sym c.if-self.false) (h.more (c.in-Ok-More.is ∙ ap Ok c.in-Ok-More.field-0-is));
       working = inv.working;
       bytes = gathers_more _ _ _ _ _ _ h.bytes.0 inv.bytes h.bytes.1 (h.bytes.2 ∙ ap (λ (x : List ℕ). (x ++ piece) ++ h.bytes.0) same.0);
       written = h.written ∙ inv.written;
@@ -53,7 +53,7 @@ loop-found-preserved g c =
     let same = c.next.ensures.same in
     let given : c.next.new.self.given ≡ c.args.self.now.given = search rules in
     let none : settled_games c.next.new.self.taken ≤ c.next.new.self.given = search rules in
-    let all = sym (arrived_is c.loop-found.self-inside.intake (subst (IsOpen c.loop-found.self-inside.intake) c.if-self.false inv.is_open)) in
+    let all = sym (arrived_is c.loop-found.self-inside.intake (subst (IsGoingOn c.loop-found.self-inside.intake) c.if-self.false inv.is_open)) in
     let end = h.end (c.in-Ok-End.is ∙ ap Ok c.in-Ok-End.field-0-is) in
     record {
       is_open = end.0;
@@ -86,6 +86,6 @@ returns-in-Err-clause-at_hand g c = λ more.
     let inv = c.loop-found.invariant in
     let given : c.next.new.self.given ≡ c.args.self.now.given = search rules in
     let none : settled_games c.next.new.self.taken ≤ c.next.new.self.given = search rules in
-    let all = sym (arrived_is c.loop-found.self-inside.intake (subst (IsOpen c.loop-found.self-inside.intake) c.if-self.false inv.is_open)) in
+    let all = sym (arrived_is c.loop-found.self-inside.intake (subst (IsGoingOn c.loop-found.self-inside.intake) c.if-self.false inv.is_open)) in
     let was = inv.at_hand more in
     absurd (omega (arith, more, none, ap settled_games (c.next.ensures.same.0 ∙ all ∙ was.1), given))

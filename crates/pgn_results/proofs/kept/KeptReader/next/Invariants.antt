@@ -4,13 +4,13 @@ use Rattle.cha_outside.specs.Gathering.{Gathers}
 use Rattle.std.specs.Io.KnownBytes.{IsAtEnd}
 use Rattle.pgn_games.specs.Games.{placed_games}
 use Rattle.pgn_games.specs.Settling.{settled_games}
-use Rattle.pgn_results.specs.Keeping.{arrived, IsOpen}
+use Rattle.pgn_results.specs.Keeping.{arrived, IsGoingOn}
 use Rattle.pgn_results.proofs.kept.KeptReader.next.Given as goal
 
 -- what came was taken, and none of it was written or given
 abbrev pub invariant-loop-found : goal.invariant-loop-found
 invariant-loop-found g l = record {
-  is_open : IsOpen l.self-inside.intake l.self-inside.ended;
+  is_open : IsGoingOn l.self-inside.intake l.self-inside.ended;
   working : l.self-inside.failed ≡ false;
   bytes : Gathers (g.S.Source.left l.fn.source) (g.S.Source.left l.source) l.fn.self.taken (arrived l.self-inside.intake);
   written : l.self-inside.intake.start + l.self-inside.intake.written ≡ l.fn.self.written;

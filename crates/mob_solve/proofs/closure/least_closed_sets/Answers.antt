@@ -1,7 +1,7 @@
 use Rattle.mob_sets.specs.Rows.{sets_of}
 use Rattle.mob_solve.specs.Reaching.{sets_in}
 use Rattle.mob_solve.proofs.Entered.{least_entered}
-use Rattle.mob_solve.proofs.closure.least.Goals as goal
+use Rattle.mob_solve.proofs.closure.least_closed_sets.Goals as goal
 
 pub returns : goal.returns
 returns c =

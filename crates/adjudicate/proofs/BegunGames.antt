@@ -80,7 +80,7 @@ at_opening placed pg says e = at_opening_if (nat_lt MOST_GAME_BYTES (placed.span
 alive_by : (limits : Bounds) (v : Verdict) → IsTrueOf opening Black limits v → is_unwinnable v ≡ false
 alive_by limits (Winnable moves) t = refl
 alive_by limits (Unwinnable cert) t = absurd (valid_is_unwinnable opening Black cert t (move 13 21 ∷ move 52 36 ∷ move 14 30 ∷ move 59 31 ∷ []) black_mates)
-alive_by limits (Undecided units depth) t = refl
+alive_by limits (Undecided count depth) t = refl
 alive_by limits Skipped t = refl
 
 not_both : (a b : Bool) → b ≡ false → a && b ≡ false

@@ -33,7 +33,7 @@ mating_is_legal q winner (m ∷ ms) h = (h.0, mating_is_legal (after q m) winner
 pub true_is_legal : (q : Board) (winner : Color) (limits : Bounds) (v : Verdict) → IsTrueOf q winner limits v → IsOfLegalMoves q v
 true_is_legal q winner limits (Winnable moves) h = mating_is_legal q winner moves h
 true_is_legal q winner limits (Unwinnable cert) h = tt
-true_is_legal q winner limits (Undecided units depth) h = tt
+true_is_legal q winner limits (Undecided positions depth) h = tt
 true_is_legal q winner limits Skipped h = tt
 
 -- so are the lines of a list, where each of them mates

@@ -16,7 +16,7 @@ mod top;
 mod writing;
 
 pub use alone::run_alone;
-pub use cha_decide::{decide, decide_by, scan_back, scan_by};
+pub use cha_decide::{decide, scan_back};
 pub use cha_verdict::{Decision, Limits};
 pub use cha_words::{Order, parse};
 pub use endings::Status;

@@ -31,10 +31,10 @@ module _ (q : Board) (limits : Bounds) where
       let holds : IsFoundAt q first limits (Dead (record { white = w; black = b })) = (record { white = sound.true_of White; black = sound.true_of Black }, record { white = on_white; black = on_black }) in
       subst (λ (c : EarlierCerts). IsFoundAt q first limits (Dead c)) same holds
   found_both first (Unwinnable w) (Winnable ms) certs sound on_white on_black is = cc
-  found_both first (Unwinnable w) (Undecided units depth) certs sound on_white on_black is = cc
+  found_both first (Unwinnable w) (Undecided positions depth) certs sound on_white on_black is = cc
   found_both first (Unwinnable w) Skipped certs sound on_white on_black is = cc
   found_both first (Winnable ms) black certs sound on_white on_black is = cc
-  found_both first (Undecided units depth) black certs sound on_white on_black is = cc
+  found_both first (Undecided positions depth) black certs sound on_white on_black is = cc
   found_both first Skipped black certs sound on_white on_black is = cc
 
   -- where neither side can mate, none was skipped
@@ -47,16 +47,16 @@ module _ (q : Board) (limits : Bounds) where
   open_edge : (first : Color) (white black : Verdict) → IsSound q first limits (both white black) → certs_by white black ≡ None → IsOpenEdge q first limits (edge_by (is_winnable white) (is_winnable black))
   open_edge first (Winnable ms) black sound is = (both (Winnable ms) black, sound, refl)
   open_edge first (Unwinnable w) (Winnable ms) sound is = (both (Unwinnable w) (Winnable ms), sound, refl)
-  open_edge first (Undecided units depth) (Winnable ms) sound is = (both (Undecided units depth) (Winnable ms), sound, refl)
+  open_edge first (Undecided positions depth) (Winnable ms) sound is = (both (Undecided positions depth) (Winnable ms), sound, refl)
   open_edge first Skipped (Winnable ms) sound is = (both Skipped (Winnable ms), sound, refl)
   open_edge first (Unwinnable w) (Unwinnable b) sound is = cc
-  open_edge first (Unwinnable w) (Undecided units depth) sound is = (both (Unwinnable w) (Undecided units depth), sound, refl, refl)
-  open_edge first (Undecided units depth) (Unwinnable b) sound is = (both (Undecided units depth) (Unwinnable b), sound, refl, refl)
-  open_edge first (Undecided units depth) (Undecided more deeper) sound is = (both (Undecided units depth) (Undecided more deeper), sound, refl, refl)
+  open_edge first (Unwinnable w) (Undecided positions depth) sound is = (both (Unwinnable w) (Undecided positions depth), sound, refl, refl)
+  open_edge first (Undecided positions depth) (Unwinnable b) sound is = (both (Undecided positions depth) (Unwinnable b), sound, refl, refl)
+  open_edge first (Undecided positions depth) (Undecided more deeper) sound is = (both (Undecided positions depth) (Undecided more deeper), sound, refl, refl)
   open_edge first (Unwinnable w) Skipped sound is = let no = (none_skipped first (Unwinnable w) Skipped sound refl refl).1 in cc
-  open_edge first (Undecided units depth) Skipped sound is = let no = (none_skipped first (Undecided units depth) Skipped sound refl refl).1 in cc
+  open_edge first (Undecided positions depth) Skipped sound is = let no = (none_skipped first (Undecided positions depth) Skipped sound refl refl).1 in cc
   open_edge first Skipped (Unwinnable b) sound is = let no = (none_skipped first Skipped (Unwinnable b) sound refl refl).0 in cc
-  open_edge first Skipped (Undecided units depth) sound is = let no = (none_skipped first Skipped (Undecided units depth) sound refl refl).0 in cc
+  open_edge first Skipped (Undecided positions depth) sound is = let no = (none_skipped first Skipped (Undecided positions depth) sound refl refl).0 in cc
   open_edge first Skipped Skipped sound is = let no = (none_skipped first Skipped Skipped sound refl refl).0 in cc
 
   pub found_dead : (first : Color) (d : Decision) (certs : EarlierCerts) → IsSound q first limits d → IsPrintable d.white → IsPrintable d.black → certs_by d.white d.black ≡ Some certs → IsFoundAt q first limits (Dead certs)

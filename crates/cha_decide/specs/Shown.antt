@@ -39,7 +39,7 @@ pub record IsShownAlone (q : Board) (winner : Color) (cert : List Node) : Type 0
 abbrev pub IsExpandedUnshown : Board → Color → Bounds → Verdict → Type 0
 IsExpandedUnshown q winner limits (Winnable moves) = ⊤
 IsExpandedUnshown q winner limits (Unwinnable cert) = HasNoInner cert ⊎ ((IsShownAtOnce q winner → ⊥) × HasExpandedInner q winner limits.budget cert)
-IsExpandedUnshown q winner limits (Undecided units depth) = (IsShownAtOnce q winner → ⊥) × HasExpanded q winner units
+IsExpandedUnshown q winner limits (Undecided positions depth) = (IsShownAtOnce q winner → ⊥) × HasExpanded q winner positions
 IsExpandedUnshown q winner limits Skipped = ⊤
 
 -- what is found about a side that is examined: its verdict is true and can be printed, and nothing was expanded for it that is shown at once
@@ -63,7 +63,7 @@ abbrev pub IsOfSearch : Verdict → Type 0
 IsOfSearch (Winnable []) = ⊥
 IsOfSearch (Winnable (m ∷ ms)) = ⊤
 IsOfSearch (Unwinnable cert) = ⊥
-IsOfSearch (Undecided units depth) = ⊤
+IsOfSearch (Undecided positions depth) = ⊤
 IsOfSearch Skipped = ⊥
 
 -- The entries that a decision made at a place that keeps facts. Where a verdict comes of a search, the position was asked for

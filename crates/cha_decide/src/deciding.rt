@@ -27,7 +27,7 @@ use std::alloc::Global;
 /// mobility sets or the men alone (`Reason`) show it, and never undecided where fewer distinct positions than the budget can be
 /// reached (this project).
 /// The only error is want of memory.
-pub fn decide_by<C: Crew>(
+pub fn decide<C: Crew>(
     alloc: Global,
     position: &Position,
     first: Color,

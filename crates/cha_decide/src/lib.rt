@@ -10,12 +10,8 @@ mod scanning;
 mod searching;
 mod showing;
 mod sides;
-mod table_deciding;
-mod table_scanning;
 mod unaided;
 
-pub use deciding::decide_by;
-pub use scanning::scan_by;
-pub use table_deciding::decide;
-pub use table_scanning::scan_back;
+pub use deciding::decide;
+pub use scanning::scan_back;
 pub use unaided::quick;

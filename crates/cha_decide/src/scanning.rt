@@ -7,7 +7,7 @@ ghost use Rattle.cha_fact.specs.Entries.{MadeSome};
 ghost use Rattle.root_workers.specs.Worked.{HasWorked};
 ghost use Rattle.cha_decide.specs.Scanning.{IsFoundAt, IsShownAt, IsOpenAt, IsReached, IsScanFound, edge_by, certs_by};
 
-use crate::deciding::decide_by;
+use crate::deciding::decide;
 use cha_board::{Color, Position};
 use cha_limits::Limits;
 use cha_list::NoMemory;
@@ -87,7 +87,7 @@ fn look<C: Crew>(
     ensures found { IfOk result (IsFoundAt position.now first limits.now) }
     ensures calls { MadeSome C.made crew.old crew.new }
 {
-    let decision = decide_by(alloc, position, first, limits, crew)?;
+    let decision = decide(alloc, position, first, limits, crew)?;
     let edge = edge_of(&decision.white, &decision.black);
     match certs_of(decision) {
         Some(certs) => Ok(EarlierPly::Dead(certs)),
@@ -199,11 +199,11 @@ fn narrow<C: Crew>(
 /// From where on a game was dead, by its positions in order and the verdicts on the last one. There is an answer exactly where
 /// these show the last position dead.
 ///
-/// Positions before the last one are decided, with `first` examined first, as `decide_by` does. Since what comes after a dead
+/// Positions before the last one are decided, with `first` examined first, as `decide` does. Since what comes after a dead
 /// position is dead, not each of them is: the plies are gone back by steps that grow, and what lies between the last two steps is
 /// halved. The ply that is answered is shown dead, with certificates where it is not the last one, and the ply before it is not,
 /// unless there is none. The only error is want of memory.
-pub fn scan_by<C: Crew>(
+pub fn scan_back<C: Crew>(
     alloc: Global,
     positions: &[Position],
     first: Color,

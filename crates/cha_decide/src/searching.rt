@@ -17,10 +17,10 @@ use cha_limits::Limits;
 use cha_list::NoMemory;
 use cha_moves::Moves;
 use cha_verdict::Verdict;
-use forced_graph::{Explored, explore_in};
-use helpmate::{RoundAnswer, round_in};
+use forced_graph::{Explored, explore};
+use helpmate::{RoundAnswer, round};
 use mate_hunt::{Width, hunt};
-use root_workers::{Crew, Nowhere, RoundsEnd, rounds_by};
+use root_workers::{Crew, Nowhere, RoundsEnd, rounds};
 use search_guide::Guide;
 use std::alloc::Global;
 
@@ -41,11 +41,11 @@ fn hunted_last(
     position: &Position,
     winner: Color,
     limits: &Limits,
-    units: u32,
+    positions: u32,
     depth: u8,
 ) -> Result<Verdict, NoMemory>
-    requires undecided { IsUndecided position.now winner limits.now units depth }
-    requires expanded { HasExpanded position.now winner units }
+    requires undecided { IsUndecided position.now winner limits.now positions depth }
+    requires expanded { HasExpanded position.now winner positions }
     ensures found { IfOk result (IsFound position.now winner limits.now) }
 {
     match hunt(
@@ -57,7 +57,7 @@ fn hunted_last(
         Width::All,
     )? {
         Some(moves) => Ok(Verdict::Winnable(moves)),
-        None => Ok(Verdict::Undecided { units, depth }),
+        None => Ok(Verdict::Undecided { positions, depth }),
     }
 }
 
@@ -81,7 +81,7 @@ fn explored<F: Facts>(
     ensures found { IfOk result (IsFound position.now winner limits.now) }
     ensures calls { MadeSome F.made facts.old facts.new }
 {
-    match explore_in(alloc, position, winner, limits.budget(), facts)? {
+    match explore(alloc, position, winner, limits.budget(), facts)? {
         Explored::Mate(moves) => Ok(Verdict::Winnable(moves)),
         Explored::Closed(cert) => Ok(Verdict::Unwinnable(checked(alloc, position, winner, cert)?)),
         Explored::Spent { count } => hunted_last(alloc, position, winner, limits, count, depth),
@@ -103,7 +103,7 @@ fn deepened_further<C: Crew>(
     ensures found { IfOk result (IsFound position.now winner limits.now) }
     ensures calls { MadeSome C.made crew.old crew.new }
 {
-    match rounds_by(alloc, position, winner, limits, crew)? {
+    match rounds(alloc, position, winner, limits, crew)? {
         RoundsEnd::Mate(line) => Ok(Verdict::Winnable(moves_of(alloc, &line)?)),
         RoundsEnd::NoneWithin(depth) => explored(alloc, position, winner, limits, depth, crew),
     }
@@ -121,7 +121,7 @@ fn mate_in_two<F: Facts>(
     ensures found { IfOk result (λ found. IfSome found (λ line. IsMatingLine position.now winner line)) }
     ensures calls { MadeSome F.made facts.old facts.new }
 {
-    match round_in(alloc, position, winner, 2, None, &mut Nowhere)?.round {
+    match round(alloc, position, winner, 2, None, &mut Nowhere)?.round {
         RoundAnswer::Mate(line) => Ok(Some(line)),
         RoundAnswer::NoneWithin => {
             let _stored = facts.store(Proved::none(position, winner, 2));

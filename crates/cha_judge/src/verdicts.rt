@@ -11,7 +11,7 @@ ghost use Rattle.cha_outcome.specs.declared.outcomes.Outcome.TheVariants.{Judged
 
 use crate::judges::Judge;
 use cha_board::{Color, Position};
-use cha_decide::{decide_by, scan_by};
+use cha_decide::{decide, scan_back};
 use cha_limits::Limits;
 use cha_list::NoMemory;
 use cha_moves::state;
@@ -85,7 +85,7 @@ fn judge_position<C: Crew>(
     ensures back { IfErr result (λ back. back ≡ OfPosition line position) }
 {
     position.known();
-    let Ok(decision) = decide_by(alloc, &position, Color::White, limits, crew) else {
+    let Ok(decision) = decide(alloc, &position, Color::White, limits, crew) else {
         return Err(Item::Position { line, position });
     };
     let standing = state(&position);
@@ -125,8 +125,8 @@ fn decide_game<C: Crew>(
     game.last.known();
     let claim = claim_of(draws, game);
     let first = first_examined(claim);
-    let decision = decide_by(alloc, &game.last, first, limits, crew)?;
-    let scan = scan_by(
+    let decision = decide(alloc, &game.last, first, limits, crew)?;
+    let scan = scan_back(
         alloc,
         game.positions.items(),
         first,

@@ -40,7 +40,7 @@ stalemated recorded forfeit white black = refl
 
 -- each kind of verdict: can mate, cannot mate, not shown, not examined
 abbrev each_verdict : List Move → List Node → ℕ → ℕ → List Verdict
-each_verdict moves cert units depth = Winnable moves ∷ Unwinnable cert ∷ Undecided units depth ∷ Skipped ∷ []
+each_verdict moves cert positions depth = Winnable moves ∷ Unwinnable cert ∷ Undecided positions depth ∷ Skipped ∷ []
 
 -- the rulings where the game goes on, and was not dead before: a row for each verdict on White, and in it one for each verdict on Black
 abbrev rulings : ResultMark → Bool → List Verdict → List (List Judgment)
@@ -60,45 +60,45 @@ abbrev u : ResultMark → Judgment
 u recorded = judged recorded RecordedUndecided
 
 -- White won, as where Black resigned
-white_won : (moves : List Move) (cert : List Node) (units depth : ℕ) → let w = WhiteWins in
-    rulings w false (each_verdict moves cert units depth)
+white_won : (moves : List Move) (cert : List Node) (positions depth : ℕ) → let w = WhiteWins in
+    rulings w false (each_verdict moves cert positions depth)
     ≡ ((r w ∷ r w ∷ r w ∷ r w ∷ []) ∷ (r w ∷ d ∷ r w ∷ r w ∷ []) ∷ (u w ∷ u w ∷ u w ∷ u w ∷ []) ∷ (r w ∷ r w ∷ r w ∷ r w ∷ []) ∷ [])
 unfolding ruling_of running_ruling_of winner_ruling_of
-white_won moves cert units depth = refl
+white_won moves cert positions depth = refl
 
 -- White won, and Black's flag fell
-white_won_on_time : (moves : List Move) (cert : List Node) (units depth : ℕ) → let w = WhiteWins in
-    rulings w true (each_verdict moves cert units depth)
+white_won_on_time : (moves : List Move) (cert : List Node) (positions depth : ℕ) → let w = WhiteWins in
+    rulings w true (each_verdict moves cert positions depth)
     ≡ ((r w ∷ r w ∷ r w ∷ r w ∷ []) ∷ (f ∷ d ∷ f ∷ f ∷ []) ∷ (u w ∷ u w ∷ u w ∷ u w ∷ []) ∷ (r w ∷ r w ∷ r w ∷ r w ∷ []) ∷ [])
 unfolding ruling_of running_ruling_of winner_ruling_of
-white_won_on_time moves cert units depth = refl
+white_won_on_time moves cert positions depth = refl
 
 -- Black won
-black_won : (moves : List Move) (cert : List Node) (units depth : ℕ) → let b = BlackWins in
-    rulings b false (each_verdict moves cert units depth)
+black_won : (moves : List Move) (cert : List Node) (positions depth : ℕ) → let b = BlackWins in
+    rulings b false (each_verdict moves cert positions depth)
     ≡ ((r b ∷ r b ∷ u b ∷ r b ∷ []) ∷ (r b ∷ d ∷ u b ∷ r b ∷ []) ∷ (r b ∷ r b ∷ u b ∷ r b ∷ []) ∷ (r b ∷ r b ∷ u b ∷ r b ∷ []) ∷ [])
 unfolding ruling_of running_ruling_of winner_ruling_of
-black_won moves cert units depth = refl
+black_won moves cert positions depth = refl
 
 -- Black won, and White's flag fell
-black_won_on_time : (moves : List Move) (cert : List Node) (units depth : ℕ) → let b = BlackWins in
-    rulings b true (each_verdict moves cert units depth)
+black_won_on_time : (moves : List Move) (cert : List Node) (positions depth : ℕ) → let b = BlackWins in
+    rulings b true (each_verdict moves cert positions depth)
     ≡ ((r b ∷ f ∷ u b ∷ r b ∷ []) ∷ (r b ∷ d ∷ u b ∷ r b ∷ []) ∷ (r b ∷ f ∷ u b ∷ r b ∷ []) ∷ (r b ∷ f ∷ u b ∷ r b ∷ []) ∷ [])
 unfolding ruling_of running_ruling_of winner_ruling_of
-black_won_on_time moves cert units depth = refl
+black_won_on_time moves cert positions depth = refl
 
 -- a draw, as where a site rules so by itself; and no result: a dead position alone changes them, flag or not
-drawn : (forfeit : Bool) (moves : List Move) (cert : List Node) (units depth : ℕ) → let x = Draw in
-    rulings x forfeit (each_verdict moves cert units depth)
+drawn : (forfeit : Bool) (moves : List Move) (cert : List Node) (positions depth : ℕ) → let x = Draw in
+    rulings x forfeit (each_verdict moves cert positions depth)
     ≡ ((r x ∷ r x ∷ r x ∷ r x ∷ []) ∷ (r x ∷ d ∷ r x ∷ r x ∷ []) ∷ (r x ∷ r x ∷ r x ∷ r x ∷ []) ∷ (r x ∷ r x ∷ r x ∷ r x ∷ []) ∷ [])
 unfolding ruling_of running_ruling_of winner_ruling_of
-drawn forfeit moves cert units depth = refl
+drawn forfeit moves cert positions depth = refl
 
-without_result : (forfeit : Bool) (moves : List Move) (cert : List Node) (units depth : ℕ) → let x = Unknown in
-    rulings x forfeit (each_verdict moves cert units depth)
+without_result : (forfeit : Bool) (moves : List Move) (cert : List Node) (positions depth : ℕ) → let x = Unknown in
+    rulings x forfeit (each_verdict moves cert positions depth)
     ≡ ((r x ∷ r x ∷ r x ∷ r x ∷ []) ∷ (r x ∷ d ∷ r x ∷ r x ∷ []) ∷ (r x ∷ r x ∷ r x ∷ r x ∷ []) ∷ (r x ∷ r x ∷ r x ∷ r x ∷ []) ∷ [])
 unfolding ruling_of running_ruling_of winner_ruling_of
-without_result forfeit moves cert units depth = refl
+without_result forfeit moves cert positions depth = refl
 
 -- a draw whose flag fell and that is examined: won where the claimant can mate, and by its verdict alone, but in a dead position
 abbrev claims : Color → List Verdict → List (List Judgment)
@@ -107,17 +107,17 @@ claims claimant verdicts = map (λ white. map (λ black. ruling_of Running (reco
 abbrev w : Color → Judgment
 w winner = judged (win_of winner) FlagOfMover69
 
-claimed_by_white : (moves : List Move) (cert : List Node) (units depth : ℕ) → let x = Draw in
-    claims White (each_verdict moves cert units depth)
+claimed_by_white : (moves : List Move) (cert : List Node) (positions depth : ℕ) → let x = Draw in
+    claims White (each_verdict moves cert positions depth)
     ≡ ((w White ∷ w White ∷ w White ∷ w White ∷ []) ∷ (f ∷ d ∷ f ∷ f ∷ []) ∷ (u x ∷ u x ∷ u x ∷ u x ∷ []) ∷ (u x ∷ u x ∷ u x ∷ u x ∷ []) ∷ [])
 unfolding ruling_of running_ruling_of flag_ruling_of
-claimed_by_white moves cert units depth = refl
+claimed_by_white moves cert positions depth = refl
 
-claimed_by_black : (moves : List Move) (cert : List Node) (units depth : ℕ) → let x = Draw in
-    claims Black (each_verdict moves cert units depth)
+claimed_by_black : (moves : List Move) (cert : List Node) (positions depth : ℕ) → let x = Draw in
+    claims Black (each_verdict moves cert positions depth)
     ≡ ((w Black ∷ f ∷ u x ∷ u x ∷ []) ∷ (w Black ∷ d ∷ u x ∷ u x ∷ []) ∷ (w Black ∷ f ∷ u x ∷ u x ∷ []) ∷ (w Black ∷ f ∷ u x ∷ u x ∷ []) ∷ [])
 unfolding ruling_of running_ruling_of flag_ruling_of
-claimed_by_black moves cert units depth = refl
+claimed_by_black moves cert positions depth = refl
 
 abbrev each_mark : List ResultMark
 each_mark = WhiteWins ∷ BlackWins ∷ Draw ∷ Unknown ∷ []

@@ -24,7 +24,7 @@ use Rattle.cha_outcome.specs.PlayedOut.{IsPlayedOut}
 side_dead : (q : Board) (w : Color) (limits : Bounds) (v : Verdict) → is_unwinnable v ≡ true → IsTrueOf q w limits v → IsUnwinnable q w
 side_dead q w limits (Winnable moves) is h = cc
 side_dead q w limits (Unwinnable cert) is h = valid_is_unwinnable q w cert h
-side_dead q w limits (Undecided units depth) is h = cc
+side_dead q w limits (Undecided positions depth) is h = cc
 side_dead q w limits Skipped is h = cc
 
 both_dead : (q : Board) (first : Color) (limits : Bounds) (d : Decision) → IsSound q first limits d → are_dead d.white d.black ≡ true → IsDead q

@@ -27,21 +27,21 @@ module _ (q : Board) (w : Color) (limits : Bounds) where
   mate_found : (v : Verdict) → IsTrueOf q w limits v → is_skipped v ≡ false → (ms : List Move) → length ms ≤ 2 → IsMatingLine q w ms → is_winnable v ≡ true
   mate_found (Winnable moves) h examined ms few line = refl
   mate_found (Unwinnable cert) h examined ms few line = absurd (valid_is_unwinnable q w cert h ms line)
-  mate_found (Undecided units depth) h examined ms few line = let deep = h.deep in absurd (h.none ms (omega (arith, deep, few)) line)
+  mate_found (Undecided positions depth) h examined ms few line = let deep = h.deep in absurd (h.none ms (omega (arith, deep, few)) line)
   mate_found Skipped h examined ms few line = cc
 
   -- and unwinnable where that is shown without a search
   shown_found : (v : Verdict) → IsTrueOf q w limits v → IsValid q → is_skipped v ≡ false → IsShownAtOnce q w → is_unwinnable v ≡ true
   shown_found (Winnable moves) h valid examined shown = absurd (at_once_bounded q w valid shown moves h)
   shown_found (Unwinnable cert) h valid examined shown = refl
-  shown_found (Undecided units depth) h valid examined shown = absurd (h.unshown shown)
+  shown_found (Undecided positions depth) h valid examined shown = absurd (h.unshown shown)
   shown_found Skipped h valid examined shown = cc
 
   -- and undecided only where many positions can be reached
   many_reached : (v : Verdict) → IsTrueOf q w limits v → is_undecided v ≡ true → HasPositions q limits.budget
   many_reached (Winnable moves) h undecided = cc
   many_reached (Unwinnable cert) h undecided = cc
-  many_reached (Undecided units depth) h undecided = subst (λ (n : ℕ). HasPositions q n) h.spent (explored_positions q w units h.explored)
+  many_reached (Undecided positions depth) h undecided = subst (λ (n : ℕ). HasPositions q n) h.spent (explored_positions q w positions h.explored)
   many_reached Skipped h undecided = cc
 
 pub complete : (q : Board) (first : Color) (limits : Bounds) (d : Decision) → IsValid q → IsSound q first limits d → (w : Color) → IsComplete q w limits (verdict_on d w)

@@ -28,7 +28,7 @@ certified q certs h Black = valid_is_unwinnable q Black certs.black h.black
 can_mate : (q : Board) (w : Color) (limits : Bounds) (v : Verdict) → IsTrueOf q w limits v → is_winnable v ≡ true → IsUnwinnable q w → ⊥
 can_mate q w limits (Winnable moves) line is none = none moves line
 can_mate q w limits (Unwinnable cert) line is none = cc
-can_mate q w limits (Undecided units depth) line is none = cc
+can_mate q w limits (Undecided positions depth) line is none = cc
 can_mate q w limits Skipped line is none = cc
 
 either : (a b : Bool) → a || b ≡ true → (a ≡ false → b ≡ true)

@@ -19,9 +19,9 @@ use Rattle.cha_verdict.specs.Verdicts.{is_winnable, is_unwinnable, is_undecided,
 -- The whole budget was spent: that many distinct positions were expanded and no mate was met. Nor is there a mate within some
 -- plies, which are at least two, and as many as the limits allow or as there are lines of moves for the budget; and nothing shows
 -- without a search that the side cannot mate.
-pub record IsUndecided (q : Board) (winner : Color) (limits : Bounds) (units depth : ℕ) : Type 0 where
-  pub spent : units ≡ limits.budget
-  pub explored : IsExplored q winner units
+pub record IsUndecided (q : Board) (winner : Color) (limits : Bounds) (positions depth : ℕ) : Type 0 where
+  pub spent : positions ≡ limits.budget
+  pub explored : IsExplored q winner positions
   pub unshown : IsShownAtOnce q winner → ⊥
   pub deep : 2 ≤ depth
   pub none : HasNoMateWithin q winner depth
@@ -31,7 +31,7 @@ pub record IsUndecided (q : Board) (winner : Color) (limits : Bounds) (units dep
 abbrev pub IsTrueOf : Board → Color → Bounds → Verdict → Type 0
 IsTrueOf q winner limits (Winnable moves) = IsMatingLine q winner moves
 IsTrueOf q winner limits (Unwinnable cert) = IsValidCert q winner cert
-IsTrueOf q winner limits (Undecided units depth) = IsUndecided q winner limits units depth
+IsTrueOf q winner limits (Undecided positions depth) = IsUndecided q winner limits positions depth
 IsTrueOf q winner limits Skipped = ⊤
 
 -- the verdict on a side

@@ -15,7 +15,7 @@ is_unwinnable _ = false
 
 -- nothing was shown about the side
 abbrev pub is_undecided : Verdict → Bool
-is_undecided (Undecided units depth) = true
+is_undecided (Undecided positions depth) = true
 is_undecided _ = false
 
 -- the side was not examined
@@ -27,7 +27,7 @@ is_skipped _ = false
 abbrev pub IsPrintable : Verdict → Type 0
 IsPrintable (Winnable moves) = ⊤
 IsPrintable (Unwinnable cert) = (1 ≤ length cert) × (length cert ≤ 4294967295)
-IsPrintable (Undecided units depth) = ⊤
+IsPrintable (Undecided positions depth) = ⊤
 IsPrintable Skipped = ⊤
 
 -- neither side can mate (Laws of Chess, Article 5.2.2)

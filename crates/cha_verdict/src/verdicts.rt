@@ -17,7 +17,7 @@ pub enum Verdict {
     Undecided {
         /// So many distinct positions that legal moves lead to were expanded, the position itself the first of them, and no
         /// mate by the side was met.
-        units: u32,
+        positions: u32,
         /// No list of at most this many legal moves, of both sides together, ends in a mate by the side.
         depth: u8,
     },

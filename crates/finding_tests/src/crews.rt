@@ -6,7 +6,7 @@ ghost use Rattle.cha_moves.specs.Ends.{IsMated};
 use crate::from_fen::place;
 use cha_board::{Color, Position};
 use cha_moves::{is_mate, replays};
-use root_workers::{Limits, RoundsEnd, crew, rounds};
+use root_workers::{Limits, Many, RoundsEnd, crew, rounds};
 use shard_table::Table;
 use std::alloc::Global;
 use std::process::Abort;
@@ -23,7 +23,8 @@ fn find<R: Threads + Wait + Abort + Sync>(rt: &R, alloc: Global, position: &Posi
     let (table, mut pass) = Table::new(alloc, 1024).expect(rt, "memory");
     let mut workers = crew(alloc, &table, &mut pass, 2).expect(rt, "memory");
     let white = Color::White;
-    let done = rounds(rt, alloc, position, white, &limits, &table, &mut workers);
+    let mut many = Many::new(rt, &table, &mut workers);
+    let done = rounds(alloc, position, white, &limits, &mut many);
     match done.expect(rt, "memory") {
         RoundsEnd::Mate(line) => assert!(rt; replays(position, white, line.moves())),
         RoundsEnd::NoneWithin(_) => panic!(rt; "no mate"),

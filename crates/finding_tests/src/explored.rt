@@ -9,9 +9,9 @@ use crate::from_fen::place;
 use cha_board::{Color, Position, Square};
 use cha_fact::{Facts, Line, Proved};
 use cha_moves::{Move, is_mate, replays};
-use forced_graph::{Explored, explore, explore_in};
+use forced_graph::{Explored, explore};
 use mob_solve::static_verdict;
-use shard_table::{Shard, Table};
+use shard_table::{Shard, Table, TableFacts};
 use std::alloc::Global;
 use std::process::Abort;
 
@@ -45,7 +45,7 @@ fn explored(
     requires { 0 < budget }
 {
     begins(rt, alloc, position);
-    let found = explore_in(alloc, position, Color::White, budget, shard);
+    let found = explore(alloc, position, Color::White, budget, shard);
     found.expect(rt, "memory")
 }
 
@@ -100,14 +100,7 @@ fn a_table_is_asked_too(rt: HostRuntime) {
     let position = place(&rt, QUEEN_TAKEN);
     let (table, mut pass) = Table::new(rt.alloc(), 1024).expect(&rt, "memory");
     begins(&rt, rt.alloc(), &position);
-    let closed = explore(
-        &rt,
-        rt.alloc(),
-        &position,
-        Color::White,
-        1,
-        &table,
-        &mut pass,
-    );
+    let mut facts = TableFacts::new(&rt, &table, &mut pass);
+    let closed = explore(rt.alloc(), &position, Color::White, 1, &mut facts);
     assert!(rt; matches!(&closed, Ok(Explored::Closed(_))));
 }

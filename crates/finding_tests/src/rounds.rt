@@ -7,8 +7,8 @@ use crate::from_fen::place;
 use cha_board::{Color, Position};
 use cha_fact::Proved;
 use cha_moves::replays;
-use helpmate::{RoundAnswer, RoundDone, round, round_in};
-use shard_table::{Shard, Table, TablePass};
+use helpmate::{RoundAnswer, RoundDone, round};
+use shard_table::{Shard, Table, TableFacts, TablePass};
 use std::alloc::Global;
 use std::process::Abort;
 use std::sync::Wait;
@@ -40,14 +40,14 @@ fn finds_none(
     position: &Position,
     depth: u8,
     shard: &mut Shard,
-    units: u32,
+    positions: u32,
 )
     requires { depth ≤ 8 }
 {
-    let done = round_in(alloc, position, Color::White, depth, Some(100), shard);
+    let done = round(alloc, position, Color::White, depth, Some(100), shard);
     let done = done.expect(rt, "memory");
     assert!(rt; matches!(&done.round, RoundAnswer::NoneWithin));
-    assert_eq!(rt; done.units, units);
+    assert_eq!(rt; done.positions, positions);
 }
 
 #[test]
@@ -58,8 +58,8 @@ fn what_a_place_knows_is_not_expanded(rt: HostRuntime) {
     let mut empty = Shard::new(alloc, 16).expect(&rt, "memory");
     finds_none(&rt, alloc, &position, 3, &mut empty, 7);
     let mut shard = Shard::new(alloc, 16).expect(&rt, "memory");
-    let below = round_in(alloc, &after, Color::White, 2, None, &mut shard);
-    assert_eq!(rt; below.expect(&rt, "memory").units, 6);
+    let below = round(alloc, &after, Color::White, 2, None, &mut shard);
+    assert_eq!(rt; below.expect(&rt, "memory").positions, 6);
     finds_none(&rt, alloc, &position, 3, &mut shard, 1);
     finds_none(&rt, alloc, &position, 3, &mut shard, 0);
 }
@@ -69,10 +69,10 @@ fn an_allowance_is_spent(rt: HostRuntime) {
     let alloc = rt.alloc();
     let start = Position::start();
     let mut shard = Shard::new(alloc, 16).expect(&rt, "memory");
-    let done = round_in(alloc, &start, Color::Black, 4, Some(21), &mut shard);
+    let done = round(alloc, &start, Color::Black, 4, Some(21), &mut shard);
     let done = done.expect(&rt, "memory");
     assert!(rt; matches!(&done.round, RoundAnswer::Spent));
-    assert_eq!(rt; done.units, 21);
+    assert_eq!(rt; done.positions, 21);
 }
 
 /// A round of two plies for White with a table.
@@ -86,7 +86,8 @@ fn in_table<R: Wait + Abort>(
     requires { IsOfTable table.now pass.old }
     ensures { IsOfTable table.now pass.new }
 {
-    let done = round(rt, alloc, position, Color::White, 2, None, table, pass);
+    let mut facts = TableFacts::new(rt, table, pass);
+    let done = round(alloc, position, Color::White, 2, None, &mut facts);
     done.expect(rt, "memory")
 }
 
@@ -98,9 +99,9 @@ fn a_table_keeps_what_a_round_found(rt: HostRuntime) {
     let (table, mut pass) = Table::new(alloc, 1024).expect(&rt, "memory");
     let none = in_table(&rt, alloc, &position, &table, &mut pass);
     assert!(rt; matches!(&none.round, RoundAnswer::NoneWithin));
-    assert_eq!(rt; none.units, 2);
+    assert_eq!(rt; none.positions, 2);
     let again = in_table(&rt, alloc, &position, &table, &mut pass);
-    assert_eq!(rt; again.units, 0);
+    assert_eq!(rt; again.positions, 0);
     let mate = in_table(&rt, alloc, &mated, &table, &mut pass);
     assert_eq!(rt; moves_of(&mated, Color::White, &mate), Some(2));
 }

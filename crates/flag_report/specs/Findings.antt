@@ -46,20 +46,20 @@ winnable_text notation q (m ∷ ms) = codes "winnable in " ++ decimal (length (m
 
 -- the text of a search that spent its budget: the positions expanded, and the plies within which there is no mate
 unfoldable pub undecided_text : ℕ → ℕ → List ℕ
-undecided_text units depth = count_text (codes "undecided after ") units ++ count_text (codes " positions, depth ") depth
+undecided_text positions depth = count_text (codes "undecided after ") positions ++ count_text (codes " positions, depth ") depth
 
 -- the text of a verdict on a side in a position
 unfoldable pub verdict_text : Notation → Board → Verdict → List ℕ
 verdict_text notation q (Winnable moves) = winnable_text notation q moves
 verdict_text notation q (Unwinnable cert) = codes "unwinnable"
-verdict_text notation q (Undecided units depth) = undecided_text units depth
+verdict_text notation q (Undecided positions depth) = undecided_text positions depth
 verdict_text notation q Skipped = codes "skipped"
 
 -- the certificate of a side that cannot mate, its equal sets written once, where certificates are printed
 unfoldable pub cert_part : Bool → Color → Verdict → List ℕ
 cert_part certs winner (Winnable moves) = []
 cert_part certs winner (Unwinnable cert) = if certs then shared_text winner (shared_of cert) else []
-cert_part certs winner (Undecided units depth) = []
+cert_part certs winner (Undecided positions depth) = []
 cert_part certs winner Skipped = []
 
 -- the line with the verdict on a side behind its label, and the certificate behind the line

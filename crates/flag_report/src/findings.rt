@@ -109,10 +109,10 @@ fn put_winnable(
 
 /// Appends the text of a search that spent its budget and found nothing.
 #[tactic(auto, unfolding(crate::specs::Findings::undecided_text))]
-fn put_undecided(alloc: Global, units: u32, depth: u8, text: &mut Text) -> Result<(), NoMemory>
-    ensures { OnOk result (text.new ≡ text.old ++ undecided_text units depth) }
+fn put_undecided(alloc: Global, positions: u32, depth: u8, text: &mut Text) -> Result<(), NoMemory>
+    ensures { OnOk result (text.new ≡ text.old ++ undecided_text positions depth) }
 {
-    put_count(alloc, b"undecided after ", u64::from(units), text)?;
+    put_count(alloc, b"undecided after ", u64::from(positions), text)?;
     put_count(alloc, b" positions, depth ", u64::from(depth), text)?;
     Ok(())
 }
@@ -132,7 +132,7 @@ fn put_verdict(
     match verdict {
         Verdict::Winnable(moves) => put_winnable(alloc, notation, position, moves.items(), text),
         Verdict::Unwinnable(_) => text.append(b"unwinnable"),
-        Verdict::Undecided { units, depth } => put_undecided(alloc, *units, *depth, text),
+        Verdict::Undecided { positions, depth } => put_undecided(alloc, *positions, *depth, text),
         Verdict::Skipped => text.append(b"skipped"),
     }
 }

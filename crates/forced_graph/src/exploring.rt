@@ -23,7 +23,7 @@ use std::alloc::Global;
 ///
 /// A place that keeps facts is asked for each position that is expanded; a mate that it knows ends the exploration. Where
 /// more than 4,294,967,295 positions are met, the error is want of memory; there is no other.
-pub fn explore_in<F: Facts>(
+pub fn explore<F: Facts>(
     alloc: Global,
     position: &Position,
     winner: Color,

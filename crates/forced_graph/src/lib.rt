@@ -3,8 +3,8 @@
 //!
 //! `explored` has what an exploration answers, `region` the positions that were met, `lasting` the moves after which a
 //! position is looked at by its material and its sets, `taking` how the next one is taken, `expanding` how it is
-//! expanded, `certified` the certificate of a whole region, `known` what a place that keeps facts knows, `exploring`
-//! the exploration, and `table_exploring` the same at a table of facts.
+//! expanded, `certified` the certificate of a whole region, `known` what a place that keeps facts knows, and `exploring`
+//! the exploration.
 #![tactic(auto)]
 
 mod certified;
@@ -14,9 +14,7 @@ mod exploring;
 mod known;
 mod lasting;
 mod region;
-mod table_exploring;
 mod taking;
 
 pub use explored::Explored;
-pub use exploring::explore_in;
-pub use table_exploring::explore;
+pub use exploring::explore;

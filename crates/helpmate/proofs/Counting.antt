@@ -10,7 +10,7 @@ use Rattle.cha_moves.proofs.Contained.{not_in_nothing, Contains-cons_cases, Cont
 use Rattle.cha_list.specs.Distinct.{AreDistinct}
 use Rattle.cha_list.proofs.Distinct.{none_apart, one_more_apart}
 use Rattle.cha_moves.specs.Lines.{IsLegalLine, HasLines}
-use Rattle.helpmate.specs.Units.{AreUnits}
+use Rattle.helpmate.specs.Counted.{CountsPositions}
 use Rattle.cha_moves.proofs.Apart.{joined_apart, images_apart}
 use Rattle.cha_moves.proofs.LegalApart.{legal_apart}
 
@@ -25,10 +25,10 @@ HasLinesFrom q d ms n =
     (lines : List (List Move)) × (length lines ≡ n) × AreDistinct lines × ((line : List Move) → Contains lines line → Begins q d ms line)
 
 -- where there is nothing to search, nothing was expanded
-pub no_units : (q : Board) (d n : ℕ) → n ≡ 0 → AreUnits q d n
+pub no_positions : (q : Board) (d n : ℕ) → n ≡ 0 → CountsPositions q d n
 unfolding HasLines
-no_units q zero n none = none
-no_units q (suc d) n none = ([], sym none, none_apart (List Move), (λ line there. absurd (not_in_nothing line there)))
+no_positions q zero n none = none
+no_positions q (suc d) n none = ([], sym none, none_apart (List Move), (λ line there. absurd (not_in_nothing line there)))
 
 pub from_no_move : (q : Board) (d n : ℕ) → n ≡ 0 → HasLinesFrom q d [] n
 unfolding HasLinesFrom
@@ -41,7 +41,7 @@ with_moves q e d ms same [] h = absurd h
 with_moves q e d ms same (m ∷ rest) h = ((h.1, h.2), (let few = h.3 in omega arith))
 
 -- the empty line is one more than those that begin with moves
-pub and_the_empty : (q : Board) (d n u : ℕ) (ms : List Move) → HasLinesFrom q (d - 1) ms n → 0 < d → u ≡ n + 1 → AreUnits q d u
+pub and_the_empty : (q : Board) (d n u : ℕ) (ms : List Move) → HasLinesFrom q (d - 1) ms n → 0 < d → u ≡ n + 1 → CountsPositions q d u
 unfolding HasLinesFrom HasLines IsLegalLine
 and_the_empty q zero n u ms h some one = absurd (omega arith)
 and_the_empty q (suc d) n u ms h some one =
@@ -89,16 +89,16 @@ first_is : (q : Board) (d : ℕ) (ms : List Move) (m : Move) (line whole : List 
 first_is q d ms m line whole e h = (let P : List Move → Type 0 = λ l. Begins q d ms l in (subst P (sym e) h).0)
 
 -- the lines that begin with one more move: those of the position after it, with the move in front
-pub from_one_more : (q : Board) (d n u v : ℕ) (ms : List Move) (i : ℕ) (m : Move) → HasLinesFrom q d (take i ms) n → AreUnits (after q m) d u → i < length ms → m ≡ get_or ms i m → ms ≡ legal q → v ≡ n + u → HasLinesFrom q d (take (i + 1) ms) v
+pub from_one_more : (q : Board) (d n u v : ℕ) (ms : List Move) (i : ℕ) (m : Move) → HasLinesFrom q d (take i ms) n → CountsPositions (after q m) d u → i < length ms → m ≡ get_or ms i m → ms ≡ legal q → v ≡ n + u → HasLinesFrom q d (take (i + 1) ms) v
 unfolding HasLinesFrom HasLines
-from_one_more q zero n u v ms i m h units inside at listed sum =
+from_one_more q zero n u v ms i m h positions inside at listed sum =
     let lines = h.0 in
     let size = h.1 in
     let apart = h.2 in
     let each = h.3 in
     let grown = take_more ms i m inside in
     let all : (x : Move) → Contains (take i ms) x → Contains (take (i + 1) ms) x = λ x there. rw grown (Contains-append_left (take i ms) (get_or ms i m ∷ []) x there) in
-    let none : u ≡ 0 = units in
+    let none : u ≡ 0 = positions in
     (lines, omega arith, apart, (λ line there. still_begins q 0 (take i ms) (take (i + 1) ms) all line (each line there)))
 from_one_more q (suc d) n u v ms i m h k inside at listed sum =
     let lines = h.0 in
@@ -135,11 +135,11 @@ from_one_more q (suc d) n u v ms i m h k inside at listed sum =
     )
 
 -- the same by what was left: before the loop `whole`, before this move `before`, and after it `now`
-pub one_more_counted : (q r : Board) (d whole before now : ℕ) (ms : List Move) (i : ℕ) (m : Move) → HasLinesFrom q d (take i ms) (whole - 1 - before) → AreUnits r d (before - now) → r ≡ after q m → i < length ms → m ≡ get_or ms i m → ms ≡ legal q
+pub one_more_counted : (q r : Board) (d whole before now : ℕ) (ms : List Move) (i : ℕ) (m : Move) → HasLinesFrom q d (take i ms) (whole - 1 - before) → CountsPositions r d (before - now) → r ≡ after q m → i < length ms → m ≡ get_or ms i m → ms ≡ legal q
     → now ≤ before → before < whole → HasLinesFrom q d (take (i + 1) ms) (whole - 1 - now)
-one_more_counted q r d whole before now ms i m h units next inside at listed less fewer =
-    let P : Board → Type 0 = λ b. AreUnits b d (before - now) in
-    from_one_more q d (whole - 1 - before) (before - now) (whole - 1 - now) ms i m h (subst P next units) inside at listed (omega arith)
+one_more_counted q r d whole before now ms i m h positions next inside at listed less fewer =
+    let P : Board → Type 0 = λ b. CountsPositions b d (before - now) in
+    from_one_more q d (whole - 1 - before) (before - now) (whole - 1 - now) ms i m h (subst P next positions) inside at listed (omega arith)
 
-pub all_counted : (q : Board) (d whole now : ℕ) (ms : List Move) → HasLinesFrom q (d - 1) ms (whole - 1 - now) → 0 < d → now < whole → AreUnits q d (whole - now)
+pub all_counted : (q : Board) (d whole now : ℕ) (ms : List Move) → HasLinesFrom q (d - 1) ms (whole - 1 - now) → 0 < d → now < whole → CountsPositions q d (whole - now)
 all_counted q d whole now ms h some fewer = and_the_empty q d (whole - 1 - now) (whole - now) ms h some (omega arith)

@@ -7,7 +7,7 @@ use Rattle.cha_moves.specs.Step.{Move}
 use Rattle.cha_moves.specs.Moves.{legal}
 use Rattle.cha_moves.proofs.Contained.{Contains-cons_here, Contains-cons_there, Contains-map_from}
 use Rattle.cha_moves.specs.Lines.{IsLegalLine, HasLines}
-use Rattle.helpmate.specs.Units.{AreUnits}
+use Rattle.helpmate.specs.Counted.{CountsPositions}
 use Rattle.cha_moves.proofs.Apart.{no_more_than}
 use Rattle.cha_moves.proofs.LegalApart.{few_legal}
 
@@ -30,6 +30,6 @@ few_lines q d n small h =
     omega arith
 
 -- so few that an allowance as large as a u32 is not spent in two plies
-pub few_units : (q : Board) (d n : ℕ) → d ≤ 2 → AreUnits q d n → n ≤ 20481
-few_units q zero n small h = (let none : n ≡ 0 = h in omega arith)
-few_units q (suc d) n small h = few_lines q d n (omega arith) h
+pub few_positions : (q : Board) (d n : ℕ) → d ≤ 2 → CountsPositions q d n → n ≤ 20481
+few_positions q zero n small h = (let none : n ≡ 0 = h in omega arith)
+few_positions q (suc d) n small h = few_lines q d n (omega arith) h

@@ -5,12 +5,12 @@ use Rattle.cha_board.specs.Men.{other_color}
 use Rattle.cha_board.specs.Board.{Board}
 use Rattle.cha_moves.specs.Step.{Move}
 use Rattle.cha_moves.specs.Ends.{IsMated, IsMatingLine, HasNoMateWithin}
-use Rattle.helpmate.specs.Units.{AreUnits}
+use Rattle.helpmate.specs.Counted.{CountsPositions}
 use Rattle.helpmate.proofs.Counting.{from_no_move, all_counted}
 
 -- one position is expanded
-pub one_unit : (q : Board) (d left : ℕ) → d ≡ 1 → 0 < left → AreUnits q d (left - (left - 1))
-one_unit q d left last some = all_counted q d left (left - 1) [] (from_no_move q (d - 1) (left - 1 - (left - 1)) (omega arith)) (omega arith) (omega arith)
+pub one_expanded : (q : Board) (d left : ℕ) → d ≡ 1 → 0 < left → CountsPositions q d (left - (left - 1))
+one_expanded q d left last some = all_counted q d left (left - 1) [] (from_no_move q (d - 1) (left - 1 - (left - 1)) (omega arith)) (omega arith) (omega arith)
 
 -- where there is no mate on the board and no move mates, there is none within one ply
 pub none_next : (q : Board) (w : Color) → (IsMated q (other_color w) → ⊥) → ((m : Move) → IsMatingLine q w (m ∷ []) → ⊥) → HasNoMateWithin q w 1

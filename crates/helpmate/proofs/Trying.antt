@@ -65,23 +65,23 @@ unfolding Tried AreSearched
 none_tried made s q w d n none nothing = ([], none, (λ m there. absurd (not_in_nothing m there)), none_by_all (AfterMove q w d) n nothing)
 
 -- what a search expanded, by its entries
-counted : {S : Type 0} (made : S → List Entry → S → Type 0) (old new : S) (q r : Board) (w : Color) (d units : ℕ) (m : Move) (result : Result RoundAnswer NoMemory) (answer : RoundAnswer)
-    → (h : Searches made old new r w d units result) → result ≡ Ok answer → r ≡ after q m → AfterMove q w d m h.entries answer units
+counted : {S : Type 0} (made : S → List Entry → S → Type 0) (old new : S) (q r : Board) (w : Color) (d positions : ℕ) (m : Move) (result : Result RoundAnswer NoMemory) (answer : RoundAnswer)
+    → (h : Searches made old new r w d positions result) → result ≡ Ok answer → r ≡ after q m → AfterMove q w d m h.entries answer positions
 unfolding AreCountedBy AsksFirst BeginsWithProbe
-counted made old new q r w zero units m result answer h ends next =
-    subst (λ (b : Board). AreCountedBy h.entries b w zero answer units) next (not_asked_for h.entries r w zero units answer (omega arith) (h.last (omega arith) answer ends))
-counted made old new q r w (suc zero) units m result answer h ends next =
-    subst (λ (b : Board). AreCountedBy h.entries b w (suc zero) answer units) next (not_asked_for h.entries r w (suc zero) units answer (omega arith) (h.last (omega arith) answer ends))
-counted made old new q r w (suc (suc d)) units m result answer h ends next =
+counted made old new q r w zero positions m result answer h ends next =
+    subst (λ (b : Board). AreCountedBy h.entries b w zero answer positions) next (not_asked_for h.entries r w zero positions answer (omega arith) (h.last (omega arith) answer ends))
+counted made old new q r w (suc zero) positions m result answer h ends next =
+    subst (λ (b : Board). AreCountedBy h.entries b w (suc zero) answer positions) next (not_asked_for h.entries r w (suc zero) positions answer (omega arith) (h.last (omega arith) answer ends))
+counted made old new q r w (suc (suc d)) positions m result answer h ends next =
     let first = h.first (omega arith) in
-    let here : AreCountedBy h.entries r w (suc (suc d)) answer units = (first.0, first.1, first.2, first.3 answer ends) in
-    subst (λ (b : Board). AreCountedBy h.entries b w (suc (suc d)) answer units) next here
+    let here : AreCountedBy h.entries r w (suc (suc d)) answer positions = (first.0, first.1, first.2, first.3 answer ends) in
+    subst (λ (b : Board). AreCountedBy h.entries b w (suc (suc d)) answer positions) next here
 
-pub one_more_tried : {S : Type 0} (made : S → List Entry → S → Type 0) (old mid new : S) (q r : Board) (w : Color) (d units n v : ℕ) (ms : List Move) (i : ℕ) (m : Move) (result : Result RoundAnswer NoMemory)
+pub one_more_tried : {S : Type 0} (made : S → List Entry → S → Type 0) (old mid new : S) (q r : Board) (w : Color) (d positions n v : ℕ) (ms : List Move) (i : ℕ) (m : Move) (result : Result RoundAnswer NoMemory)
     → ((a b c : S) (xs ys : List Entry) → made a xs b → made b ys c → made a (xs ++ ys) c)
-    → Tried made old mid q w d (take i ms) n → Searches made mid new r w d units result → result ≡ Ok NoneWithin → r ≡ after q m → i < length ms → m ≡ get_or ms i m → v ≡ n + units → Tried made old new q w d (take (i + 1) ms) v
+    → Tried made old mid q w d (take i ms) n → Searches made mid new r w d positions result → result ≡ Ok NoneWithin → r ≡ after q m → i < length ms → m ≡ get_or ms i m → v ≡ n + positions → Tried made old new q w d (take (i + 1) ms) v
 unfolding Tried AreSearched
-one_more_tried made old mid new q r w d units n v ms i m result both before here none next inside at sum =
+one_more_tried made old mid new q r w d positions n v ms i m result both before here none next inside at sum =
     let xs = before.0 in
     let ys = here.entries in
     let P : Board → Type 0 = λ b. IsSearched ys b w d in (
@@ -89,44 +89,44 @@ one_more_tried made old mid new q r w d units n v ms i m result both before here
       both old mid new xs ys before.1 here.entered,
       one_more (λ x. IsSearched (xs ++ ys) (after q x) w d) ms i m (λ x there. searched_more xs (xs ++ ys) (front_within xs ys) (after q x) w d (before.2 x there))
           (searched_more ys (xs ++ ys) (back_within xs ys) (after q m) w d (subst P next (here.searched none))) inside at,
-      more_by_all (AfterMove q w d) ms i m xs ys n units v before.3 (counted made mid new q r w d units m result NoneWithin here none next) inside at sum,
+      more_by_all (AfterMove q w d) ms i m xs ys n positions v before.3 (counted made mid new q r w d positions m result NoneWithin here none next) inside at sum,
     )
 
 -- the calls of an expansion that was refused memory
-pub ends_refused : {S : Type 0} (made : S → List Entry → S → Type 0) (old mid new : S) (q r : Board) (w : Color) (d e units n k : ℕ) (ms : List Move) (inner result : Result RoundAnswer NoMemory)
+pub ends_refused : {S : Type 0} (made : S → List Entry → S → Type 0) (old mid new : S) (q r : Board) (w : Color) (d e positions n k : ℕ) (ms : List Move) (inner result : Result RoundAnswer NoMemory)
     → ((a b c : S) (xs ys : List Entry) → made a xs b → made b ys c → made a (xs ++ ys) c)
-    → Tried made old mid q w e ms n → Searches made mid new r w e k inner → ((a : RoundAnswer) → result ≡ Ok a → ⊥) → Expands made old new q w d units result
+    → Tried made old mid q w e ms n → Searches made mid new r w e k inner → ((a : RoundAnswer) → result ≡ Ok a → ⊥) → Expands made old new q w d positions result
 unfolding Tried Expands
-ends_refused made old mid new q r w d e units n k ms inner result both tried here refused =
+ends_refused made old mid new q r w d e positions n k ms inner result both tried here refused =
     (tried.0 ++ here.entries, both old mid new tried.0 here.entries tried.1 here.entered, (λ same. absurd (refused NoneWithin same)), (λ a same. absurd (refused a same)))
 
 -- no move was tried, since the position is left, or memory was refused
-pub ends_at_once : {S : Type 0} (made : S → List Entry → S → Type 0) (s : S) (q : Board) (w : Color) (d units : ℕ) (result : Result RoundAnswer NoMemory)
-    → made s [] s → 0 < d → units ≡ 0 → (result ≡ Ok NoneWithin → ⊥) → ((a : RoundAnswer) → result ≡ Ok a → IsLeft q w a) → Expands made s s q w d units result
+pub ends_at_once : {S : Type 0} (made : S → List Entry → S → Type 0) (s : S) (q : Board) (w : Color) (d positions : ℕ) (result : Result RoundAnswer NoMemory)
+    → made s [] s → 0 < d → positions ≡ 0 → (result ≡ Ok NoneWithin → ⊥) → ((a : RoundAnswer) → result ≡ Ok a → IsLeft q w a) → Expands made s s q w d positions result
 unfolding Expands
-ends_at_once made s q w d units result none some nothing other left = ([], none, (λ same. absurd (other same)), (λ a same. left_alone q w d units a some nothing (left a same)))
+ends_at_once made s q w d positions result none some nothing other left = ([], none, (λ same. absurd (other same)), (λ a same. left_alone q w d positions a some nothing (left a same)))
 
-pub ends_refused_at_once : {S : Type 0} (made : S → List Entry → S → Type 0) (s : S) (q : Board) (w : Color) (d units : ℕ) (result : Result RoundAnswer NoMemory)
-    → made s [] s → ((a : RoundAnswer) → result ≡ Ok a → ⊥) → Expands made s s q w d units result
+pub ends_refused_at_once : {S : Type 0} (made : S → List Entry → S → Type 0) (s : S) (q : Board) (w : Color) (d positions : ℕ) (result : Result RoundAnswer NoMemory)
+    → made s [] s → ((a : RoundAnswer) → result ≡ Ok a → ⊥) → Expands made s s q w d positions result
 unfolding Expands
-ends_refused_at_once made s q w d units result none refused = ([], none, (λ same. absurd (refused NoneWithin same)), (λ a same. absurd (refused a same)))
+ends_refused_at_once made s q w d positions result none refused = ([], none, (λ same. absurd (refused NoneWithin same)), (λ a same. absurd (refused a same)))
 
 pub the_answer : (a b : RoundAnswer) (o : Result RoundAnswer NoMemory) → o ≡ Ok a → o ≡ Ok b → a ≡ b
 the_answer a b o e f = cc
 
 -- a search below ended otherwise than without a mate
-pub ends_below : {S : Type 0} (made : S → List Entry → S → Type 0) (old mid new : S) (q r : Board) (w : Color) (d e units n k : ℕ) (ms : List Move) (i : ℕ) (m : Move) (inner result : Result RoundAnswer NoMemory) (end answer : RoundAnswer)
+pub ends_below : {S : Type 0} (made : S → List Entry → S → Type 0) (old mid new : S) (q r : Board) (w : Color) (d e positions n k : ℕ) (ms : List Move) (i : ℕ) (m : Move) (inner result : Result RoundAnswer NoMemory) (end answer : RoundAnswer)
     → ((a b c : S) (xs ys : List Entry) → made a xs b → made b ys c → made a (xs ++ ys) c)
     → Tried made old mid q w e (take i ms) n → Searches made mid new r w e k inner → inner ≡ Ok end → result ≡ Ok answer → (end ≡ NoneWithin → ⊥) → (answer ≡ NoneWithin → ⊥) → answer ≡ led_answer m end
-    → r ≡ after q m → i < length ms → m ≡ get_or ms i m → ms ≡ legal q → d ≡ e + 1 → 0 < e → (IsMated q (other_color w) → ⊥) → units ≡ n + k + 1 → Expands made old new q w d units result
+    → r ≡ after q m → i < length ms → m ≡ get_or ms i m → ms ≡ legal q → d ≡ e + 1 → 0 < e → (IsMated q (other_color w) → ⊥) → positions ≡ n + k + 1 → Expands made old new q w d positions result
 unfolding Tried Expands
-ends_below made old mid new q r w d e units n k ms i m inner result end answer both tried here ended ends other otherwise led next inside at listed deep some running sum =
+ends_below made old mid new q r w d e positions n k ms i m inner result end answer both tried here ended ends other otherwise led next inside at listed deep some running sum =
     let xs = tried.0 in
     let ys = here.entries in
     let after_all = ended_after (AfterMove q w e) (KeepsNone q w d) ms i m xs ys n k (n + k) answer end tried.3 (counted made mid new q r w e k m inner end here ended next) inside at refl other led in
     let L : List Move → Type 0 = λ l. AreExpandedAfter (AfterMove q w e) (KeepsNone q w d) l (xs ++ ys) answer (n + k) in
-    let whole = with_the_root q w d e (n + k) units (xs ++ ys) answer deep some running (subst L listed after_all) sum in
-    let A : RoundAnswer → Type 0 = λ a. AreExpandedBy (xs ++ ys) q w d a units in (
+    let whole = with_the_root q w d e (n + k) positions (xs ++ ys) answer deep some running (subst L listed after_all) sum in
+    let A : RoundAnswer → Type 0 = λ a. AreExpandedBy (xs ++ ys) q w d a positions in (
       xs ++ ys,
       both old mid new xs ys tried.1 here.entered,
       (λ same. absurd (otherwise (the_answer answer NoneWithin result ends same))),
@@ -134,19 +134,19 @@ ends_below made old mid new q r w d e units n k ms i m inner result end answer b
     )
 
 -- all legal moves were tried, and what came out was given to keep
-pub all_tried : {S : Type 0} (made : S → List Entry → S → Type 0) (old mid new : S) (q : Board) (w : Color) (d units n : ℕ) (ms : List Move) (i : ℕ) (row : Claim) (reply : Stored)
+pub all_tried : {S : Type 0} (made : S → List Entry → S → Type 0) (old mid new : S) (q : Board) (w : Color) (d positions n : ℕ) (ms : List Move) (i : ℕ) (row : Claim) (reply : Stored)
     → ((a b c : S) (xs ys : List Entry) → made a xs b → made b ys c → made a (xs ++ ys) c)
-    → Tried made old mid q w (d - 1) (take i ms) n → length ms ≤ i → ms ≡ legal q → made mid (store_entry row reply ∷ []) new → row ≡ none_within q w d → 1 < d → (IsMated q (other_color w) → ⊥) → units ≡ n + 1
-    → Expands made old new q w d units (Ok NoneWithin)
+    → Tried made old mid q w (d - 1) (take i ms) n → length ms ≤ i → ms ≡ legal q → made mid (store_entry row reply ∷ []) new → row ≡ none_within q w d → 1 < d → (IsMated q (other_color w) → ⊥) → positions ≡ n + 1
+    → Expands made old new q w d positions (Ok NoneWithin)
 unfolding Tried Expands IsExpanded AreSearched HasStore
-all_tried made old mid new q w d units n ms i row reply both tried end listed stored is deep running sum =
+all_tried made old mid new q w d positions n ms i row reply both tried end listed stored is deep running sum =
     let xs = tried.0 in
     let last = store_entry (none_within q w d) reply in
     let same_moves = take_all i ms end ∙ listed in
     let M : Claim → Type 0 = λ r. made mid (store_entry r reply ∷ []) new in
     let B : List Move → Type 0 = λ l. AreExpandedByAll (AfterMove q w (d - 1)) l xs n in
-    let whole = with_the_root q w d (d - 1) n units (xs ++ last ∷ []) NoneWithin (omega (arith, deep)) (omega (arith, deep)) running (all_after (AfterMove q w (d - 1)) (KeepsNone q w d) (legal q) xs (last ∷ []) n (subst B same_moves tried.3) (reply, refl)) sum in
-    let A : RoundAnswer → Type 0 = λ a. AreExpandedBy (xs ++ last ∷ []) q w d a units in (
+    let whole = with_the_root q w d (d - 1) n positions (xs ++ last ∷ []) NoneWithin (omega (arith, deep)) (omega (arith, deep)) running (all_after (AfterMove q w (d - 1)) (KeepsNone q w d) (legal q) xs (last ∷ []) n (subst B same_moves tried.3) (reply, refl)) sum in
+    let A : RoundAnswer → Type 0 = λ a. AreExpandedBy (xs ++ last ∷ []) q w d a positions in (
       xs ++ last ∷ [],
       both old mid new xs (last ∷ []) tried.1 (subst M is stored),
       (λ same. (
@@ -177,15 +177,15 @@ pub the_same : (a b : RoundAnswer) (o : Option RoundAnswer) → o ≡ Some a →
 the_same a b o e f = cc
 
 -- what was found decides
-pub follows_found : (q : Board) (w : Color) (d units : ℕ) (reply : Probe) (row : Claim) (answer : RoundAnswer) → reply ≡ Found row → decided_by d row.fact ≡ Some answer → units ≡ 0 → FollowsProbe q w d reply [] answer units
-follows_found q w d units reply row answer is decided none =
-    let F : Probe → Type 0 = λ p. FollowsProbe q w d p [] answer units in
+pub follows_found : (q : Board) (w : Color) (d positions : ℕ) (reply : Probe) (row : Claim) (answer : RoundAnswer) → reply ≡ Found row → decided_by d row.fact ≡ Some answer → positions ≡ 0 → FollowsProbe q w d reply [] answer positions
+follows_found q w d positions reply row answer is decided none =
+    let F : Probe → Type 0 = λ p. FollowsProbe q w d p [] answer positions in
     subst F (sym is) ((λ b says. (the_same answer b (decided_by d row.fact) decided says, none, refl)), (λ not. cc))
 
-pub decides : {S : Type 0} (made : S → List Entry → S → Type 0) (old new : S) (q : Board) (w : Color) (d units : ℕ) (reply : Probe) (row : Claim) (answer : RoundAnswer) (result : Result RoundAnswer NoMemory)
-    → made old (probe_entry (key_of q w) reply ∷ []) new → reply ≡ Found row → decided_by d row.fact ≡ Some answer → units ≡ 0 → result ≡ Ok answer → RootSearches made old new q w d units result
+pub decides : {S : Type 0} (made : S → List Entry → S → Type 0) (old new : S) (q : Board) (w : Color) (d positions : ℕ) (reply : Probe) (row : Claim) (answer : RoundAnswer) (result : Result RoundAnswer NoMemory)
+    → made old (probe_entry (key_of q w) reply ∷ []) new → reply ≡ Found row → decided_by d row.fact ≡ Some answer → positions ≡ 0 → result ≡ Ok answer → RootSearches made old new q w d positions result
 unfolding BeginsWithProbe
-decides made old new q w d units reply row answer result entered is decided none ends =
+decides made old new q w d positions reply row answer result entered is decided none ends =
     let first = probe_entry (key_of q w) reply in
     let there : Contains (first ∷ []) (probe_entry (key_of q w) (Found row)) = Contains-cons_here first [] (probe_entry (key_of q w) (Found row)) (ap (λ (p : Probe). probe_entry (key_of q w) p) is) in
     record {
@@ -197,14 +197,14 @@ decides made old new q w d units reply row answer result entered is decided none
         [],
         refl,
         (λ a same.
-            let A : RoundAnswer → Type 0 = λ x. FollowsProbe q w d reply [] x units in
-            subst A (the_answer answer a result ends same) (follows_found q w d units reply row answer is decided none)),
+            let A : RoundAnswer → Type 0 = λ x. FollowsProbe q w d reply [] x positions in
+            subst A (the_answer answer a result ends same) (follows_found q w d positions reply row answer is decided none)),
       );
     }
 
 -- a search whose position was asked for
-pub of_root : {S : Type 0} (made : S → List Entry → S → Type 0) (old new : S) (q : Board) (w : Color) (d units : ℕ) (result : Result RoundAnswer NoMemory) → RootSearches made old new q w d units result → 1 < d → Searches made old new q w d units result
-of_root made old new q w d units result h deep = record { entries = h.entries; entered = h.entered; searched = h.searched; first = λ deep. h.first; last = λ few. absurd (omega (arith, few, deep)) }
+pub of_root : {S : Type 0} (made : S → List Entry → S → Type 0) (old new : S) (q : Board) (w : Color) (d positions : ℕ) (result : Result RoundAnswer NoMemory) → RootSearches made old new q w d positions result → 1 < d → Searches made old new q w d positions result
+of_root made old new q w d positions result h deep = record { entries = h.entries; entered = h.entered; searched = h.searched; first = λ deep. h.first; last = λ few. absurd (omega (arith, few, deep)) }
 
 by_parts : (entries : List Entry) (q : Board) (w : Color) (d : ℕ) → HasProbe entries q w → HasStore entries q w d → AreSearched entries q w (d - 1) (legal q) → IsSearched entries q w d
 unfolding AreSearched
@@ -228,11 +228,11 @@ unfolding AreSearched
 all_later e entries q w d ms all m there = searched_more entries (e ∷ entries) (back_within (e ∷ []) entries) (after q m) w d (all m there)
 
 -- what was found does not decide, or nothing was found, and the position was expanded
-pub expanded : {S : Type 0} (made : S → List Entry → S → Type 0) (old mid new : S) (q : Board) (w : Color) (d units : ℕ) (reply : Probe) (result : Result RoundAnswer NoMemory)
+pub expanded : {S : Type 0} (made : S → List Entry → S → Type 0) (old mid new : S) (q : Board) (w : Color) (d positions : ℕ) (reply : Probe) (result : Result RoundAnswer NoMemory)
     → ((a b c : S) (xs ys : List Entry) → made a xs b → made b ys c → made a (xs ++ ys) c)
-    → made old (probe_entry (key_of q w) reply ∷ []) mid → Expands made mid new q w d units result → 1 < d → ((rest : List Entry) (a : RoundAnswer) → AreExpandedBy rest q w d a units → FollowsProbe q w d reply rest a units) → Searches made old new q w d units result
+    → made old (probe_entry (key_of q w) reply ∷ []) mid → Expands made mid new q w d positions result → 1 < d → ((rest : List Entry) (a : RoundAnswer) → AreExpandedBy rest q w d a positions → FollowsProbe q w d reply rest a positions) → Searches made old new q w d positions result
 unfolding BeginsWithProbe Expands IsExpanded
-expanded made old mid new q w d units reply result both entered h deep follows =
+expanded made old mid new q w d positions reply result both entered h deep follows =
     let first = probe_entry (key_of q w) reply in
     let rest = h.0 in
     record {
@@ -244,24 +244,24 @@ expanded made old mid new q w d units reply result both entered h deep follows =
     }
 
 -- nothing is decided by what was found
-pub undecided : (q : Board) (w : Color) (d units : ℕ) (reply : Probe) (row : Claim) → reply ≡ Found row → decided_by d row.fact ≡ None → (rest : List Entry) (a : RoundAnswer) → AreExpandedBy rest q w d a units → FollowsProbe q w d reply rest a units
-undecided q w d units reply row is none rest a expanded =
-    let F : Probe → Type 0 = λ p. FollowsProbe q w d p rest a units in
+pub undecided : (q : Board) (w : Color) (d positions : ℕ) (reply : Probe) (row : Claim) → reply ≡ Found row → decided_by d row.fact ≡ None → (rest : List Entry) (a : RoundAnswer) → AreExpandedBy rest q w d a positions → FollowsProbe q w d reply rest a positions
+undecided q w d positions reply row is none rest a expanded =
+    let F : Probe → Type 0 = λ p. FollowsProbe q w d p rest a positions in
     subst F (sym is) ((λ b says. cc), (λ not. expanded))
 
-pub missed : (q : Board) (w : Color) (d units : ℕ) (reply : Probe) → reply ≡ Miss → (rest : List Entry) (a : RoundAnswer) → AreExpandedBy rest q w d a units → FollowsProbe q w d reply rest a units
-missed q w d units reply is rest a expanded = (let F : Probe → Type 0 = λ p. FollowsProbe q w d p rest a units in subst F (sym is) expanded)
+pub missed : (q : Board) (w : Color) (d positions : ℕ) (reply : Probe) → reply ≡ Miss → (rest : List Entry) (a : RoundAnswer) → AreExpandedBy rest q w d a positions → FollowsProbe q w d reply rest a positions
+missed q w d positions reply is rest a expanded = (let F : Probe → Type 0 = λ p. FollowsProbe q w d p rest a positions in subst F (sym is) expanded)
 
-pub refused : (q : Board) (w : Color) (d units : ℕ) (reply : Probe) → reply ≡ Refused → (rest : List Entry) (a : RoundAnswer) → AreExpandedBy rest q w d a units → FollowsProbe q w d reply rest a units
-refused q w d units reply is rest a expanded = (let F : Probe → Type 0 = λ p. FollowsProbe q w d p rest a units in subst F (sym is) expanded)
+pub refused : (q : Board) (w : Color) (d positions : ℕ) (reply : Probe) → reply ≡ Refused → (rest : List Entry) (a : RoundAnswer) → AreExpandedBy rest q w d a positions → FollowsProbe q w d reply rest a positions
+refused q w d positions reply is rest a expanded = (let F : Probe → Type 0 = λ p. FollowsProbe q w d p rest a positions in subst F (sym is) expanded)
 
 the_done : (a b : RoundDone) (o : Result RoundDone NoMemory) → o ≡ Ok a → o ≡ Ok b → a ≡ b
 the_done a b o e f = cc
 
 -- a round of one ply or none asks once
-pub asks_once : {S : Type 0} (made : S → List Entry → S → Type 0) (old new : S) (q : Board) (w : Color) (d units : ℕ) (reply : Probe) (result : Result RoundAnswer NoMemory) → made old (probe_entry (key_of q w) reply ∷ []) new → d ≤ 1 → ((a : RoundAnswer) → result ≡ Ok a → FollowsProbe q w d reply [] a units) → RootSearches made old new q w d units result
+pub asks_once : {S : Type 0} (made : S → List Entry → S → Type 0) (old new : S) (q : Board) (w : Color) (d positions : ℕ) (reply : Probe) (result : Result RoundAnswer NoMemory) → made old (probe_entry (key_of q w) reply ∷ []) new → d ≤ 1 → ((a : RoundAnswer) → result ≡ Ok a → FollowsProbe q w d reply [] a positions) → RootSearches made old new q w d positions result
 unfolding BeginsWithProbe
-asks_once made old new q w d units reply result entered few follows =
+asks_once made old new q w d positions reply result entered few follows =
     let first = probe_entry (key_of q w) reply in
     record {
       entries = first ∷ [];
@@ -271,10 +271,10 @@ asks_once made old new q w d units reply result entered few follows =
     }
 
 -- the calls of a search are those of its round
-pub round_of_search : {S : Type 0} (made : S → List Entry → S → Type 0) (old new : S) (q : Board) (w : Color) (d units : ℕ) (inner : Result RoundAnswer NoMemory) (result : Result RoundDone NoMemory)
-    → RootSearches made old new q w d units inner → ((done : RoundDone) → result ≡ Ok done → (inner ≡ Ok done.round) × (done.units ≡ units)) → RoundCalls made old new q w d result
+pub round_of_search : {S : Type 0} (made : S → List Entry → S → Type 0) (old new : S) (q : Board) (w : Color) (d positions : ℕ) (inner : Result RoundAnswer NoMemory) (result : Result RoundDone NoMemory)
+    → RootSearches made old new q w d positions inner → ((done : RoundDone) → result ≡ Ok done → (inner ≡ Ok done.round) × (done.positions ≡ positions)) → RoundCalls made old new q w d result
 unfolding BeginsWithProbe
-round_of_search made old new q w d units inner result h ends =
+round_of_search made old new q w d positions inner result h ends =
     let begins = h.first in
     let M : List Entry → Type 0 = λ es. made old es new in
     let E : List Entry → Type 0 = λ es. IsSearched es q w d in
@@ -289,9 +289,9 @@ round_of_search made old new q w d units inner result h ends =
       searched = λ done same none. subst E begins.2 (h.searched ((ends done same).0 ∙ ap Ok none));
     }
 
-pub round_ends : (inner : Result RoundAnswer NoMemory) (a : RoundAnswer) (n : ℕ) (o : Result RoundDone NoMemory) (done : RoundDone) → inner ≡ Ok a → o ≡ Ok (record { round = a; units = n }) → o ≡ Ok done → (inner ≡ Ok done.round) × (done.units ≡ n)
+pub round_ends : (inner : Result RoundAnswer NoMemory) (a : RoundAnswer) (n : ℕ) (o : Result RoundDone NoMemory) (done : RoundDone) → inner ≡ Ok a → o ≡ Ok (record { round = a; positions = n }) → o ≡ Ok done → (inner ≡ Ok done.round) × (done.positions ≡ n)
 round_ends inner a n o done is ends same =
-    let one : RoundDone = record { round = a; units = n } in
+    let one : RoundDone = record { round = a; positions = n } in
     let e = the_done one done o ends same in
     let A : RoundDone → Type 0 = λ x. inner ≡ Ok x.round in
-    (subst A e is, sym (ap (λ (x : RoundDone). x.units) e))
+    (subst A e is, sym (ap (λ (x : RoundDone). x.positions) e))

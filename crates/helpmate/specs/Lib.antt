@@ -1,5 +1,5 @@
 -- what public contracts say
-pub mod Units
+pub mod Counted
 pub mod Rounds
 -- inside the crate
 pub mod Searches

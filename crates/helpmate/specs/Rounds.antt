@@ -19,16 +19,16 @@ use Rattle.helpmate.specs.declared.answers.RoundAnswer.TheVariants.{Mate, NoneWi
 use Rattle.helpmate.specs.declared.answers.RoundDone.{RoundDone}
 
 -- an answer is true for a depth: the line mates and has at most so many moves, or no list of at most as many moves as the
--- depth mates; where units are spent there is a depth to search
+-- depth mates; where positions are spent there is a depth to search
 abbrev pub IsAnswer : Board → Color → ℕ → ℕ → RoundAnswer → Type 0
 IsAnswer q winner depth most (Mate line) = IsMatingLine q winner line × (length line ≤ most)
 IsAnswer q winner depth most NoneWithin = HasNoMateWithin q winner depth
 IsAnswer q winner depth most Spent = 0 < depth
 
--- no more units than were allowed
+-- no more positions than were allowed
 abbrev pub IsAllowed : Option ℕ → ℕ → Type 0
-IsAllowed None units = ⊤
-IsAllowed (Some most) units = units ≤ most
+IsAllowed None positions = ⊤
+IsAllowed (Some most) positions = positions ≤ most
 
 -- what a fact answers for a depth by itself: a mate of at most 32 moves, or no mate within as many plies or more
 abbrev pub decided_by : ℕ → Fact → Option RoundAnswer
@@ -92,5 +92,5 @@ pub record RoundCalls {S : Type 0} (made : S → List Entry → S → Type 0) (o
   pub reply : Probe
   pub rest : List Entry
   pub entered : made old (probe_entry (key_of q winner) reply ∷ rest) new
-  pub follows : (done : RoundDone) → result ≡ Ok done → FollowsProbe q winner depth reply rest done.round done.units
+  pub follows : (done : RoundDone) → result ≡ Ok done → FollowsProbe q winner depth reply rest done.round done.positions
   pub searched : (done : RoundDone) → result ≡ Ok done → done.round ≡ NoneWithin → IsSearched (probe_entry (key_of q winner) reply ∷ rest) q winner depth

@@ -22,27 +22,27 @@ IsExpanded entries q winner depth = HasStore entries q winner depth × AreSearch
 
 -- the calls of an expansion, and how many positions were expanded
 unfoldable pub Expands : {S : Type 0} → (S → List Entry → S → Type 0) → S → S → Board → Color → ℕ → ℕ → Result RoundAnswer NoMemory → Type 0
-Expands made old new q winner depth units result =
+Expands made old new q winner depth positions result =
     (entries : List Entry) × made old entries new × (result ≡ Ok NoneWithin → IsExpanded entries q winner depth)
-    × ((answer : RoundAnswer) → result ≡ Ok answer → AreExpandedBy entries q winner depth answer units)
+    × ((answer : RoundAnswer) → result ≡ Ok answer → AreExpandedBy entries q winner depth answer positions)
 
 -- the first entry is a probe of the position, and what was found is the answer if it decides
 unfoldable pub BeginsWithProbe : List Entry → Board → Color → ℕ → ℕ → Result RoundAnswer NoMemory → Type 0
-BeginsWithProbe entries q winner depth units result =
+BeginsWithProbe entries q winner depth positions result =
     (reply : Probe) × (rest : List Entry) × (entries ≡ probe_entry (key_of q winner) reply ∷ rest)
-    × ((answer : RoundAnswer) → result ≡ Ok answer → FollowsProbe q winner depth reply rest answer units)
+    × ((answer : RoundAnswer) → result ≡ Ok answer → FollowsProbe q winner depth reply rest answer positions)
 
 -- The calls of a search.
-pub record Searches {S : Type 0} (made : S → List Entry → S → Type 0) (old new : S) (q : Board) (winner : Color) (depth units : ℕ) (result : Result RoundAnswer NoMemory) : Type 0 where
+pub record Searches {S : Type 0} (made : S → List Entry → S → Type 0) (old new : S) (q : Board) (winner : Color) (depth positions : ℕ) (result : Result RoundAnswer NoMemory) : Type 0 where
   pub entries : List Entry
   pub entered : made old entries new
   pub searched : result ≡ Ok NoneWithin → IsSearched entries q winner depth
-  pub first : 1 < depth → BeginsWithProbe entries q winner depth units result
-  pub last : depth ≤ 1 → (answer : RoundAnswer) → result ≡ Ok answer → AreExpandedBy entries q winner depth answer units
+  pub first : 1 < depth → BeginsWithProbe entries q winner depth positions result
+  pub last : depth ≤ 1 → (answer : RoundAnswer) → result ≡ Ok answer → AreExpandedBy entries q winner depth answer positions
 
 -- The calls of the search of a round's position, which is asked for whatever the depth.
-pub record RootSearches {S : Type 0} (made : S → List Entry → S → Type 0) (old new : S) (q : Board) (winner : Color) (depth units : ℕ) (result : Result RoundAnswer NoMemory) : Type 0 where
+pub record RootSearches {S : Type 0} (made : S → List Entry → S → Type 0) (old new : S) (q : Board) (winner : Color) (depth positions : ℕ) (result : Result RoundAnswer NoMemory) : Type 0 where
   pub entries : List Entry
   pub entered : made old entries new
   pub searched : result ≡ Ok NoneWithin → IsSearched entries q winner depth
-  pub first : BeginsWithProbe entries q winner depth units result
+  pub first : BeginsWithProbe entries q winner depth positions result

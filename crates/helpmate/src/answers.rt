@@ -18,5 +18,5 @@ pub enum RoundAnswer {
 pub struct RoundDone {
     pub round: RoundAnswer,
     /// How many positions were expanded, each at the end of another line of fewer moves than the depth.
-    pub units: u32,
+    pub positions: u32,
 }

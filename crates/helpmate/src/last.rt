@@ -1,7 +1,7 @@
 //! The search of a position to one ply or none, for which no list of moves is made and no place is asked.
 
 ghost use Rattle.std.specs.Prelude.{◌≡◌, ◌-◌, ◌≤◌, [], ◌∷◌};
-ghost use Rattle.helpmate.specs.Units.{AreUnits};
+ghost use Rattle.helpmate.specs.Counted.{CountsPositions};
 ghost use Rattle.helpmate.specs.Rounds.{IsAnswer, AreExpandedBy};
 
 use crate::answers::RoundAnswer;
@@ -32,7 +32,7 @@ fn line_of(m: Move) -> Line
 /// Searches a position to depth 1: it is a mate, one of its moves mates, or there is none within one ply.
 fn search_last_ply(position: &Position, winner: Color, left: &mut u32) -> RoundAnswer
     ensures less { left.new ≤ left.old }
-    ensures units { AreUnits position.now 1 (left.old - left.new) }
+    ensures positions { CountsPositions position.now 1 (left.old - left.new) }
     ensures counted { AreExpandedBy [] position.now winner 1 result (left.old - left.new) }
     ensures holds { IsAnswer position.now winner 1 1 result }
     ensures spent { result ≡ RoundAnswer.Spent → left.new ≡ 0 }
@@ -54,7 +54,7 @@ fn search_last_ply(position: &Position, winner: Color, left: &mut u32) -> RoundA
 pub fn search_shallow(position: &Position, winner: Color, depth: u8, left: &mut u32) -> RoundAnswer
     requires { depth ≤ 1 }
     ensures less { left.new ≤ left.old }
-    ensures units { AreUnits position.now depth (left.old - left.new) }
+    ensures positions { CountsPositions position.now depth (left.old - left.new) }
     ensures counted { AreExpandedBy [] position.now winner depth result (left.old - left.new) }
     ensures holds { IsAnswer position.now winner depth 1 result }
     ensures spent { result ≡ RoundAnswer.Spent → left.new ≡ 0 }

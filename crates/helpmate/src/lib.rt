@@ -1,7 +1,7 @@
 //! The search for a mate within a number of plies, with a place that keeps facts.
 //!
 //! `answers` has what a round answers, `deciding` what a fact decides by itself, `search` the search of a position to a
-//! depth, `last` the same to one ply or none, `rounds` a round with how many positions it expanded, and `table_rounds` the same at a table of facts.
+//! depth, `last` the same to one ply or none, and `rounds` a round with how many positions it expanded.
 #![tactic(auto)]
 
 mod answers;
@@ -9,9 +9,7 @@ mod deciding;
 mod last;
 mod rounds;
 mod search;
-mod table_rounds;
 
 pub use answers::{RoundAnswer, RoundDone};
 pub use deciding::decided;
-pub use rounds::round_in;
-pub use table_rounds::round;
+pub use rounds::round;

@@ -1,7 +1,7 @@
 //! A round: the search of a position to a depth, and how many positions it expanded.
 
 ghost use Rattle.std.specs.Prelude.{◌≡◌, ◌+◌, ◌-◌, ◌≤◌, Some, IsNone, Ok, IfOk};
-ghost use Rattle.helpmate.specs.Units.{AreUnits};
+ghost use Rattle.helpmate.specs.Counted.{CountsPositions};
 ghost use Rattle.helpmate.specs.Rounds.{IsAnswer, IsAllowed, RoundCalls};
 ghost use Rattle.helpmate.specs.Searches.{RootSearches};
 
@@ -18,7 +18,7 @@ use std::alloc::Global;
 /// expanded, if one is given; else the depth is at most 2.
 ///
 /// A mate that the place knows may have more plies than the depth, at most 32. No line has more than these and the depth.
-pub fn round_in<F: Facts>(
+pub fn round<F: Facts>(
     alloc: Global,
     position: &Position,
     winner: Color,
@@ -31,20 +31,20 @@ pub fn round_in<F: Facts>(
     requires bounded { IsNone allowance → depth ≤ 2 }
     ensures stays_ready { F.ready facts.new }
     ensures holds { IfOk result (λ done. IsAnswer position.now winner depth (32 + depth) done.round) }
-    ensures allowed { IfOk result (λ done. IsAllowed allowance done.units) }
-    ensures units { IfOk result (λ done. AreUnits position.now depth done.units) }
-    ensures spent { IfOk result (λ done. done.round ≡ RoundAnswer.Spent → allowance ≡ Some done.units) }
+    ensures allowed { IfOk result (λ done. IsAllowed allowance done.positions) }
+    ensures positions { IfOk result (λ done. CountsPositions position.now depth done.positions) }
+    ensures spent { IfOk result (λ done. done.round ≡ RoundAnswer.Spent → allowance ≡ Some done.positions) }
     ensures calls { RoundCalls F.made facts.old facts.new position.now winner depth result }
 {
     let most = match allowance {
-        Some(units) => units,
+        Some(positions) => positions,
         None => u32::MAX,
     };
     let mut left = most;
     let round = search_root(alloc, position, winner, depth, &mut left, facts)?;
     Ok(RoundDone {
         round,
-        units: most - left,
+        positions: most - left,
     })
 }
 
@@ -61,7 +61,7 @@ fn search_root<F: Facts>(
     requires few { depth ≤ 8 }
     ensures stays_ready { F.ready facts.new }
     ensures less { left.new ≤ left.old }
-    ensures units { IfOk result (λ answer. AreUnits position.now depth (left.old - left.new)) }
+    ensures positions { IfOk result (λ answer. CountsPositions position.now depth (left.old - left.new)) }
     ensures holds { IfOk result (IsAnswer position.now winner depth (32 + depth)) }
     ensures spent { result ≡ Ok RoundAnswer.Spent → left.new ≡ 0 }
     ensures calls { RootSearches F.made facts.old facts.new position.now winner depth (left.old - left.new) result }
@@ -84,7 +84,7 @@ fn looked<F: Facts>(
     requires few { depth ≤ 1 }
     ensures stays_ready { F.ready facts.new }
     ensures less { left.new ≤ left.old }
-    ensures units { AreUnits position.now depth (left.old - left.new) }
+    ensures positions { CountsPositions position.now depth (left.old - left.new) }
     ensures holds { IsAnswer position.now winner depth (32 + depth) result }
     ensures spent { result ≡ RoundAnswer.Spent → left.new ≡ 0 }
     ensures calls { RootSearches F.made facts.old facts.new position.now winner depth (left.old - left.new) (Ok result) }

@@ -6,7 +6,7 @@ ghost use Rattle.cha_moves.specs.Moves.{after as position_after, legal as legal_
 ghost use Rattle.cha_moves.specs.Ends.{IsMatingLine};
 ghost use Rattle.cha_fact.specs.Keys.{key_of};
 ghost use Rattle.cha_fact.specs.Entries.{probe_entry, IsOfKey};
-ghost use Rattle.helpmate.specs.Units.{AreUnits};
+ghost use Rattle.helpmate.specs.Counted.{CountsPositions};
 ghost use Rattle.helpmate.specs.Rounds.{IsAnswer};
 ghost use Rattle.helpmate.specs.Searches.{Expands, Searches};
 
@@ -58,7 +58,7 @@ pub fn search<F: Facts>(
     requires few { depth ≤ 8 }
     ensures stays_ready { F.ready facts.new }
     ensures less { left.new ≤ left.old }
-    ensures units { IfOk result (λ answer. AreUnits position.now depth (left.old - left.new)) }
+    ensures positions { IfOk result (λ answer. CountsPositions position.now depth (left.old - left.new)) }
     ensures holds { IfOk result (IsAnswer position.now winner depth (32 + depth)) }
     ensures spent { result ≡ Ok RoundAnswer.Spent → left.new ≡ 0 }
     ensures calls { Searches F.made facts.old facts.new position.now winner depth (left.old - left.new) result }
@@ -85,7 +85,7 @@ fn search_deep<F: Facts>(
     requires few { depth ≤ 8 }
     ensures stays_ready { F.ready facts.new }
     ensures less { left.new ≤ left.old }
-    ensures units { IfOk result (λ answer. AreUnits position.now depth (left.old - left.new)) }
+    ensures positions { IfOk result (λ answer. CountsPositions position.now depth (left.old - left.new)) }
     ensures holds { IfOk result (IsAnswer position.now winner depth (32 + depth)) }
     ensures spent { result ≡ Ok RoundAnswer.Spent → left.new ≡ 0 }
     ensures calls { Searches F.made facts.old facts.new position.now winner depth (left.old - left.new) result }
@@ -116,7 +116,7 @@ fn expand<F: Facts>(
     requires few { depth ≤ 8 }
     ensures stays_ready { F.ready facts.new }
     ensures less { left.new ≤ left.old }
-    ensures units { IfOk result (λ answer. AreUnits position.now depth (left.old - left.new)) }
+    ensures positions { IfOk result (λ answer. CountsPositions position.now depth (left.old - left.new)) }
     ensures holds { IfOk result (IsAnswer position.now winner depth (32 + depth)) }
     ensures spent { result ≡ Ok RoundAnswer.Spent → left.new ≡ 0 }
     ensures calls { Expands F.made facts.old facts.new position.now winner depth (left.old - left.new) result }

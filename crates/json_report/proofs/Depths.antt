@@ -65,7 +65,7 @@ verdict_low : (extras : Extras) (q : Board) (winner : Color) (v : Verdict) → m
 unfolding verdict_members
 verdict_low extras q winner (Winnable moves) = let line = line_low q moves (fen_members extras.fens q moves) (fens_low extras.fens q moves) in omega (arith, line)
 verdict_low extras q winner (Unwinnable cert) = let ground = grounds_low (ground_of cert) (length cert) (cert_members extras.certs winner cert) (certs_low extras.certs winner cert) in omega (arith, ground)
-verdict_low extras q winner (Undecided units plies) = omega arith
+verdict_low extras q winner (Undecided positions plies) = omega arith
 verdict_low extras q winner Skipped = omega arith
 
 edge_low : (edge : Edge) (ply : ℕ) → members_depth (edge_members edge ply) ≤ 0

@@ -49,8 +49,8 @@ verdict_members extras q winner (Winnable moves) =
     member (codes "verdict") (string (codes "winnable")) (member (codes "plies") (count (length moves)) (line_members q moves (fen_members extras.fens q moves)))
 verdict_members extras q winner (Unwinnable cert) =
     member (codes "verdict") (string (codes "unwinnable")) (ground_members (ground_of cert) (length cert) (cert_members extras.certs winner cert))
-verdict_members extras q winner (Undecided units depth) =
-    member (codes "verdict") (string (codes "undecided")) (member (codes "positions") (count units) (member (codes "depth") (count depth) no_members))
+verdict_members extras q winner (Undecided positions depth) =
+    member (codes "verdict") (string (codes "undecided")) (member (codes "positions") (count positions) (member (codes "depth") (count depth) no_members))
 verdict_members extras q winner Skipped = member (codes "verdict") (string (codes "skipped")) no_members
 
 -- the verdict on a side in a position

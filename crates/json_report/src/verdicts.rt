@@ -99,9 +99,9 @@ fn put_found(
             put_cert_if(alloc, extras.certs, winner, cert, json)?;
             Ok(())
         }
-        Verdict::Undecided { units, depth } => {
+        Verdict::Undecided { positions, depth } => {
             put_text(b"verdict", b"undecided", json)?;
-            put_count(alloc, b"positions", u64::from(*units), json)?;
+            put_count(alloc, b"positions", u64::from(*positions), json)?;
             put_count(alloc, b"depth", u64::from(*depth), json)?;
             Ok(())
         }

@@ -20,7 +20,7 @@ AllLegal q (ms ∷ lines) = AreLegal q ms × AllLegal q lines
 abbrev pub IsOfLegalMoves : Board → Verdict → Type 0
 IsOfLegalMoves q (Winnable moves) = AreLegal q moves
 IsOfLegalMoves q (Unwinnable cert) = ⊤
-IsOfLegalMoves q (Undecided units depth) = ⊤
+IsOfLegalMoves q (Undecided positions depth) = ⊤
 IsOfLegalMoves q Skipped = ⊤
 
 -- so are those of the verdicts on both sides

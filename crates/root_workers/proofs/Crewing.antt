@@ -1,13 +1,9 @@
 -- Workers of a crew, one after the other.
-use Rattle.std.proofs.Common.{◌≡◌, ◌≢◌, ℕ, zero, suc, ◌+◌, ◌%◌, ◌<◌, ◌≤◌, ◌⊎◌, Result, inl, inr, List, [], ◌∷◌, ◌++◌, length, take, drop, slice_set, slice_index_or, refl, sym, ◌∙◌, ap, subst, arith}
+use Rattle.std.proofs.Common.{◌≡◌, ◌≢◌, ℕ, zero, suc, ◌+◌, ◌<◌, ◌≤◌, ◌⊎◌, inl, inr, List, [], ◌∷◌, ◌++◌, length, take, drop, slice_set, slice_index_or, refl, sym, ◌∙◌, ap, subst, arith}
 use Rattle.std.proofs.lemmas.Bool.{cases_lt}
 use Rattle.std.proofs.lemmas.List.{get_or-set_same, get_or-set_other, get_or_default, get_or_append_left, length-append}
 use Rattle.std.proofs.Math.Seq.{get_or-append_seam, take-append_seam}
-use Rattle.cha_list.specs.declared.memory.NoMemory.{NoMemory}
-use Rattle.cha_board.specs.declared.men.Color.{Color}
-use Rattle.cha_board.specs.Board.{Board}
 use Rattle.cha_moves.specs.Step.{Move}
-use Rattle.cha_limits.specs.Bounds.{Bounds}
 use Rattle.cha_fact.specs.Entries.{Entry}
 use Rattle.shard_table.specs.Makes.{Makes}
 use Rattle.shard_table.specs.Making.{makes_none}
@@ -18,9 +14,7 @@ use Rattle.shard_table.specs.declared.table.TablePass.{TablePass}
 use Rattle.root_workers.specs.declared.task.RoundTask.{RoundTask}
 use Rattle.root_workers.specs.declared.work.Work.{Work}
 use Rattle.root_workers.specs.declared.work.Worker.{Worker}
-use Rattle.root_workers.specs.declared.answers.RoundsEnd.{RoundsEnd}
-use Rattle.root_workers.specs.RoundAnswers.{RoundsCalls}
-use Rattle.root_workers.specs.Shares.{IsShare, ShareCalls, AllGrow, AllGrowTo}
+use Rattle.root_workers.specs.Shares.{IsShare, ShareCalls, AllGrowTo}
 use Rattle.root_workers.specs.Crews.{IsCrew, CrewMakes, LeavesWork, WorkerDone}
 use Rattle.root_workers.specs.Splits.{OnlySplits, IsFresh, AreFresh}
 
@@ -172,19 +166,3 @@ module _ (table : Table) (task : RoundTask) (moves : List Move) where
       let P : List Worker → Type 0 = λ xs. AreDone table task moves xs new in
       let Q : List Worker → Type 0 = λ ys. AreDone table task moves items ys in
       (ap length b ∙ same ∙ ap length is, subst Q (sym b) (subst P is done))
-
--- the calls of the rounds with one place are those with another
-pub rounds_seen : {S T : Type 0} (made : S → List Entry → S → Type 0) (made_by : ℕ → S → List Entry → S → Type 0) (seen : T → List Entry → T → Type 0) (seen_by : ℕ → T → List Entry → T → Type 0) (count : ℕ) (a b : S) (x y : T) (q : Board) (w : Color) (limits : Bounds) (result : Result RoundsEnd NoMemory)
-    → ((xs : List Entry) → made a xs b → seen x xs y) → ((i : ℕ) (xs : List Entry) → made_by i a xs b → seen_by i x xs y)
-    → RoundsCalls made made_by count a b q w limits result → RoundsCalls seen seen_by count x y q w limits result
-unfolding AllGrow
-rounds_seen made made_by seen seen_by count a b x y q w limits result lift lift_by calls = record {
-  reply = calls.reply;
-  rest = calls.rest;
-  entered = lift _ calls.entered;
-  follows = calls.follows;
-  stores = calls.stores;
-  few = calls.few;
-  searched = λ d is deep none i m at. (let s = calls.searched d is deep none i m at in (s.0, lift_by (i % count) s.0 s.1, s.2));
-  grows = λ i less. (let g = calls.grows i less in (g.0, lift_by i g.0 g.1));
-}

@@ -19,7 +19,7 @@ use Rattle.cha_fact.proofs.Searching.{front_within, back_within, searched_more}
 use Rattle.helpmate.specs.declared.answers.RoundAnswer.{RoundAnswer}
 use Rattle.helpmate.specs.declared.answers.RoundAnswer.TheVariants.{Mate, NoneWithin}
 use Rattle.helpmate.specs.declared.answers.RoundDone.{RoundDone}
-use Rattle.helpmate.specs.Units.{AreUnits}
+use Rattle.helpmate.specs.Counted.{CountsPositions}
 use Rattle.helpmate.specs.Rounds.{IsAnswer, IsAllowed, RoundCalls}
 use Rattle.helpmate.proofs.Counting.{Begins, HasLinesFrom, from_one_more, still_begins}
 use Rattle.root_workers.specs.declared.task.RoundTask.{RoundTask}
@@ -30,14 +30,14 @@ use Rattle.root_workers.specs.Deepens.{PartCalls}
 use Rattle.root_workers.specs.Gathers.{left_after}
 use Rattle.root_workers.proofs.Numbering.{before_or_here, next_own, none_below}
 
--- a worker has cleared its root moves below a number, with so much of its allowance left as the units that it took leave
+-- a worker has cleared its root moves below a number, with so much of its allowance left as the positions that it took leave
 pub record IsBegun (task : RoundTask) (moves : List Move) (number count index : ℕ) (left : Option ℕ) (work : Work) : Type 0 where
   pub own : index % count ≡ number
   pub near : index < length moves + count
-  pub units : ℕ
-  pub allowed : IsAllowed task.allowance units
-  pub lines : HasLinesFrom task.position (task.depth - 1) (take index moves) units
-  pub remains : left ≡ left_after task.allowance units
+  pub positions : ℕ
+  pub allowed : IsAllowed task.allowance positions
+  pub lines : HasLinesFrom task.position (task.depth - 1) (take index moves) positions
+  pub remains : left ≡ left_after task.allowance positions
   pub cleared : (i : ℕ) → Contains work.cleared.items i → (i < length moves) × (i % count ≡ number) × IsCleared task moves i
   pub below : (i : ℕ) → Contains work.cleared.items i → i < index
   pub once : AreDistinct work.cleared.items
@@ -98,7 +98,7 @@ begun_first task moves number count work few empty clean =
     let L : List ℕ → ℕ → Type 0 = λ xs i. Contains xs i in record {
       own = mod-eq_of_lt few;
       near = omega (arith, few);
-      units = 0;
+      positions = 0;
       allowed = none_allowed task.allowance 0 refl;
       lines = no_lines task.position (task.depth - 1) 0 (take number moves) refl;
       remains = left_first task.allowance;
@@ -110,10 +110,10 @@ begun_first task moves number count work few empty clean =
     }
 
 -- the lines of one more root move
-pub lines_here : (task : RoundTask) (moves : List Move) (number count index u v : ℕ) (m : Move) (left : Option ℕ) (work : Work) (begun : IsBegun task moves number count index left work) → AreUnits (after task.position m) (task.depth - 1) u → index < length moves → m ≡ get_or moves index m → moves ≡ legal task.position → v ≡ begun.units + u
+pub lines_here : (task : RoundTask) (moves : List Move) (number count index u v : ℕ) (m : Move) (left : Option ℕ) (work : Work) (begun : IsBegun task moves number count index left work) → CountsPositions (after task.position m) (task.depth - 1) u → index < length moves → m ≡ get_or moves index m → moves ≡ legal task.position → v ≡ begun.positions + u
     → HasLinesFrom task.position (task.depth - 1) (take (index + 1) moves) v
-lines_here task moves number count index u v m left work begun units inside at listed sum =
-    from_one_more task.position (task.depth - 1) begun.units u v moves index m begun.lines units inside at listed sum
+lines_here task moves number count index u v m left work begun positions inside at listed sum =
+    from_one_more task.position (task.depth - 1) begun.positions u v moves index m begun.lines positions inside at listed sum
 
 cleared_here : (task : RoundTask) (moves : List Move) (index : ℕ) (m : Move) → index < length moves → m ≡ get_or moves index m → HasNoMateWithin (after task.position m) task.winner (task.depth - 1) → IsCleared task moves index
 unfolding IsCleared
@@ -123,17 +123,17 @@ cleared_here task moves index m inside at none k is =
 
 -- one more root move is cleared
 pub begun_more : (task : RoundTask) (moves : List Move) (number count index u : ℕ) (m : Move) (left more : Option ℕ) (work new : Work) → IsBegun task moves number count index left work → 0 < count → more ≡ left_after left u → IsAllowed left u
-    → AreUnits (after task.position m) (task.depth - 1) u → index < length moves → m ≡ get_or moves index m → moves ≡ legal task.position → HasNoMateWithin (after task.position m) task.winner (task.depth - 1)
+    → CountsPositions (after task.position m) (task.depth - 1) u → index < length moves → m ≡ get_or moves index m → moves ≡ legal task.position → HasNoMateWithin (after task.position m) task.winner (task.depth - 1)
     → new.cleared.items ≡ work.cleared.items ++ index ∷ [] → IsWhole new → IsBegun task moves number count (index + count) more new
-begun_more task moves number count index u m left more work new begun some is few units inside at listed none pushed clean =
+begun_more task moves number count index u m left more work new begun some is few positions inside at listed none pushed clean =
     let here : IsCleared task moves index = cleared_here task moves index m inside at none in
     record {
       own = next_own index count number begun.own;
       near = omega (arith, inside);
-      units = begun.units + u;
-      allowed = more_allowed task.allowance left begun.units u (begun.units + u) begun.allowed begun.remains few refl;
-      lines = lines_more task.position (task.depth - 1) (begun.units + u) (index + 1) (index + count) moves (omega (arith, some)) (lines_here task moves number count index u (begun.units + u) m left work begun units inside at listed refl);
-      remains = left_both task.allowance left more begun.units u (begun.units + u) begun.remains is refl;
+      positions = begun.positions + u;
+      allowed = more_allowed task.allowance left begun.positions u (begun.positions + u) begun.allowed begun.remains few refl;
+      lines = lines_more task.position (task.depth - 1) (begun.positions + u) (index + 1) (index + count) moves (omega (arith, some)) (lines_here task moves number count index u (begun.positions + u) m left work begun positions inside at listed refl);
+      remains = left_both task.allowance left more begun.positions u (begun.positions + u) begun.remains is refl;
       cleared = λ i there. elim (Contains-push_cases work.cleared.items index i (subst (λ xs. Contains xs i) pushed there)) [
         | inl h ↦ begun.cleared i h
         | inr e ↦ subst (λ (k : ℕ). (k < length moves) × (k % count ≡ number) × IsCleared task moves k) e (inside, begun.own, here)
@@ -185,11 +185,11 @@ whole_allowance (Some most) n u few is =
     ap Some f
 
 -- the allowance was spent
-pub spent_here : (task : RoundTask) (moves : List Move) (number count index u : ℕ) (m : Move) (left : Option ℕ) (work : Work) → IsBegun task moves number count index left work → left ≡ Some u → AreUnits (after task.position m) (task.depth - 1) u
+pub spent_here : (task : RoundTask) (moves : List Move) (number count index u : ℕ) (m : Move) (left : Option ℕ) (work : Work) → IsBegun task moves number count index left work → left ≡ Some u → CountsPositions (after task.position m) (task.depth - 1) u
     → index < length moves → m ≡ get_or moves index m → moves ≡ legal task.position → IsSpent task
 unfolding IsSpent
-spent_here task moves number count index u m left work begun all units inside at listed =
-    (begun.units + u, whole_allowance task.allowance begun.units u begun.allowed (sym begun.remains ∙ all), lines_of task.position (task.depth - 1) (begun.units + u) (take (index + 1) moves) (lines_here task moves number count index u (begun.units + u) m left work begun units inside at listed refl))
+spent_here task moves number count index u m left work begun all positions inside at listed =
+    (begun.positions + u, whole_allowance task.allowance begun.positions u begun.allowed (sym begun.remains ∙ all), lines_of task.position (task.depth - 1) (begun.positions + u) (take (index + 1) moves) (lines_here task moves number count index u (begun.positions + u) m left work begun positions inside at listed refl))
 
 -- each root move of a worker below a number was searched
 unfoldable pub SharesTried : {S : Type 0} → (S → List Entry → S → Type 0) → S → S → RoundTask → List Move → ℕ → ℕ → ℕ → Type 0

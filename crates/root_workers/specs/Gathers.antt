@@ -23,8 +23,8 @@ AreShares leaves task moves count = (i : ℕ) (work : Work) → i < count → le
 
 -- what is left of an allowance
 abbrev pub left_after : Option ℕ → ℕ → Option ℕ
-left_after None units = None
-left_after (Some most) units = Some (most - units)
+left_after None positions = None
+left_after (Some most) positions = Some (most - positions)
 
 -- each worker cleared its root moves
 unfoldable pub AreWhole : (ℕ → Work → Type 0) → ℕ → Type 0

@@ -169,7 +169,7 @@ fn known_plies(position: &Position, winner: Color, row: &Proved) -> u8
 /// expanded. In rounds of 1 and 2 plies as many positions are expanded as need be; from 3 on each worker expands at most the
 /// budget in a round, and where one has spent it and none has met a mate, the depth before is the answer. Of the mates that
 /// workers met the one with the lowest root move is the answer. An answer that was searched for is stored (this project).
-pub fn rounds_by<C: Crew>(
+pub fn rounds<C: Crew>(
     alloc: Global,
     position: &Position,
     winner: Color,

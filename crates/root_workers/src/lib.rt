@@ -4,7 +4,7 @@
 //! of facts that keeps none, `share` one worker's part of a round, `workers` a crew of them as a whole, `alone` the crew that needs
 //! no thread, `nobody` the crew that has nobody who searches, `many` the crew of threads at one table, `hired` and `staff` with
 //! `on_demand` one that is made when it is first called on, `dismissing` its end and that of the table, `gather` what the works of a
-//! round come to, `deepening` the rounds one after the other, and `table_rounds` the same for threads at a table.
+//! round come to, and `deepening` the rounds one after the other.
 #![tactic(auto)]
 
 mod alone;
@@ -19,7 +19,6 @@ mod nowhere;
 mod on_demand;
 mod share;
 mod staff;
-mod table_rounds;
 mod task;
 mod work;
 mod workers;
@@ -27,7 +26,7 @@ mod workers;
 pub use alone::Alone;
 pub use answers::RoundsEnd;
 pub use cha_limits::Limits;
-pub use deepening::rounds_by;
+pub use deepening::rounds;
 pub use dismissing::{close, dismiss};
 pub use gather::gathered;
 pub use hired::Hired;
@@ -36,7 +35,6 @@ pub use nobody::Nobody;
 pub use nowhere::Nowhere;
 pub use on_demand::OnDemand;
 pub use staff::Staff;
-pub use table_rounds::rounds;
 pub use task::RoundTask;
 pub use work::{RootMate, Work, Worker};
 pub use workers::Crew;

@@ -2,7 +2,7 @@
 
 ghost use Rattle.std.specs.Prelude.{◌≡◌, ◌-◌, ◌<◌, ◌≤◌, Contains, Some, IsNone, IfOk};
 ghost use Rattle.cha_moves.specs.Moves.{after as position_after, legal as legal_moves};
-ghost use Rattle.helpmate.specs.Units.{AreUnits};
+ghost use Rattle.helpmate.specs.Counted.{CountsPositions};
 ghost use Rattle.helpmate.specs.Rounds.{IsAnswer, IsAllowed, RoundCalls};
 ghost use Rattle.root_workers.specs.Shares.{IsShare, ShareCalls};
 ghost use Rattle.root_workers.specs.Deepens.{PartCalls};
@@ -14,16 +14,16 @@ use crate::work::{RootMate, Work};
 use cha_fact::Facts;
 use cha_list::NoMemory;
 use cha_moves::{Move, after};
-use helpmate::{RoundAnswer, RoundDone, round_in};
+use helpmate::{RoundAnswer, RoundDone, round};
 use std::alloc::Global;
 
 /// What is left of an allowance.
-fn left_of(allowance: Option<u32>, units: u32) -> Option<u32>
-    requires { IsAllowed allowance units }
-    ensures { result ≡ left_after allowance units }
+fn left_of(allowance: Option<u32>, positions: u32) -> Option<u32>
+    requires { IsAllowed allowance positions }
+    ensures { result ≡ left_after allowance positions }
 {
     match allowance {
-        Some(most) => Some(most - units),
+        Some(most) => Some(most - positions),
         None => None,
     }
 }
@@ -43,13 +43,13 @@ fn search_root<F: Facts>(
     requires bounded { IsNone left → task.now.depth ≤ 3 }
     ensures stays_ready { F.ready facts.new }
     ensures holds { IfOk result (λ done. IsAnswer (position_after task.now.position m) task.now.winner (task.now.depth - 1) 39 done.round) }
-    ensures allowed { IfOk result (λ done. IsAllowed left done.units) }
-    ensures units { IfOk result (λ done. AreUnits (position_after task.now.position m) (task.now.depth - 1) done.units) }
-    ensures spent { IfOk result (λ done. done.round ≡ RoundAnswer.Spent → left ≡ Some done.units) }
+    ensures allowed { IfOk result (λ done. IsAllowed left done.positions) }
+    ensures positions { IfOk result (λ done. CountsPositions (position_after task.now.position m) (task.now.depth - 1) done.positions) }
+    ensures spent { IfOk result (λ done. done.round ≡ RoundAnswer.Spent → left ≡ Some done.positions) }
     ensures calls { RoundCalls F.made facts.old facts.new (position_after task.now.position m) task.now.winner (task.now.depth - 1) result }
 {
     let next = after(&task.position, m);
-    round_in(alloc, &next, task.winner, task.depth - 1, left, facts)
+    round(alloc, &next, task.winner, task.depth - 1, left, facts)
 }
 
 /// The most plies of a round that asks no place of facts. In so few a position can hardly be reached in two ways, and what was
@@ -109,7 +109,7 @@ fn part_of<F: Facts>(
     while index < moves.len() {
         match search_root(alloc, task, moves[index], left, facts) {
             Ok(done) => {
-                left = left_of(left, done.units);
+                left = left_of(left, done.positions);
                 match done.round {
                     RoundAnswer::Mate(line) => {
                         work.mate = Some(RootMate {

@@ -57,7 +57,7 @@ tried q w n e = record {
 says : (q : Board) (w : Color) (limits : Bounds) (v : Verdict) → IsTrueOf q w limits v → Says q w limits v
 says q w limits (Winnable moves) h = h
 says q w limits (Unwinnable cert) h = valid_is_unwinnable q w cert h
-says q w limits (Undecided units depth) h = (h.spent, tried q w units h.explored, h.none)
+says q w limits (Undecided positions depth) h = (h.spent, tried q w positions h.explored, h.none)
 says q w limits Skipped h = tt
 
 -- a side is skipped only where the other can mate

@@ -31,14 +31,14 @@ unfolding verdict_text winnable_text verdict_words
 same_words q (Winnable []) = refl
 same_words q (Winnable (m ∷ ms)) = refl
 same_words q (Unwinnable cert) = refl
-same_words q (Undecided units depth) = refl
+same_words q (Undecided positions depth) = refl
 same_words q Skipped = refl
 
 no_cert : (w : Color) (v : Verdict) → cert_part false w v ≡ []
 unfolding cert_part
 no_cert w (Winnable moves) = refl
 no_cert w (Unwinnable cert) = refl
-no_cert w (Undecided units depth) = refl
+no_cert w (Undecided positions depth) = refl
 no_cert w Skipped = refl
 
 side : (label : List ℕ) (q : Board) (w : Color) (v : Verdict) → line (label ++ verdict_text Coordinates q v) ++ cert_part false w v ≡ line (label ++ verdict_words v)

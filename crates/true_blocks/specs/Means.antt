@@ -37,7 +37,7 @@ pub record AreTried (q : Board) (winner : Color) (count : ℕ) : Type 0 where
 abbrev pub Says : Board → Color → Bounds → Verdict → Type 0
 Says q winner limits (Winnable moves) = IsMatingLine q winner moves
 Says q winner limits (Unwinnable cert) = IsUnwinnable q winner
-Says q winner limits (Undecided units depth) = (units ≡ limits.budget) × AreTried q winner units × HasNoMateWithin q winner depth
+Says q winner limits (Undecided positions depth) = (positions ≡ limits.budget) × AreTried q winner positions × HasNoMateWithin q winner depth
 Says q winner limits Skipped = ⊤
 
 -- what both verdicts say: a side is skipped only where the other one can mate

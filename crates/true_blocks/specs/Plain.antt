@@ -30,7 +30,7 @@ unfoldable pub verdict_words : Verdict → List ℕ
 verdict_words (Winnable []) = codes "winnable in 0"
 verdict_words (Winnable (m ∷ ms)) = codes "winnable in " ++ decimal (length (m ∷ ms)) ++ codes ":" ++ moves_text (m ∷ ms)
 verdict_words (Unwinnable cert) = codes "unwinnable"
-verdict_words (Undecided units depth) = undecided_text units depth
+verdict_words (Undecided positions depth) = undecided_text positions depth
 verdict_words Skipped = codes "skipped"
 
 -- the four lines on a position

@@ -24,7 +24,7 @@ returns-clause-sound g c =
     )
 
 pub returns-clause-calls : goal.returns-clause-calls
-returns-clause-calls g c = made_both g.C.Facts.made g.met.C.Facts.both_made c.args.crew.now c.decide_by.new.crew c.scan_by.new.crew (c.decide_by.ensures.calls.entries, c.decide_by.ensures.calls.entered) c.scan_by.ensures.calls
+returns-clause-calls g c = made_both g.C.Facts.made g.met.C.Facts.both_made c.args.crew.now c.decide.new.crew c.scan_back.new.crew (c.decide.ensures.calls.entries, c.decide.ensures.calls.entered) c.scan_back.ensures.calls
 
 pub returns-in_err-scan-clause-calls : goal.returns-in_err-scan-clause-calls
-returns-in_err-scan-clause-calls g c = made_both g.C.Facts.made g.met.C.Facts.both_made c.args.crew.now c.decide_by.new.crew c.scan_by.new.crew (c.decide_by.ensures.calls.entries, c.decide_by.ensures.calls.entered) c.scan_by.ensures.calls
+returns-in_err-scan-clause-calls g c = made_both g.C.Facts.made g.met.C.Facts.both_made c.args.crew.now c.decide.new.crew c.scan_back.new.crew (c.decide.ensures.calls.entries, c.decide.ensures.calls.entered) c.scan_back.ensures.calls

@@ -10,4 +10,4 @@ returns c =
     ∙ ap (λ (text : List ℕ). text ++ count_text (codes " positions, depth ") c.from-2.result) c.in_ok-put_count.ensures
     ∙ append_assoc c.args.text.now (count_text (codes "undecided after ") c.from.result) (count_text (codes " positions, depth ") c.from-2.result)
     ∙ ap (λ (n : ℕ). c.args.text.now ++ (count_text (codes "undecided after ") n ++ count_text (codes " positions, depth ") c.from-2.result)) c.from.ensures
-    ∙ ap (λ (n : ℕ). c.args.text.now ++ (count_text (codes "undecided after ") c.args.units ++ count_text (codes " positions, depth ") n)) c.from-2.ensures
+    ∙ ap (λ (n : ℕ). c.args.text.now ++ (count_text (codes "undecided after ") c.args.positions ++ count_text (codes " positions, depth ") n)) c.from-2.ensures

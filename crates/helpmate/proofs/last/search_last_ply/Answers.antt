@@ -1,21 +1,21 @@
 use Rattle.std.proofs.Common.{◌-◌, inl, inr, refl, arith}
 use Rattle.helpmate.specs.declared.answers.RoundAnswer.TheVariants.{Mate, NoneWithin, Spent}
-use Rattle.helpmate.proofs.Counting.{no_units}
+use Rattle.helpmate.proofs.Counting.{no_positions}
 use Rattle.helpmate.proofs.Expanding.{left_alone, one_position}
-use Rattle.helpmate.proofs.LastPly.{one_unit, none_next}
+use Rattle.helpmate.proofs.LastPly.{one_expanded, none_next}
 use Rattle.helpmate.proofs.last.search_last_ply.Goals as goal
 
-pub returns-then-is_mate-clause-units : goal.returns-then-is_mate-clause-units
-returns-then-is_mate-clause-units c = no_units c.args.position.now 1 (c.args.left.now - c.args.left.now) (omega arith)
+pub returns-then-is_mate-clause-positions : goal.returns-then-is_mate-clause-positions
+returns-then-is_mate-clause-positions c = no_positions c.args.position.now 1 (c.args.left.now - c.args.left.now) (omega arith)
 
-pub returns-then-left-eq0-clause-units : goal.returns-then-left-eq0-clause-units
-returns-then-left-eq0-clause-units c = no_units c.args.position.now 1 (c.args.left.now - c.args.left.now) (omega arith)
+pub returns-then-left-eq0-clause-positions : goal.returns-then-left-eq0-clause-positions
+returns-then-left-eq0-clause-positions c = no_positions c.args.position.now 1 (c.args.left.now - c.args.left.now) (omega arith)
 
-pub returns-in-Some-clause-units : goal.returns-in-Some-clause-units
-returns-in-Some-clause-units c = let some = c.if-left-eq0.false in one_unit c.args.position.now 1 c.args.left.now refl (omega (arith, some))
+pub returns-in-Some-clause-positions : goal.returns-in-Some-clause-positions
+returns-in-Some-clause-positions c = let some = c.if-left-eq0.false in one_expanded c.args.position.now 1 c.args.left.now refl (omega (arith, some))
 
-pub returns-in-None-clause-units : goal.returns-in-None-clause-units
-returns-in-None-clause-units c = let some = c.if-left-eq0.false in one_unit c.args.position.now 1 c.args.left.now refl (omega (arith, some))
+pub returns-in-None-clause-positions : goal.returns-in-None-clause-positions
+returns-in-None-clause-positions c = let some = c.if-left-eq0.false in one_expanded c.args.position.now 1 c.args.left.now refl (omega (arith, some))
 
 pub returns-in-None-clause-holds : goal.returns-in-None-clause-holds
 returns-in-None-clause-holds c =

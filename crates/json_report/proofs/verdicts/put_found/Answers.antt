@@ -16,9 +16,9 @@ returns-in_ok-put_cert_if-in-Unwinnable c =
 pub returns-in_ok-put_count-in-Undecided-2 : goal.returns-in_ok-put_count-in-Undecided-2
 unfolding verdict_members
 returns-in_ok-put_count-in-Undecided-2 c =
-    let units = rw c.from.ensures at c.in_ok-put_count-in-Undecided.ensures in
+    let positions = rw c.from.ensures at c.in_ok-put_count-in-Undecided.ensures in
     let depth = rw c.from-in-Undecided.ensures at c.in_ok-put_count-in-Undecided-2.ensures in
-    rw c.in-Undecided.is (next _ _ _ _ _ c.in_ok-put_text-in-Undecided.ensures then next _ _ _ _ _ units then next _ _ _ _ _ depth)
+    rw c.in-Undecided.is (next _ _ _ _ _ c.in_ok-put_text-in-Undecided.ensures then next _ _ _ _ _ positions then next _ _ _ _ _ depth)
 
 pub returns-in_ok-put_text-in-Skipped : goal.returns-in_ok-put_text-in-Skipped
 unfolding verdict_members

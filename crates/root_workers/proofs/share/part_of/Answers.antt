@@ -27,7 +27,7 @@ returns-in-Mate-clause-calls g c =
 pub returns-in-Spent-clause-share : goal.returns-in-Spent-clause-share
 returns-in-Spent-clause-share g c =
     share_spent c.args.task.now c.args.moves.now c.args.number c.args.count c.loop-index.index _ c.loop-index.work _ c.loop-index.invariant.begun refl refl refl
-    (spent_here c.args.task.now c.args.moves.now c.args.number c.args.count c.loop-index.index c.in-Ok.done.units c.index-moves-index.result c.loop-index.left c.loop-index.work c.loop-index.invariant.begun (c.in-Ok.ensures.spent c.in-Spent.is) c.in-Ok.ensures.units c.loop-index-test.true c.index-moves-index.is c.requires.listed)
+    (spent_here c.args.task.now c.args.moves.now c.args.number c.args.count c.loop-index.index c.in-Ok.done.positions c.index-moves-index.result c.loop-index.left c.loop-index.work c.loop-index.invariant.begun (c.in-Ok.ensures.spent c.in-Spent.is) c.in-Ok.ensures.positions c.loop-index-test.true c.index-moves-index.is c.requires.listed)
 
 pub returns-in-Spent-clause-calls : goal.returns-in-Spent-clause-calls
 returns-in-Spent-clause-calls g c =
@@ -54,12 +54,12 @@ loop-index-preserved g c =
     let some : 0 < c.args.count = (let less = c.requires.number in omega arith) in
     let i = c.loop-index.index in
     let m = c.index-moves-index.result in
-    let u = c.in-Ok.done.units in
+    let u = c.in-Ok.done.positions in
     let before = c.loop-index.invariant in
     record {
       ready = c.in-Ok.ensures.stays_ready;
       short = before.short;
-      begun = begun_more c.args.task.now c.args.moves.now c.args.number c.args.count i u m c.loop-index.left c.left_of-left.result c.loop-index.work _ before.begun some c.left_of-left.ensures c.in-Ok.ensures.allowed c.in-Ok.ensures.units c.loop-index-test.true c.index-moves-index.is c.requires.listed (none_behind c.args.task.now m c.in-Ok.done.round c.in-Ok.ensures.holds c.in-NoneWithin.is)
+      begun = begun_more c.args.task.now c.args.moves.now c.args.number c.args.count i u m c.loop-index.left c.left_of-left.result c.loop-index.work _ before.begun some c.left_of-left.ensures c.in-Ok.ensures.allowed c.in-Ok.ensures.positions c.loop-index-test.true c.index-moves-index.is c.requires.listed (none_behind c.args.task.now m c.in-Ok.done.round c.in-Ok.ensures.holds c.in-NoneWithin.is)
           c.in-Ok-push.ensures.items before.begun.clean;
       bounded = λ none. before.bounded (none_left c.loop-index.left c.left_of-left.result u c.left_of-left.ensures none);
       tried = shares_more g.F.Facts.made c.args.facts.now c.loop-index.facts c.search_root.new.facts c.args.task.now c.args.moves.now c.args.number c.args.count i m c.search_root.result c.in-Ok.done g.met.F.Facts.both_made before.tried c.search_root.ensures.calls c.in-Ok.is c.in-NoneWithin.is some before.begun.own c.index-moves-index.is;

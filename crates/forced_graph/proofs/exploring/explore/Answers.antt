@@ -7,7 +7,7 @@ use Rattle.forced_graph.proofs.Calling.{more_made, none_called, one_called, asks
 use Rattle.forced_graph.proofs.Members.{explored_asked}
 use Rattle.forced_graph.proofs.Certifying.{closed_asked}
 use Rattle.cha_list.proofs.WhenTold.{when_some, when_none}
-use Rattle.forced_graph.proofs.exploring.explore_in.Goals as goal
+use Rattle.forced_graph.proofs.exploring.explore.Goals as goal
 
 pub loop-region-init : goal.loop-region-init
 loop-region-init g c = record {

@@ -2,7 +2,7 @@ use Rattle.std.proofs.Common.{[], ◌∷◌, Some, sym, ◌∙◌, ap, subst}
 use Rattle.cha_fact.specs.declared.key.Key.{Key}
 use Rattle.cha_fact.specs.Entries.{probe_entry}
 use Rattle.root_workers.proofs.Ending.{decided_none, finds, finds_none, rounds_calls, known_missed, known_found, undecided_found, undecided_missed, undecided_refused}
-use Rattle.root_workers.proofs.deepening.rounds_by.Goals as goal
+use Rattle.root_workers.proofs.deepening.rounds.Goals as goal
 
 pub returns-in-Some-NoneWithin-clause-calls : goal.returns-in-Some-NoneWithin-clause-calls
 returns-in-Some-NoneWithin-clause-calls g c =

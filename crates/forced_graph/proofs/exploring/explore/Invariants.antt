@@ -2,7 +2,7 @@ use Rattle.std.proofs.Common.{◌-◌, ◌≤◌}
 use Rattle.forced_graph.specs.Regions.{IsBetween, IsTaskOf}
 use Rattle.cha_fact.specs.Entries.{MadeSome}
 use Rattle.forced_graph.specs.Asking.{HasCalled}
-use Rattle.forced_graph.proofs.exploring.explore_in.Given as goal
+use Rattle.forced_graph.proofs.exploring.explore.Given as goal
 
 abbrev pub invariant-loop-region : goal.invariant-loop-region
 invariant-loop-region g l = record {

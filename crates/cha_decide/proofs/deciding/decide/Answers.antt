@@ -3,7 +3,7 @@ use Rattle.cha_decide.specs.Shown.{IsExpandedUnshown}
 use Rattle.cha_decide.proofs.Both.{each_white, each_black, white_first, black_first}
 use Rattle.cha_decide.proofs.Asking.{asked_none, asked_white, asked_black}
 use Rattle.root_workers.proofs.Working.{worked}
-use Rattle.cha_decide.proofs.deciding.decide_by.Goals as goal
+use Rattle.cha_decide.proofs.deciding.decide.Goals as goal
 
 pub returns-in_err-other-clause-calls : goal.returns-in_err-other-clause-calls
 returns-in_err-other-clause-calls g c =

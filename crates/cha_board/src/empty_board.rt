@@ -52,7 +52,7 @@ fn diagonal(s: Square, t: Square) -> bool
 
 /// Whether two squares are different squares of one line.
 #[tactic(auto, unfolding(crate::specs::Squares::is_line))]
-pub(crate) fn in_line(s: Square, t: Square) -> bool
+fn in_line(s: Square, t: Square) -> bool
     ensures { result ≡ is_line s t }
 {
     straight(s, t) || diagonal(s, t)

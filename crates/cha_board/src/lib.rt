@@ -3,14 +3,12 @@
 //! `men` has colours, kinds and men, `squares` the squares, `letters` how both are written, `sets` sets of squares,
 //! `each_square` their squares one after the other, `shifts` ranks, colours of squares, sets moved by one square and steps of kings, and `placement` what stands on the
 //! board, kept as sets. `empty_board` has distances and what a man aims at on an empty board, `aiming` the same over occupied
-//! squares by the tables of `leaps` and `rays`, `strikes` what men attack by it, and `attacking` the same by a plain walk over
-//! a list of men. `position` has the valid positions, `build` how one is made, `castling` what a side needs for castling,
+//! squares by the tables of `leaps` and `rays`, and `strikes` what men attack by it. `position` has the valid positions, `build` how one is made, `castling` what a side needs for castling,
 //! and `opening` the opening position. `packed` has positions as five words, by which they are compared and found, and
 //! `kept` positions in the room of these.
 #![tactic(auto)]
 
 mod aiming;
-mod attacking;
 mod build;
 mod castling;
 mod each_square;
@@ -30,7 +28,6 @@ mod squares;
 mod strikes;
 
 pub use aiming::{aims, aims_alone, squares_between};
-pub use attacking::attacks_square;
 pub use build::BuildFault;
 pub use castling::{Wing, home, homes};
 pub use each_square::Squares;

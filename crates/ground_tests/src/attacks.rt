@@ -1,6 +1,6 @@
 //! What men aim at and attack: a worked example, and the sets against the plain walk over a list.
 
-use cha_board::{Color, Kind, Man, Men, Square, SquareSet, aims, attacks_square};
+use cha_board::{Color, Kind, Man, Men, Square, SquareSet, aims, aims_at, steps_between};
 
 const OPENING: &[u8; 64] = b"RNBQKBNRPPPPPPPP................................pppppppprnbqkbnr";
 
@@ -47,6 +47,49 @@ fn men_of(letters: &[u8; 64]) -> [Option<Man>; 64] {
         men[index] = man_of(letters[index]);
     }
     men
+}
+
+/// Whether a man of this kind goes from each of the squares to the next, and from the first to the last, on an empty board.
+fn aims_along(kind: Kind, s: Square, u: Square, t: Square) -> bool {
+    aims_at(Color::White, kind, s, u)
+        && aims_at(Color::White, kind, u, t)
+        && aims_at(Color::White, kind, s, t)
+}
+
+/// Whether a square lies strictly between two others of one line.
+fn lies_between(s: Square, u: Square, t: Square) -> bool {
+    let by_way = u32::from(steps_between(s, u)) + u32::from(steps_between(u, t));
+    by_way == u32::from(steps_between(s, t))
+        && (aims_along(Kind::Rook, s, u, t) || aims_along(Kind::Bishop, s, u, t))
+}
+
+/// Whether a man stands strictly between two squares of one line.
+fn is_barred(men: &[Option<Man>; 64], s: Square, t: Square) -> bool {
+    for index in 0..64 {
+        let u = Square::at(index);
+        if lies_between(s, u, t) && men[usize::from(u.index())].is_some() {
+            return true;
+        }
+    }
+    false
+}
+
+/// Whether a man of this side stands on a square and attacks another (Laws of Chess, Article 3.1).
+fn attacks_from(men: &[Option<Man>; 64], by: Color, s: Square, t: Square) -> bool {
+    match men[usize::from(s.index())] {
+        None => false,
+        Some(man) => man.color.is(by) && aims_at(by, man.kind, s, t) && !is_barred(men, s, t),
+    }
+}
+
+/// Whether some man of this side attacks a square.
+fn attacks_square(men: &[Option<Man>; 64], by: Color, t: Square) -> bool {
+    for index in 0..64 {
+        if attacks_from(men, by, Square::at(index), t) {
+            return true;
+        }
+    }
+    false
 }
 
 /// How many squares the two ways to tell what a side attacks call different.

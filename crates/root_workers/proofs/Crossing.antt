@@ -2,7 +2,7 @@
 use denote.Param.Send.{IsSend, IsSync, sendable}
 use Rattle.std.proofs.Crossing.{crosses}
 use Rattle.shard_table.proofs.Sending.{call_send, reply_send, shard_send, table_pass_send}
-use Rattle.helpmate.below.atomic_table.proofs.shared.Seat.TheSendSync.{the_send as seat_send}
+use Rattle.turn_cell.below.atomic_table.proofs.shared.Seat.TheSendSync.{the_send as seat_send}
 use Rattle.cha_moves.specs.contracts.chess_move.Move.{the_row as move_row}
 use Rattle.root_workers.proofs.work.Work.TheSendSync.{the_send as work_send}
 use Rattle.root_workers.specs.contracts.task.RoundTask.{the_row as task_row}

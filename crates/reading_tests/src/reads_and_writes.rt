@@ -1,7 +1,7 @@
 //! Reads, writes and failures, call by call.
 
 use cha_outside::{
-    Bytes, Got, Kept, Pieces, ReadEnd, ReadFrom, Repeat, Sink, Source, WriteTo, Wrote, read_all,
+    Bytes, Got, KeptSink, Pieces, ReadEnd, ReadFrom, Repeat, Sink, Source, WriteTo, Wrote, read_all,
 };
 use std::alloc::Global;
 use std::io::{self, Read, Write};
@@ -185,7 +185,7 @@ const SINKS: &[(u32, u32, Answers, &[u8])] = &[
 
 fn keeps(rt: &impl Abort, alloc: Global, room: u32, failing: u32, want: &Answers, bytes: &[u8]) {
     let fails = [failing].to_vec(alloc).expect(rt, "memory");
-    let mut sink = Kept::new(alloc, room, fails).expect(rt, "memory");
+    let mut sink = KeptSink::new(alloc, room, fails).expect(rt, "memory");
     let answers = [sink.write(b"ab"), sink.write(b"cde"), sink.write(b"f")];
     assert_eq!(rt; answers, *want, "room {room}");
     assert_eq!(rt; sink.bytes(), bytes, "room {room}");

@@ -1,5 +1,6 @@
 pub mod Numbering
 pub mod Sharing
+pub mod Calling
 pub mod Gathering
 pub mod Going
 pub mod Ending

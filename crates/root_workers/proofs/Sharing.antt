@@ -28,6 +28,7 @@ use Rattle.root_workers.specs.declared.work.Work.{Work}
 use Rattle.root_workers.specs.Shares.{IsWhole, IsCleared, IsRootMate, IsSpent, IsShare, AreSharesSearched, ShareCalls}
 use Rattle.root_workers.specs.Deepens.{PartCalls}
 use Rattle.root_workers.specs.Gathers.{left_after}
+use Rattle.root_workers.specs.Helps.{MakesCalls}
 use Rattle.root_workers.proofs.Numbering.{before_or_here, next_own, none_below}
 
 -- a worker has cleared its root moves below a number, with so much of its allowance left as the positions that it took leave
@@ -229,10 +230,18 @@ calls_end made old mid new task moves number count index m result work both trie
     let ys = probe_entry (key_of (after task.position m) task.winner) calls.reply ∷ calls.rest in
     (xs ++ ys, both old mid new xs ys tried.1 calls.entered, (λ whole. absurd (ended whole)))
 
-pub calls_done : {S : Type 0} (made : S → List Entry → S → Type 0) (old new : S) (task : RoundTask) (moves : List Move) (number count index : ℕ) (work : Work) → SharesTried made old new task moves number count index → length moves ≤ index → PartCalls made old new task moves number count work
-unfolding SharesTried PartCalls AreSharesSearched
-calls_done made old new task moves number count index work tried end =
-    (tried.0, tried.1, (λ whole i m read own. tried.2 i m read (let inside = slice_get_within moves i m read in omega (arith, inside, end)) own))
+-- a part that cleared all root moves, and then made more calls
+pub calls_done : {S : Type 0} (made : S → List Entry → S → Type 0) (old mid new : S) (task : RoundTask) (moves : List Move) (number count index : ℕ) (work : Work)
+    → ((a b c : S) (xs ys : List Entry) → made a xs b → made b ys c → made a (xs ++ ys) c)
+    → SharesTried made old mid task moves number count index → length moves ≤ index → MakesCalls made mid new → PartCalls made old new task moves number count work
+unfolding SharesTried PartCalls AreSharesSearched MakesCalls
+calls_done made old mid new task moves number count index work both tried end more = (
+  tried.0 ++ more.0,
+  both old mid new tried.0 more.0 tried.1 more.1,
+  (λ whole i m read own.
+      searched_more tried.0 (tried.0 ++ more.0) (front_within tried.0 more.0) (after task.position m) task.winner (task.depth - 1)
+      (tried.2 i m read (let inside = slice_get_within moves i m read in omega (arith, inside, end)) own)),
+)
 
 -- a round of at most 4 plies makes no call
 pub no_calls_made : {S : Type 0} (made : S → List Entry → S → Type 0) (s : S) (task : RoundTask) (moves : List Move) (number count : ℕ) (work : Work) → made s [] s → task.depth ≤ 4 → ShareCalls made s s task moves number count work

@@ -8,6 +8,7 @@ pub mod Histories
 pub mod Hiring
 pub mod Worked
 -- inside the crate
+pub mod Helps
 pub mod Deepens
 pub mod Making
 pub mod Knowing

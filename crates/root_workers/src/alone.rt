@@ -2,6 +2,7 @@
 
 ghost use Rattle.std.specs.Prelude.{◌≡◌};
 
+use crate::open_moves::OpenMoves;
 use crate::share::share_of;
 use crate::task::RoundTask;
 use crate::work::Work;
@@ -90,6 +91,8 @@ impl<'a, F: Facts> Crew for Alone<'a, F> {
     }
 
     fn share_out(&mut self, alloc: Global, task: &RoundTask, moves: &[Move]) {
-        self.work = share_of(alloc, task, moves, 0, 1, self.place);
+        // Nobody is there to be helped.
+        let open = OpenMoves::none(alloc);
+        self.work = share_of(alloc, task, moves, 0, 1, &open, self.place);
     }
 }

@@ -7,6 +7,7 @@ ghost use Rattle.shard_table.specs.Tables.{IsOfTable, IsFirstPass, splits_of};
 ghost use Rattle.root_workers.specs.Crews.{IsCrew, CrewMakes, WorkerDone};
 ghost use Rattle.root_workers.specs.Splits.{OnlySplits, AreFresh};
 
+use crate::open_moves::OpenMoves;
 use crate::share::share_of;
 use crate::task::RoundTask;
 use crate::work::{Work, Worker};
@@ -84,6 +85,7 @@ fn work_on<R: Wait>(
     task: &RoundTask,
     moves: &[Move],
     count: u32,
+    open: &OpenMoves,
     worker: &mut Worker,
 )
     requires of { IsOfTable table.now worker.old.pass }
@@ -96,7 +98,7 @@ fn work_on<R: Wait>(
     ensures done { WorkerDone table.now task.now moves.now count worker.old worker.new }
 {
     let mut facts = TableFacts::new(rt, table, &mut worker.pass);
-    worker.work = share_of(alloc, task, moves, worker.number, count, &mut facts);
+    worker.work = share_of(alloc, task, moves, worker.number, count, open, &mut facts);
 }
 
 /// Each worker's part of a round, in a thread of its own.
@@ -117,6 +119,7 @@ pub(crate) fn hand_out<R: Threads + Wait + Sync>(
     ensures done { (i : ℕ) (d : Worker) → i < length crew.old → WorkerDone table.now task.now moves.now (length crew.old) (slice_index_or crew.old i d) (slice_index_or crew.new i d) }
 {
     let count = crew.len() as u32;
+    let open = OpenMoves::all(alloc, moves.len());
     thread::for_each_mut(
         rt,
         crew,
@@ -124,7 +127,7 @@ pub(crate) fn hand_out<R: Threads + Wait + Sync>(
         &|_, worker: &mut Worker|
             requires { IsOfTable table.now worker.now.pass × (worker.now.number < count) × (count ≤ 16) × (moves.now ≡ legal_moves task.now.position) × (1 ≤ task.now.depth) × (task.now.depth ≤ 8) × (IsNone task.now.allowance → task.now.depth ≤ 3) }
             ensures { WorkerDone table.entry.now task.entry.now moves.entry.now count worker.entry.now worker.exit.now }
-        { work_on(rt, alloc, table, task, moves, count, worker) },
+        { work_on(rt, alloc, table, task, moves, count, &open, worker) },
     );
 }
 

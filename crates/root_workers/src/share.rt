@@ -8,7 +8,9 @@ ghost use Rattle.root_workers.specs.Shares.{IsShare, ShareCalls};
 ghost use Rattle.root_workers.specs.Deepens.{PartCalls};
 ghost use Rattle.root_workers.specs.Gathers.{left_after};
 
+use crate::helping::Helper;
 use crate::nowhere::Nowhere;
+use crate::open_moves::OpenMoves;
 use crate::task::RoundTask;
 use crate::work::{RootMate, Work};
 use cha_fact::Facts;
@@ -57,13 +59,15 @@ fn search_root<F: Facts>(
 const WITHOUT_FACTS: u8 = 4;
 
 /// Searches the root moves of the worker with a number among `count` workers, in order, up to the first mate. A round of at most
-/// four plies makes no call of the worker's place.
+/// four plies makes no call of the worker's place. In a deeper one a worker that has cleared its root moves helps with those that
+/// are open still, with what is left of its allowance.
 pub fn share_of<F: Facts>(
     alloc: Global,
     task: &RoundTask,
     moves: &[Move],
     number: u32,
     count: u32,
+    open: &OpenMoves,
     facts: &mut F,
 ) -> Work
     requires ready { F.ready facts.old }
@@ -78,18 +82,22 @@ pub fn share_of<F: Facts>(
     ensures calls { ShareCalls F.made facts.old facts.new task.now moves.now number count result }
 {
     if task.depth <= WITHOUT_FACTS {
-        return part_of(alloc, task, moves, number, count, &mut Nowhere);
+        let nobody = OpenMoves::none(alloc);
+        return part_of(alloc, task, moves, number, count, &nobody, &mut Nowhere);
     }
-    part_of(alloc, task, moves, number, count, facts)
+    let work = part_of(alloc, task, moves, number, count, open, facts);
+    open.close_part(number, count);
+    work
 }
 
-/// Searches the root moves of a worker with a place that is asked whatever the depth.
+/// Searches the root moves of a worker with a place that is asked whatever the depth, and then helps others.
 fn part_of<F: Facts>(
     alloc: Global,
     task: &RoundTask,
     moves: &[Move],
     number: u32,
     count: u32,
+    open: &OpenMoves,
     facts: &mut F,
 ) -> Work
     requires ready { F.ready facts.old }
@@ -134,7 +142,9 @@ fn part_of<F: Facts>(
             work.refused = true;
             return work;
         };
+        open.close(index);
         index += count as usize;
     }
+    Helper::new(alloc, task, open, number, count).help(left, facts);
     work
 }

@@ -12,9 +12,9 @@ use crate::views::{Held, Said};
 use std::snapshot::Snapshot;
 use std::sync::Wait;
 
-// How often a pass looks at the word before it sleeps, some microseconds in all: most turns are over sooner, and to sleep and be woken takes
-// longer than several turns.
-const LOOKS: u32 = 5_000;
+// How often a pass looks at the word before it sleeps, some fifty microseconds in all: most turns are over sooner, and to sleep and
+// be woken takes longer than many turns.
+const LOOKS: u32 = 40_000;
 
 // Takes the slot where it is at home.
 fn take<V: Object>(

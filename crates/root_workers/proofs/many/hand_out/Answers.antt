@@ -5,7 +5,7 @@ use mir.Syntax.{ty_int, w32, named}
 use Rattle.std.proofs.Common.{[], ◌∷◌, rules}
 use Rattle.std.proofs.Crossing as std_crossing
 use Rattle.shard_table.proofs.Sending.{table_sync}
-use Rattle.root_workers.proofs.Crossing.{move_sync, task_sync, worker_send}
+use Rattle.root_workers.proofs.Crossing.{move_sync, task_sync, open_sync, worker_send}
 use Rattle.cha_moves.specs.contracts.chess_move.Move.{the_row as move_row}
 use Rattle.root_workers.proofs.many.hand_out.Goals as goal
 
@@ -28,7 +28,10 @@ for_each_mut-requires-sync-F g c κs within =
                 ((λ q. tt), task_sync.shared x.3.now x.3.ref_ptr.0 x.3.ref_ptr.1 _),
                 (
                   (shr_slice_sync (named 0) _ move_row move_sync).shared x.4 b o κ,
-                  (((λ q. tt), (λ vs. ((tt, tt), (λ q. cell_keyless q (raw (ty_int w32) ∷ []) vs x.5.ref_ptr.0 x.5.ref_ptr.1)))), tt),
+                  (
+                    ((λ q. tt), (λ vs. ((tt, tt), (λ q. cell_keyless q (raw (ty_int w32) ∷ []) vs x.5.ref_ptr.0 x.5.ref_ptr.1)))),
+                    (((λ q. tt), open_sync.shared x.6.now x.6.ref_ptr.0 x.6.ref_ptr.1 _), tt),
+                  ),
                 ),
               ),
             ),

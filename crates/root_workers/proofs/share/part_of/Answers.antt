@@ -67,7 +67,7 @@ loop-index-preserved g c =
 
 pub returns-clause-calls : goal.returns-clause-calls
 returns-clause-calls g c =
-    calls_done g.F.Facts.made c.args.facts.now c.loop-index.facts c.args.task.now c.args.moves.now c.args.number c.args.count c.loop-index.index c.loop-index.work c.loop-index.invariant.tried (let end = c.loop-index-test.false in omega arith)
+    calls_done g.F.Facts.made c.args.facts.now c.loop-index.facts c.help.new.facts c.args.task.now c.args.moves.now c.args.number c.args.count c.loop-index.index c.loop-index.work g.met.F.Facts.both_made c.loop-index.invariant.tried (let end = c.loop-index-test.false in omega arith) c.help.ensures.calls
 
 pub returns-clause-share : goal.returns-clause-share
 returns-clause-share g c =

@@ -8,4 +8,4 @@ returns-then-task-le-WITHOUT_FACTS-clause-calls g c = no_calls_made g.F.Facts.ma
 pub returns-clause-calls : goal.returns-clause-calls
 returns-clause-calls g c =
     let more = c.if-task-le-WITHOUT_FACTS.false in
-    deep_calls g.F.Facts.made c.args.facts.now c.part_of-2.new.facts c.args.task.now c.args.moves.now c.args.number c.args.count c.part_of-2.result c.part_of-2.ensures.calls (omega (arith, more))
+    deep_calls g.F.Facts.made c.args.facts.now c.part_of-work.new.facts c.args.task.now c.args.moves.now c.args.number c.args.count c.part_of-work.result c.part_of-work.ensures.calls (omega (arith, more))

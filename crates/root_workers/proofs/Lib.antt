@@ -7,6 +7,7 @@ pub mod Ending
 pub mod Crewing
 pub mod Working
 pub mod Crossing
+pub mod Places
 mod PassesTaken
 pub mod Partaking
 pub mod Refusing

@@ -70,13 +70,15 @@ impl<'a> Helper<'a> {
     }
 
     /// The position after one of the moves, and the number of the move, which is still to be searched: it leaves as many before
-    /// it to others as it can. `root_move` is the root move below which the position stands, if it is not the root.
+    /// it to others as it can. `root_move` is the root move below which the position stands, if it is not the root. The moves
+    /// before `from` are searched, and those that it finds behind them are so for the next time.
     fn next_open<F: Facts>(
         &self,
         position: &Position,
         moves: &[Move],
         depth: u8,
         root_move: Option<usize>,
+        from: &mut usize,
         facts: &mut F,
     ) -> Option<(usize, Position)>
         requires ready { F.ready facts.old }
@@ -87,9 +89,9 @@ impl<'a> Helper<'a> {
     {
         let mut found = None;
         let mut before: usize = 0;
-        for (index, m) in moves.iter().enumerate() {
+        for index in *from..moves.len() {
             if root_move.is_some() || self.open.is_open(index) {
-                let next = after(position, *m);
+                let next = after(position, moves[index]);
                 if !is_known(&next, self.task.winner, depth - 1, facts) {
                     found = Some((index, next));
                     if before == self.ahead {
@@ -97,6 +99,9 @@ impl<'a> Helper<'a> {
                     }
                     before += 1;
                 }
+            }
+            if before == 0 {
+                *from = index + 1;
             }
         }
         found
@@ -145,12 +150,14 @@ impl<'a> Helper<'a> {
             return 0;
         };
         let mut left = left;
+        let mut from: usize = 0;
         for _ in 0..moves.len() {
             if left == 0 || self.is_over(root_move) {
                 return left;
             }
-            let Some((index, next)) = self.next_open(position, &moves, depth, root_move, facts)
-            else {
+            let Some((index, next)) = self.next_open(
+                position, &moves, depth, root_move, &mut from, facts,
+            ) else {
                 break;
             };
             let below = Some(root_move.unwrap_or(index));

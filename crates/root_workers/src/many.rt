@@ -7,6 +7,7 @@ ghost use Rattle.shard_table.specs.Tables.{IsOfTable, IsFirstPass, splits_of};
 ghost use Rattle.root_workers.specs.Crews.{IsCrew, CrewMakes, WorkerDone};
 ghost use Rattle.root_workers.specs.Splits.{OnlySplits, AreFresh};
 
+use crate::each::each_mut;
 use crate::open_moves::OpenMoves;
 use crate::share::share_of;
 use crate::task::RoundTask;
@@ -18,7 +19,6 @@ use cha_moves::Move;
 use shard_table::{Table, TableFacts, TablePass};
 use std::alloc::Global;
 use std::sync::Wait;
-use std::thread;
 use std::thread::Threads;
 
 /// The workers of a crew with the table at which they take their turns. Each searches its root moves in a thread of its own.
@@ -120,10 +120,9 @@ pub(crate) fn hand_out<R: Threads + Wait + Sync>(
 {
     let count = crew.len() as u32;
     let open = OpenMoves::all(alloc, moves.len());
-    thread::for_each_mut(
+    each_mut(
         rt,
         crew,
-        16,
         &|_, worker: &mut Worker|
             requires { IsOfTable table.now worker.now.pass × (worker.now.number < count) × (count ≤ 16) × (moves.now ≡ legal_moves task.now.position) × (1 ≤ task.now.depth) × (task.now.depth ≤ 8) × (IsNone task.now.allowance → task.now.depth ≤ 3) }
             ensures { WorkerDone table.entry.now task.entry.now moves.entry.now count worker.entry.now worker.exit.now }

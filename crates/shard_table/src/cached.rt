@@ -39,26 +39,26 @@ pub(crate) fn store(cache: &mut LruCache<Key, Proved>, row: Proved) -> Result<St
     ensures refused { IfErr result (λ back. (back ≡ row) × (cache.new ≡ cache.old)) }
 {
     let key = row.key();
+    let rank = row.rank();
     // That there are no more rows than there may be.
     let _len = cache.len();
-    match cache.peek(&key) {
-        Some(old) => {
-            if row.rank() <= old.rank() {
-                cache.promote(&key);
-                return Ok(Stored::Kept);
+    match cache.push(key, row) {
+        Ok(None) => Ok(Stored::Added),
+        Ok(Some((last, old))) => {
+            if last != key {
+                return Ok(Stored::Evicted(last));
             }
-            let Ok(_) = cache.put(key, row) else {
+            if old.rank() < rank {
+                return Ok(Stored::Better);
+            }
+            let Ok(_) = cache.put(key, old) else {
                 unreachable!()
             };
-            Ok(Stored::Better)
+            Ok(Stored::Kept)
         }
-        None => match cache.push(key, row) {
-            Ok(None) => Ok(Stored::Added),
-            Ok(Some((last, _))) => Ok(Stored::Evicted(last)),
-            Err(failed) => {
-                let (_, row) = failed.value;
-                Err(row)
-            }
-        },
+        Err(failed) => {
+            let (_, row) = failed.value;
+            Err(row)
+        }
     }
 }

@@ -9,11 +9,11 @@ use Rattle.root_workers.proofs.Crossing.{move_sync, task_sync, open_sync, worker
 use Rattle.cha_moves.specs.contracts.chess_move.Move.{the_row as move_row}
 use Rattle.root_workers.proofs.many.hand_out.Goals as goal
 
-pub for_each_mut-requires-send-T : goal.for_each_mut-requires-send-T
-for_each_mut-requires-send-T g c κs within = search (sendable, worker_send) depth 10
+pub each_mut-requires-send-T : goal.each_mut-requires-send-T
+each_mut-requires-send-T g c κs within = search (sendable, worker_send) depth 10
 
-pub for_each_mut-requires-sync-F : goal.for_each_mut-requires-sync-F
-for_each_mut-requires-sync-F g c κs within =
+pub each_mut-requires-sync-F : goal.each_mut-requires-sync-F
+each_mut-requires-sync-F g c κs within =
     let h : IsSync (param 0 g.row.R) = c.type_bounds.sync-R in
     let r : IsSync g.row.R = given_sync 0 g.row.R h in
     record {
@@ -43,5 +43,5 @@ for_each_mut-requires-sync-F g c κs within =
 
 pub returns-clause-done : goal.returns-clause-done
 returns-clause-done g c = λ i d less.
-    let e = c.for_each_mut.ensures i d less in
+    let e = c.each_mut.ensures i d less in
     search rules

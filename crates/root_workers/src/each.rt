@@ -7,8 +7,8 @@ ghost use Rattle.std.specs.Fork.{AcceptsAt, ChangesAt, AcceptsEach, ChangesEach}
 use std::thread::{Threads, join_mut};
 
 /// Calls `f(i, &mut s[i])` at each place, each but the last in a thread of its own where one can be made. The caller makes
-/// them all, one after the other: some systems put a thread on the processor of the one that made it, and where a new thread
-/// makes the next, two that work come to stand on one processor.
+/// them all, one after the other: where new threads made others, four of them took longer on one of two machines that were
+/// measured, and as long on the other.
 pub(crate) fn each_mut<R: Threads + Sync, T: Send, F: Fn(usize, &mut T) + Sync>(
     rt: &R,
     s: &mut [T],

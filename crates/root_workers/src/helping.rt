@@ -71,7 +71,8 @@ impl<'a> Helper<'a> {
 
     /// The position after one of the moves, and the number of the move, which is still to be searched: it leaves as many before
     /// it to others as it can. `root_move` is the root move below which the position stands, if it is not the root. The moves
-    /// before `from` are searched, and those that it finds behind them are so for the next time.
+    /// before `from` are known or closed, and are not asked for again. It moves `from` on over those behind them that are so too,
+    /// up to the first that is open.
     fn next_open<F: Facts>(
         &self,
         position: &Position,

@@ -28,12 +28,12 @@ loop-preserved g t c =
 -- the calls up to the end of the loop
 pub returns-in-Some-root_move-clause-calls : goal.returns-in-Some-root_move-clause-calls
 returns-in-Some-root_move-clause-calls g t c =
-    made_more g.F.Facts.made g.met.F.Facts.both_made c.args.facts.now c.loop-test.facts c.at_once-in-Some-root_move.new.facts
+    made_more g.F.Facts.made g.met.F.Facts.both_made c.args.facts.now c.loop-test.facts c.at_once.new.facts
     (elim c.loop-test.branch [
       | else-loop-test w ↦ subst (MakesCalls g.F.Facts.made c.args.facts.now) (sym w.facts-is) c.loop.invariant.calls
       | then-loop-test+else-left-eq0+else-is_over+in_default-next_open w ↦ subst (MakesCalls g.F.Facts.made c.args.facts.now) (sym w.facts-is) (made_more g.F.Facts.made g.met.F.Facts.both_made c.args.facts.now c.loop.facts w.next_open.new.facts c.loop.invariant.calls w.next_open.ensures.calls)
     ])
-    c.at_once-in-Some-root_move.ensures.calls
+    c.at_once.ensures.calls
 
 pub returns-clause-calls : goal.returns-clause-calls
 returns-clause-calls g t c =

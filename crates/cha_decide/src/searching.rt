@@ -35,7 +35,14 @@ fn moves_of(alloc: Global, line: &Line) -> Result<Moves, NoMemory>
     }
 }
 
-/// The verdict on a side whose budget was spent: a last hunt by the flights of the king may yet find a mate.
+/// The last hunts, in their order: their guides, and which moves they follow.
+const LAST_HUNTS: [(Guide, Width); 3] = [
+    (Guide::Flights, Width::All),
+    (Guide::Balance, Width::All),
+    (Guide::Balance, Width::Telling),
+];
+
+/// The verdict on a side whose budget was spent: the last hunts may yet find a mate.
 fn hunted_last(
     alloc: Global,
     position: &Position,
@@ -48,17 +55,12 @@ fn hunted_last(
     requires expanded { HasExpanded position.now winner positions }
     ensures found { IfOk result (IsFound position.now winner limits.now) }
 {
-    match hunt(
-        alloc,
-        position,
-        winner,
-        limits.budget(),
-        Guide::Flights,
-        Width::All,
-    )? {
-        Some(moves) => Ok(Verdict::Winnable(moves)),
-        None => Ok(Verdict::Undecided { positions, depth }),
+    for (by, width) in LAST_HUNTS {
+        if let Some(moves) = hunt(alloc, position, winner, limits.budget(), by, width)? {
+            return Ok(Verdict::Winnable(moves));
+        }
     }
+    Ok(Verdict::Undecided { positions, depth })
 }
 
 /// The verdict of the exploration of a position on a side that has no mate within so many plies.

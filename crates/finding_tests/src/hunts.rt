@@ -49,6 +49,17 @@ const TO_A_CORNER: &[(&str, Color)] = &[
     ),
 ];
 
+/// The same, where of the guides the one that weighs all leads to a mate, and the others to none among so many positions.
+const BY_ALL: &[(&str, Color)] = &[
+    // bishops of one colour and a knight beside a bare king, and beside a bishop
+    ("5k2/8/1n6/4b1K1/8/2b5/8/2b5 w - -", Color::Black),
+    ("4k3/3b4/8/1n5b/4K3/7b/8/8 w - -", Color::Black),
+    ("K7/2p5/k7/8/3B1b2/3NB3/1B6/8 b - -", Color::White),
+    // bishops of one colour, which need a pawn that is promoted on the other wing
+    ("8/kB5B/6B1/1K6/7p/8/8/8 w - -", Color::White),
+    ("2B5/8/1k2B1p1/8/8/K2B4/8/8 b - -", Color::White),
+];
+
 /// Positions and a side that no series of legal moves mates for.
 const NOWHERE: &[(&str, Color)] = &[
     // stalemate
@@ -95,6 +106,7 @@ fn the_next_move_mates(rt: HostRuntime) {
     for (fen, winner) in NEXT {
         mates_next(&rt, rt.alloc(), fen, *winner, Guide::Corner);
         mates_next(&rt, rt.alloc(), fen, *winner, Guide::Flights);
+        mates_next(&rt, rt.alloc(), fen, *winner, Guide::Balance);
     }
 }
 
@@ -124,10 +136,16 @@ fn a_mate_further_away_is_found(rt: HostRuntime) {
     for (fen, winner) in FAR {
         finds(&rt, rt.alloc(), fen, *winner, 20_000, Guide::Corner, true);
         finds(&rt, rt.alloc(), fen, *winner, 20_000, Guide::Flights, true);
+        finds(&rt, rt.alloc(), fen, *winner, 20_000, Guide::Balance, true);
         finds(&rt, rt.alloc(), fen, *winner, 1, Guide::Corner, false);
     }
     for (fen, winner) in TO_A_CORNER {
         finds(&rt, rt.alloc(), fen, *winner, 1_000, Guide::Corner, true);
+    }
+    for (fen, winner) in BY_ALL {
+        finds(&rt, rt.alloc(), fen, *winner, 20_000, Guide::Corner, false);
+        finds(&rt, rt.alloc(), fen, *winner, 20_000, Guide::Flights, false);
+        finds(&rt, rt.alloc(), fen, *winner, 20_000, Guide::Balance, true);
     }
 }
 
@@ -136,5 +154,6 @@ fn where_no_mate_is_none_is_found(rt: HostRuntime) {
     for (fen, winner) in NOWHERE {
         finds(&rt, rt.alloc(), fen, *winner, 300, Guide::Corner, false);
         finds(&rt, rt.alloc(), fen, *winner, 300, Guide::Flights, false);
+        finds(&rt, rt.alloc(), fen, *winner, 300, Guide::Balance, false);
     }
 }

@@ -14,8 +14,9 @@ use search_guide::Guide;
 use std::alloc::Global;
 
 /// Looks for a mate for a side, led by a guide: of the positions that wait, one of the least number is expanded, and of these the
-/// one added last; at most `most` are expanded. A hunt of the width `Telling` and of more than one position looks for a mate within
-/// two plies before. A line that is found is cut where two plies mate.
+/// one added last; at most `most` are expanded. With `Guide::Balance` a number grows by one for every four plies that led to the
+/// position. A hunt of the width `Telling` and of more than one position looks for a mate within two plies before. A line that is
+/// found is cut where two plies mate.
 ///
 /// `None` says nothing but that there is no mate within one ply, and only where `most` is at least 1: a mate may be anywhere
 /// else. With 0 for `most`, only a mate on the board is found. The line that is answered was played move by move, so nothing of the

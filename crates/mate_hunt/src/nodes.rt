@@ -20,11 +20,12 @@ const GROWTH: usize = 4;
 /// An odd number whose bits are spread.
 const MULTIPLIER: u64 = 0x9e37_79b9_7f4a_7c15;
 
-/// Where a position came from: the number of its parent, and the move that led there.
+/// Where a position came from: the number of its parent, the move that led there, and how many plies did in all.
 #[derive(Clone, Copy)]
 pub struct Origin {
     pub parent: u32,
     pub by: Move,
+    pub plies: u32,
 }
 
 /// A position that was met, and the one that waits behind it in its list.
@@ -195,6 +196,14 @@ impl Nodes {
     /// Where the position with a number came from. `None` for the first one.
     pub fn origin(&self, name: u32) -> Option<Origin> {
         self.nodes.get(name as usize)?.origin
+    }
+
+    /// How many plies led to the position with a number.
+    pub fn plies(&self, name: u32) -> u32 {
+        match self.origin(name) {
+            None => 0,
+            Some(origin) => origin.plies,
+        }
     }
 
     /// The moves that led to a position.

@@ -35,6 +35,21 @@ fn is_hopeless(alloc: Global, position: &Position, winner: Color) -> Result<bool
     Ok(true)
 }
 
+/// After how many plies on the way to a position the guide that weighs all sets it back by one list: else a hunt would stay where it
+/// went deepest.
+const PLIES_BACK: u32 = 4;
+
+/// The last list but that of positions in which nothing is to be found.
+const LAST_LIST: u32 = 62;
+
+/// The list in which a position waits to which so many plies led, by its number.
+fn list_of(by: Guide, number: u8, plies: u32) -> u8 {
+    match by {
+        Guide::Corner | Guide::Flights => number,
+        Guide::Balance => LAST_LIST.min(u32::from(number) + plies / PLIES_BACK) as u8,
+    }
+}
+
 /// Lets the position after a move wait, unless it was met or the guide tells that the winner has nothing to mate with.
 #[inline(always)]
 fn add_after(
@@ -51,10 +66,12 @@ fn add_after(
     let Some(slot) = nodes.free_slot(&kept) else {
         return Ok(());
     };
-    let Some(list) = hopeful_guide(quest.by, &next, quest.winner) else {
+    let Some(number) = hopeful_guide(quest.by, &next, quest.winner) else {
         return Ok(());
     };
-    nodes.add(slot, kept, Some(Origin { parent, by }), list)
+    let plies = nodes.plies(parent).saturating_add(1);
+    let list = list_of(quest.by, number, plies);
+    nodes.add(slot, kept, Some(Origin { parent, by, plies }), list)
 }
 
 /// Lets the positions wait that the followed moves of a position reach.
@@ -75,14 +92,14 @@ fn expand(
     Ok(())
 }
 
-/// A line to a mate, if one is met: of the positions that wait, one of the least number is expanded, of these the one added last. The
+/// A line to a mate, if one is met: of the positions that wait, one in the first list is expanded, of these the one added last. The
 /// line is cut where two plies are seen to mate. The first position is not asked for a move that mates: it has none.
 pub fn search(
     alloc: Global,
     position: &Position,
     quest: &Quest,
 ) -> Result<Option<Vec<Move>>, NoMemory> {
-    // The other guide tells by itself.
+    // The other guides tell by themselves.
     if quest.by == Guide::Flights && is_hopeless(alloc, position, quest.winner)? {
         return Ok(None);
     }

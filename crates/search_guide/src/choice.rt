@@ -7,4 +7,6 @@ pub enum Guide {
     Corner,
     /// It takes squares away from the loser's king.
     Flights,
+    /// It does both at once.
+    Balance,
 }

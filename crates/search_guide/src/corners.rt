@@ -12,7 +12,7 @@ use cha_board::{Color, Kind, Square, SquareSet, aims_alone, steps_between};
 const WELL_PLACED: u8 = 2;
 
 /// What it counts that no man of the loser can stand beside the corner.
-const NO_BLOCKER: u32 = 24;
+pub const NO_BLOCKER: u32 = 24;
 
 /// What a pawn counts that has to be promoted first, beside its ranks to promotion.
 const TO_PROMOTE: u32 = 2;
@@ -24,7 +24,7 @@ pub const FARTHEST: u32 = 62;
 const LAST: u8 = 7;
 
 /// The corners in which the winner may mate: all four, but where it has bishops of one colour alone, those of their colour.
-fn corners(own: &Army) -> SquareSet {
+pub fn corners(own: &Army) -> SquareSet {
     let all = SquareSet::from_bits(0x8100_0000_0000_0081);
     match own.bishops_color() {
         None => all,
@@ -33,7 +33,7 @@ fn corners(own: &Army) -> SquareSet {
 }
 
 /// How far the winner's knights are from where they stand well, all together.
-fn knights_away(knights: SquareSet, corner: Square) -> u32
+pub fn knights_away(knights: SquareSet, corner: Square) -> u32
     ensures { result ≤ FARTHEST }
 {
     let mut away = 0;
@@ -44,9 +44,17 @@ fn knights_away(knights: SquareSet, corner: Square) -> u32
     away
 }
 
-/// The loser's men that can come to squares of a colour as they are, where the winner has a lone minor piece. Against bishops a rook
-/// would end the check.
-fn blockers(own: &Army, other: &Army, color: SquareSet) -> SquareSet {
+/// The two squares beside a corner along its rank and its file. Both have the colour that the corner has not, so the men that come to
+/// one come to the other.
+pub fn beside(corner: Square) -> SquareSet {
+    let steps = aims_alone(Color::White, Kind::King, corner);
+    steps.common(aims_alone(Color::White, Kind::Rook, corner))
+}
+
+/// The loser's men that can come to the squares beside a corner as they are, where the winner has a lone minor piece. Against bishops
+/// a rook would end the check.
+pub fn blockers(own: &Army, other: &Army, corner: Square) -> SquareSet {
+    let color = SquareSet::from_bits(u64::MAX).minus(color_of(corner));
     let men = other.knights.joined(other.bishops.common(color));
     if own.bishops.is_empty() {
         men.joined(other.rooks)
@@ -68,19 +76,13 @@ fn pawn_away(other: &Army, to: SquareSet) -> u32
     }
 }
 
-/// How far the loser's men are from blocking one of the two squares beside a corner along its rank and its file.
-// Both squares have the colour that the corner has not, so the men that come to one come to the other.
+/// How far the loser's men are from blocking one of the two squares beside a corner.
 fn least_blocker(own: &Army, other: &Army, corner: Square) -> u32
     ensures { result ≤ NO_BLOCKER }
 {
-    let beside = aims_alone(Color::White, Kind::King, corner).common(aims_alone(
-        Color::White,
-        Kind::Rook,
-        corner,
-    ));
-    let color = SquareSet::from_bits(u64::MAX).minus(color_of(corner));
+    let beside = beside(corner);
     let by_pawn = pawn_away(other, beside);
-    match steps_to_nearest(beside, blockers(own, other, color)) {
+    match steps_to_nearest(beside, blockers(own, other, corner)) {
         None => by_pawn,
         Some(steps) => by_pawn.min(u32::from(steps)),
     }

@@ -19,7 +19,7 @@ const RANK: u32 = 2;
 const MOST: u32 = 63;
 
 /// The squares next to the loser's king that hold no man of the loser and that the winner does not attack.
-fn flights(position: &Position, winner: Color) -> SquareSet {
+pub fn flights(position: &Position, winner: Color) -> SquareSet {
     let loser = winner.other();
     let around = aims_alone(loser, Kind::King, position.king(loser));
     let mut flights = around.minus(position.placement().of_side(loser));

@@ -4,7 +4,8 @@
     tools/second/made.py SEED COUNT [FAMILY..]
 
 Families are `walls` and `chains` of locked pawns with a few men, `few` men, `lone` minor pieces against several, and many `promoted`
-men; by default all of them in turn. Some of what is made is no valid position: `cha position` refuses it, and goes on.
+men; by default all of these in turn. `bishops` of one colour, with a knight or without, against up to three men come only by name. Some of
+what is made is no valid position: `cha position` refuses it, and goes on.
 
     tools/second/made.py sides REPORT
 
@@ -26,10 +27,10 @@ def fen(men, side):
     return f"{'/'.join(rows)} {side} - -"
 
 
-def put(men, man):
-    """Puts a man on some empty square on which it may stand."""
+def put(men, man, color=None):
+    """Puts a man on some empty square on which it may stand, of a colour if one is given: 0 for dark ones, 1 for light ones."""
     free = [at for at in (INSIDE if man in "Pp" else range(64)) if at not in men]
-    men[random.choice(free)] = man
+    men[random.choice([at for at in free if color in (None, (at + at // 8) % 2)])] = man
 
 
 def put_kings(men):
@@ -84,7 +85,20 @@ def promoted():
     return some("QqNnBbRrQqNnBbPp", 4, 14)
 
 
+def bishops():
+    men = put_kings({})
+    color = random.randint(0, 1)
+    for _ in range(random.randint(1, 4)):
+        put(men, "B", color)
+    if random.random() < 0.5:
+        put(men, "N")
+    for _ in range(random.randint(0, 3)):
+        put(men, random.choice("pppqrbn"))
+    return men
+
+
 FAMILIES = {"walls": walls, "chains": chains, "few": few, "lone": lone, "promoted": promoted}
+BY_NAME = {**FAMILIES, "bishops": bishops}
 
 
 def sides(report):
@@ -98,9 +112,9 @@ def main(words):
     if len(words) == 2 and words[0] == "sides":
         with open(words[1], encoding="ascii") as report:
             print(*sides(report.read()), sep="\n")
-    elif len(words) >= 2 and set(words[2:]) <= set(FAMILIES):
+    elif len(words) >= 2 and set(words[2:]) <= set(BY_NAME):
         random.seed(int(words[0]))
-        families = [FAMILIES[name] for name in words[2:] or FAMILIES]
+        families = [BY_NAME[name] for name in words[2:] or FAMILIES]
         for number in range(int(words[1])):
             print(fen(families[number % len(families)](), random.choice("wb")))
     else:

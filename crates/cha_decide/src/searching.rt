@@ -36,8 +36,9 @@ fn moves_of(alloc: Global, line: &Line) -> Result<Moves, NoMemory>
 }
 
 /// The last hunts, in their order: their guides, and which moves they follow.
-const LAST_HUNTS: [(Guide, Width); 3] = [
+const LAST_HUNTS: [(Guide, Width); 4] = [
     (Guide::Flights, Width::All),
+    (Guide::Balance, Width::Broad),
     (Guide::Balance, Width::All),
     (Guide::Balance, Width::Telling),
 ];

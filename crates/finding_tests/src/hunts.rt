@@ -157,3 +157,30 @@ fn where_no_mate_is_none_is_found(rt: HostRuntime) {
         finds(&rt, rt.alloc(), fen, *winner, 300, Guide::Balance, false);
     }
 }
+
+/// Positions in which White mates, and in which the hunts by the guide that weighs all find that among so many positions only where
+/// they leave out most moves.
+const BROAD: &[&str] = &[
+    "8/3K4/B7/3B4/2p5/8/1p1k2B1/5B2 w - -",
+    "4B3/1B2KB2/B2pp3/3k4/8/8/8/8 b - -",
+];
+
+#[test]
+fn moves_are_left_out_to_look_further(rt: HostRuntime) {
+    let alloc = rt.alloc();
+    for fen in BROAD {
+        let position = place(&rt, fen);
+        for (width, want) in [(Width::All, false), (Width::Broad, true)] {
+            let found = hunt(
+                alloc,
+                &position,
+                Color::White,
+                20_000,
+                Guide::Balance,
+                width,
+            );
+            let line = found.expect(&rt, "memory");
+            assert!(rt; line.is_some() == want, "{fen} {width:?}");
+        }
+    }
+}

@@ -10,10 +10,15 @@ pub enum Width {
     All,
     /// Those that tell most: of kings and pawns, captures, and two others from each position.
     Telling,
+    /// The same, with nine others.
+    Broad,
 }
 
-/// How many other moves a hunt follows that follows those that tell most.
-const OTHERS: u8 = 2;
+/// How many other moves a hunt of the width `Telling` follows.
+const FEW_OTHERS: u8 = 2;
+
+/// How many a hunt of the width `Broad` follows.
+const MORE_OTHERS: u8 = 9;
 
 /// A choice of the moves of one position: all that leave or enter some squares, and the first few others.
 #[derive(Clone, Copy)]
@@ -33,20 +38,24 @@ impl Choice {
         }
     }
 
+    /// Moves of kings and pawns, captures, and so many others.
+    fn telling(position: &Position, others: u8) -> Choice {
+        let men = position.placement();
+        Choice {
+            leave: men
+                .all_of_kind(Kind::King)
+                .joined(men.all_of_kind(Kind::Pawn)),
+            enter: position.occupied(),
+            others,
+        }
+    }
+
     /// The moves that a hunt follows.
     pub fn of_width(width: Width, position: &Position) -> Choice {
         match width {
             Width::All => Choice::all(),
-            Width::Telling => {
-                let men = position.placement();
-                Choice {
-                    leave: men
-                        .all_of_kind(Kind::King)
-                        .joined(men.all_of_kind(Kind::Pawn)),
-                    enter: position.occupied(),
-                    others: OTHERS,
-                }
-            }
+            Width::Telling => Choice::telling(position, FEW_OTHERS),
+            Width::Broad => Choice::telling(position, MORE_OTHERS),
         }
     }
 

@@ -15,8 +15,8 @@ use std::alloc::Global;
 
 /// Looks for a mate for a side, led by a guide: of the positions that wait, one of the least number is expanded, and of these the
 /// one added last; at most `most` are expanded. With `Guide::Balance` a number grows by one for every four plies that led to the
-/// position. A hunt of the width `Telling` and of more than one position looks for a mate within two plies before. A line that is
-/// found is cut where two plies mate.
+/// position. A hunt of more than one position that leaves out moves looks for a mate within two plies before. A line that is found is
+/// cut where two plies mate.
 ///
 /// `None` says nothing but that there is no mate within one ply, and only where `most` is at least 1: a mate may be anywhere
 /// else. With 0 for `most`, only a mate on the board is found. The line that is answered was played move by move, so nothing of the
@@ -67,8 +67,8 @@ fn mate_in_one(position: &Position, winner: Color) -> Option<Move>
     mating_move(position, winner)
 }
 
-/// The line of a search, which needs more than one position. One that follows few moves comes first, and looks for a line of two
-/// plies before, of which it follows all.
+/// The line of a search, which needs more than one position. One that leaves out moves looks for a line of two plies before, of which
+/// it follows all.
 fn sought(
     alloc: Global,
     position: &Position,
@@ -79,7 +79,13 @@ fn sought(
     }
     let two = match quest.width {
         Width::All => None,
-        Width::Telling => two_plies(alloc, position, quest.winner, Choice::all(), None)?,
+        Width::Telling | Width::Broad => two_plies(
+            alloc,
+            position,
+            quest.winner,
+            Choice::all(),
+            None,
+        )?,
     };
     match two {
         None => search(alloc, position, quest),
